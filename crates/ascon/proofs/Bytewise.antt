@@ -1,0 +1,71 @@
+-- The laws of a text taken byte by byte: it may be cut anywhere, and opening undoes sealing. Assumes nothing.
+use mathlib.Core.Path.{_≡_, refl, ap, ap₂, _∙_}
+use mathlib.Core.Bool.{Bool, true, false, cond}
+use mathlib.Core.List.{List, [], _∷_, _++_}
+use Prim.Native.Nat.{ℕ, zero, suc, _+_, _^_, _<_}
+use native.Mathlib.Omega.{arith}
+use lib.Bits.{xor-lt}
+use lib.Dec.{eqb}
+use lib.ListN.{length, getD, set, length-set}
+use borrow.Author.Tests.{eqb-false}
+use Rattle.permutation.specs.Strings.{Bytes}
+use Rattle.permutation.proofs.Strings.{bytes-cons, bytes-tail, bytes-set}
+use Rattle.ascon.specs.Bytewise.{At, at, gone, sealing, opening, closed, turned, step, steps, outs}
+use Rattle.ascon.proofs.Strings.{xor-cancel}
+
+module _ (r : ℕ) (pᵇ : List ℕ → List ℕ) where
+  module _ (keep : ℕ → ℕ → ℕ) where
+    -- ---- a text may be cut anywhere
+
+    pub steps-append : (a : At) (m n : List ℕ) → steps r pᵇ keep a (m ++ n) ≡ steps r pᵇ keep (steps r pᵇ keep a m) n
+    steps-append a [] n = refl
+    steps-append a (b ∷ m) n = steps-append (step r pᵇ keep a b) m n
+
+    pub outs-append : (a : At) (m n : List ℕ) → outs r pᵇ keep a (m ++ n) ≡ outs r pᵇ keep a m ++ outs r pᵇ keep (steps r pᵇ keep a m) n
+    outs-append a [] n = refl
+    outs-append a (b ∷ m) n = ap (λ (t : List ℕ). gone a b ∷ t) (outs-append (step r pᵇ keep a b) m n)
+
+    -- what goes out is as long as what comes
+    pub length-outs : (a : At) (m : List ℕ) → length (outs r pᵇ keep a m) ≡ length m
+    length-outs a [] = refl
+    length-outs a (b ∷ m) = ap suc (length-outs (step r pᵇ keep a b) m)
+
+  -- ---- bytes stay bytes, if a run gives bytes and the direction keeps one
+
+  module _ (run-bytes : (S : List ℕ) → Bytes (pᵇ S)) (keep : ℕ → ℕ → ℕ) (keep-byte : (c g : ℕ) → c < 2 ^ 8 → g < 2 ^ 8 → keep c g < 2 ^ 8) where
+    step-bytes : (a : At) (b : ℕ) → Bytes (a .state) → b < 2 ^ 8 → Bytes (step r pᵇ keep a b .state)
+    step-bytes a b h l = go (eqb (a .place + 1) r)
+      where
+        S : List ℕ
+        S = set (a .state) (a .place) (keep b (gone a b))
+
+        go : (t : Bool) → Bytes (cond t (at (pᵇ S) 0) (at S (a .place + 1)) .state)
+        go true = run-bytes S
+        go false = bytes-set (a .state) (a .place) _ h (keep-byte b (gone a b) l (xor-lt 8 _ b (h .at (a .place)) l))
+
+    pub bytes-outs : (a : At) (m : List ℕ) → Bytes (a .state) → Bytes m → Bytes (outs r pᵇ keep a m)
+    bytes-outs a [] h k = k
+    bytes-outs a (b ∷ m) h k =
+        bytes-cons (xor-lt 8 _ b (h .at (a .place)) (k .at 0)) (bytes-outs (step r pᵇ keep a b) m (step-bytes a b h (k .at 0)) (bytes-tail k))
+
+  -- ---- opening undoes sealing, and sealing opening; both reach one state
+
+  pub open-outs : (a : At) (m : List ℕ) → outs r pᵇ opening a (outs r pᵇ sealing a m) ≡ m
+  open-outs a [] = refl
+  open-outs a (b ∷ m) =
+      ap₂ (λ (x : ℕ) (t : List ℕ). x ∷ t) (xor-cancel (getD (a .state) (a .place) 0) b) (open-outs (step r pᵇ sealing a b) m)
+
+  pub open-steps : (a : At) (m : List ℕ) → steps r pᵇ opening a (outs r pᵇ sealing a m) ≡ steps r pᵇ sealing a m
+  open-steps a [] = refl
+  open-steps a (b ∷ m) = open-steps (step r pᵇ sealing a b) m
+
+  pub seal-outs : (a : At) (c : List ℕ) → outs r pᵇ sealing a (outs r pᵇ opening a c) ≡ c
+  seal-outs a [] = refl
+  seal-outs a (b ∷ c) = rw (xor-cancel (getD (a .state) (a .place) 0) b) (ap (λ (t : List ℕ). b ∷ t) (seal-outs (step r pᵇ opening a b) c))
+
+  pub seal-steps : (a : At) (c : List ℕ) → steps r pᵇ sealing a (outs r pᵇ opening a c) ≡ steps r pᵇ opening a c
+  seal-steps a [] = refl
+  seal-steps a (b ∷ c) =
+      ap (λ (x : ℕ). steps r pᵇ sealing (turned r pᵇ (set (a .state) (a .place) x) (a .place + 1)) (outs r pᵇ opening (step r pᵇ opening a b) c))
+      (xor-cancel (getD (a .state) (a .place) 0) b)
+      ∙ seal-steps (step r pᵇ opening a b) c
