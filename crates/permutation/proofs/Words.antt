@@ -2,11 +2,11 @@
 use mathlib.Core.Path.{_≡_, sym, ap, _∙_}
 use mathlib.Core.List.{List, [], _∷_}
 use Prim.Native.Nat.{ℕ, zero, suc, _+_, _-_, _*_, _/_, _%_, _^_, _≤_, _<_}
-use native.Mathlib.Nat.{mod-lt}
+use native.Mathlib.Nat.{mod-lt, not-suc-le-zero}
 use native.Mathlib.Omega.{arith}
 use lib.Arith.{digits-lt}
 use lib.Dec.{lit<, lit≤}
-use lib.ListN.{getD, drop}
+use lib.ListN.{length, getD}
 use lib.Pow.{pow-add, pow-pos, shr-lt}
 use lib.Bits.{xor-lt}
 use Rattle.permutation.specs.declared.State.{State}
@@ -66,14 +66,25 @@ round-words c s =
     }
 
 -- rounds keep words
-rounds-words : (cs : List ℕ) (s : State) → Words s → Words (rounds cs s)
+rounds-keep : (cs : List ℕ) (s : State) → Words s → Words (rounds cs s)
 unfolding rounds
-rounds-words [] s h = h
-rounds-words (c ∷ cs) s h = rounds-words cs (round c s) (round-words c s)
+rounds-keep [] s h = h
+rounds-keep (c ∷ cs) s h = rounds-keep cs (round c s) (round-words c s)
+
+-- a round or more gives words
+rounds-words : (cs : List ℕ) (s : State) → 0 < length cs → Words (rounds cs s)
+unfolding rounds
+rounds-words [] s h = absurd (not-suc-le-zero h)
+rounds-words (c ∷ cs) s h = rounds-keep cs (round c s) (round-words c s)
+
+-- no run is empty
+some-rounds : (run : Run) → 0 < length (constantsOf run)
+unfolding constantsOf constants
+some-rounds Twelve = lit< tt
+some-rounds FirstEight = lit< tt
+some-rounds FirstSix = lit< tt
 
 -- a run gives words, whatever it starts from
 pub permute-words : (run : Run) (s : State) → Words (permute run s)
-unfolding permute constantsOf constants rounds
-permute-words Twelve s = rounds-words (drop 1 (constantsOf Twelve)) (round 0xf0 s) (round-words 0xf0 s)
-permute-words FirstEight s = rounds-words (drop 1 (constantsOf FirstEight)) (round 0xf0 s) (round-words 0xf0 s)
-permute-words FirstSix s = rounds-words (drop 1 (constantsOf FirstSix)) (round 0xf0 s) (round-words 0xf0 s)
+unfolding permute
+permute-words run s = rounds-words (constantsOf run) s (some-rounds run)

@@ -3,7 +3,7 @@ ghost use mathlib.Core.Path.{_≡_};
 ghost use Prim.Native.Nat.{_≤_};
 ghost use lib.Seq.{slice};
 ghost use Rattle.permutation.specs.Round.{substitute, diffuse, round};
-ghost use Rattle.permutation.specs.Runs.{constants, rounds, permute};
+ghost use Rattle.permutation.specs.Runs.{constants, rounds, permute, permuteWords};
 
 // The five words of the state.
 pub struct State {
@@ -94,4 +94,19 @@ pub fn permuted(s: State, run: Run) -> State
         Run::FirstEight => ran(s, 0, 8),
         Run::FirstSix => ran(s, 0, 6),
     }
+}
+
+// Runs on five words where they lie.
+pub fn permute_words(w: &mut [u64; 5], run: Run)
+    ensures { λ _. ⌜ now (w .exit) ≡ permuteWords run (now (w .entry)) ⌝ }
+{
+    let s = State {
+        x0: w[0],
+        x1: w[1],
+        x2: w[2],
+        x3: w[3],
+        x4: w[4],
+    };
+    let t = permuted(s, run);
+    *w = [t.x0, t.x1, t.x2, t.x3, t.x4];
 }

@@ -1,0 +1,86 @@
+//! Judging records against our own sealing, and the report on them.
+
+use crate::calls::seal;
+use crate::record::{first_broken_line, read, Record};
+
+/// What the bench says of one record.
+#[derive(Clone, Copy, Debug, PartialEq, Eq)]
+pub enum Verdict {
+    /// Rounds, cipher and tag are ours.
+    Equal,
+    /// The named field is the first that isn't ours.
+    Differs(&'static str),
+    /// The record breaks its form, first in this line.
+    Unread(u64),
+}
+
+/// Gives the rest of `found` from the first place where both have a byte and the bytes differ.
+pub fn tail<'a>(wanted: &[u8], found: &'a [u8]) -> &'a [u8] {
+    for (place, (ours, theirs)) in wanted.iter().zip(found).enumerate() {
+        if ours != theirs {
+            return &found[place..];
+        }
+    }
+    &found[found.len()..]
+}
+
+/// Gives the verdict on a record; one that has no right form counts as unread.
+pub fn verdict(record: &Record) -> Verdict {
+    if let Some(line) = first_broken_line(record) {
+        return Verdict::Unread(line);
+    }
+    let text = record.text.held();
+    let mut cipher = vec![0; text.len()];
+    let mut tag = vec![0; record.tag.len];
+    let answer = seal(
+        record.set,
+        record.key.held(),
+        record.nonce.held(),
+        record.ad.held(),
+        text,
+        &mut cipher,
+        &mut tag,
+    );
+    assert_eq!(answer.number, 0, "a record of right form can be sealed");
+    if answer.rounds != record.rounds {
+        return Verdict::Differs("rounds");
+    }
+    if !tail(&cipher, record.cipher.held()).is_empty() {
+        return Verdict::Differs("cipher");
+    }
+    if !tail(&tag, record.tag.held()).is_empty() {
+        return Verdict::Differs("tag");
+    }
+    Verdict::Equal
+}
+
+/// Gives the three report lines on the record with the given number.
+pub fn report(number: u64, verdict: Verdict) -> String {
+    let (word, field) = match verdict {
+        Verdict::Equal => ("equal", "none".to_string()),
+        Verdict::Differs(field) => ("differs", field.to_string()),
+        Verdict::Unread(line) => ("unread", line.to_string()),
+    };
+    format!("record={number}\nverdict={word}\nfield={field}\n")
+}
+
+/// Gives the whole output of the program for the given input.
+pub fn judge_all(input: &[u8]) -> Vec<u8> {
+    let mut output = String::new();
+    let mut place = 0;
+    let mut number = 1;
+    while place < input.len() {
+        match read(&input[place..]) {
+            Ok((record, taken)) => {
+                output += &report(number, verdict(&record));
+                place += taken;
+                number += 1;
+            }
+            Err(line) => {
+                output += &report(number, Verdict::Unread(line));
+                break;
+            }
+        }
+    }
+    output.into_bytes()
+}

@@ -1,0 +1,30 @@
+//! Right bench records of pseudo-random messages.
+
+use crate::cipher::SETS;
+use crate::make::right_record;
+use crate::random::Random;
+use crate::record::Record;
+
+/// The most bytes of associated data or text in a record.
+const MOST: usize = 256;
+
+/// Gives a length from 0 to 256, three times of four at a block edge or one byte beside it.
+pub fn length(random: &mut Random, block: usize) -> usize {
+    if random.below(4) == 0 {
+        return random.below(MOST + 1);
+    }
+    let edge = random.below(MOST / block + 1) * block;
+    (edge + random.below(3)).saturating_sub(1).min(MOST)
+}
+
+/// Gives the right record of the next pseudo-random message; the sets take turns by `index`.
+pub fn record(random: &mut Random, index: u64) -> Record {
+    let set = &SETS[(index % 2) as usize];
+    let key = random.bytes(set.key);
+    let nonce = random.bytes(set.key);
+    let ad_length = length(random, set.block);
+    let ad = random.bytes(ad_length);
+    let text_length = length(random, set.block);
+    let text = random.bytes(text_length);
+    right_record(set.number, &key, &nonce, &ad, &text).expect("the message has a right form")
+}

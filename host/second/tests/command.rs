@@ -1,0 +1,234 @@
+//! The program itself: each command, bad command lines, failed reads and writes.
+
+use second::judge::judge_all;
+use std::fs::File;
+use std::io::Write;
+use std::process::{Command, Output, Stdio};
+
+/// Gives what the program does with the given arguments and input.
+fn run(arguments: &[&str], input: &[u8]) -> Output {
+    let mut child = Command::new(env!("CARGO_BIN_EXE_second"))
+        .args(arguments)
+        .stdin(Stdio::piped())
+        .stdout(Stdio::piped())
+        .stderr(Stdio::piped())
+        .spawn()
+        .expect("the program starts");
+    let mut pipe = child.stdin.take().expect("a pipe");
+    let input = input.to_vec();
+    // A program that doesn't read its input closes the pipe, which is no fault here.
+    let feeder = std::thread::spawn(move || pipe.write_all(&input).is_ok());
+    let output = child.wait_with_output().expect("the program ends");
+    feeder.join().expect("the input was fed");
+    output
+}
+
+/// Gives the standard output of a run that must be done.
+fn done(arguments: &[&str], input: &[u8]) -> String {
+    let output = run(arguments, input);
+    assert_eq!(output.status.code(), Some(0), "{arguments:?}");
+    assert!(output.stderr.is_empty());
+    String::from_utf8(output.stdout).expect("plain text")
+}
+
+/// Says that made records are right, the same for the same seed, and of both sets.
+#[test]
+fn vectors_and_judge() {
+    let records = done(&["vectors", "500", "42"], b"");
+    assert_eq!(records, done(&["vectors", "500", "42"], b""));
+    assert_ne!(records, done(&["vectors", "500", "43"], b""));
+    assert_eq!(records.matches("set=1\n").count(), 250);
+    assert_eq!(records.matches("set=2\n").count(), 250);
+    assert_eq!(records.lines().count(), 500 * 8);
+    let report = done(&["judge"], records.as_bytes());
+    assert_eq!(report.as_bytes(), judge_all(records.as_bytes()));
+    assert_eq!(report.matches("verdict=equal\nfield=none\n").count(), 500);
+    assert_eq!(report.lines().count(), 1_500);
+    assert_eq!(done(&["vectors", "0", "1"], b""), "");
+    assert_eq!(done(&["judge"], b""), "");
+}
+
+/// Says that the printed case of the rules comes out through the program.
+#[test]
+fn the_printed_case() {
+    let zeros = "00".repeat(16);
+    let input =
+        format!("set=1\nkey={zeros}\nnonce={zeros}\nad=\ntext=\ncipher=\ntag={zeros}\nrounds=25\n");
+    let report = done(&["judge"], input.as_bytes());
+    assert_eq!(report, "record=1\nverdict=differs\nfield=rounds\n");
+    let report = done(&["judge"], b"set=1\nkey");
+    assert_eq!(report, "record=1\nverdict=unread\nfield=2\n");
+}
+
+/// Gives the value of a line of the given label in the text.
+fn value<'a>(text: &'a str, label: &str) -> &'a str {
+    let mut lines = text.lines().filter_map(|line| line.strip_prefix(label));
+    lines.next().expect("the line is there")
+}
+
+/// Says that a sealed record is equal when judged and opens to its text, unless damaged.
+#[test]
+fn seal_then_open() {
+    let mut ran = 0;
+    for (set, length) in [("1", 16), ("2", 12)] {
+        for (ad, text) in [
+            ("", ""),
+            ("00ff", ""),
+            ("", "616263"),
+            ("0123456789abcdef", "ee"),
+        ] {
+            let key = "5a".repeat(length);
+            let nonce = "c3".repeat(length);
+            let record = done(&["seal", set, &key, &nonce, ad, text], b"");
+            let report = done(&["judge"], record.as_bytes());
+            assert_eq!(report, "record=1\nverdict=equal\nfield=none\n");
+            let (cipher, tag) = (value(&record, "cipher="), value(&record, "tag="));
+            let rounds = value(&record, "rounds=");
+            let opened = done(&["open", set, &key, &nonce, ad, cipher, tag], b"");
+            assert_eq!(opened, format!("answer=0\nrounds={rounds}\ntext={text}\n"));
+            let other = "00".repeat(length);
+            let refused = done(&["open", set, &key, &nonce, ad, cipher, &other], b"");
+            assert_eq!(refused, format!("answer=9\nrounds={rounds}\ntext=\n"));
+            ran += 1;
+        }
+    }
+    assert_eq!(ran, 8);
+    let refused = done(&["open", "3", "", "", "", "", ""], b"");
+    assert_eq!(refused, "answer=1\nrounds=0\ntext=\n");
+    let refused = done(&["open", "1", "00", "", "", "", ""], b"");
+    assert_eq!(refused, "answer=2\nrounds=0\ntext=\n");
+}
+
+/// Says that the rounds command prints the counted rounds.
+#[test]
+fn rounds() {
+    let cases = [
+        (["1", "0", "0"], "24\n"),
+        (["1", "7", "7"], "30\n"),
+        (["1", "8", "0"], "36\n"),
+        (["1", "1", "8"], "36\n"),
+        (["2", "16", "15"], "40\n"),
+        (["1", "65536", "1048576"], "835614\n"),
+    ];
+    let mut ran = 0;
+    for ([set, ad, text], wanted) in cases {
+        assert_eq!(done(&["rounds", set, ad, text], b""), wanted);
+        ran += 1;
+    }
+    assert_eq!(ran, 6);
+}
+
+/// Says that a bad command line prints usage on standard error only, with status 2.
+#[test]
+fn bad_command_lines() {
+    let key = "00".repeat(16);
+    let cases: [&[&str]; 18] = [
+        &[],
+        &["help"],
+        &["judge", "more"],
+        &["Judge"],
+        &["seal"],
+        &["seal", "1", &key, &key, ""],
+        &["seal", "1", &key, &key, "", "", ""],
+        &["seal", "one", &key, &key, "", ""],
+        &["seal", "1", &key, &key, "0", ""],
+        &["seal", "1", &key, &key, "", "AB"],
+        &["seal", "1", &key, &key, "", "0g"],
+        &["open", "1", &key, &key, "", ""],
+        &["vectors", "5"],
+        &["vectors", "-5", "1"],
+        &["vectors", "", "1"],
+        &["rounds", "1", "0"],
+        &["rounds", "1", "+1", "0"],
+        &["rounds", "1", "0", "99999999999999999999"],
+    ];
+    let mut ran = 0;
+    for arguments in cases {
+        let output = run(arguments, b"");
+        assert_eq!(output.status.code(), Some(2), "{arguments:?}");
+        assert!(output.stdout.is_empty());
+        assert!(output.stderr.starts_with(b"usage:"));
+        ran += 1;
+    }
+    assert_eq!(ran, 18);
+}
+
+/// Says that refused messages are said on standard error with status 1.
+#[test]
+fn refused_messages() {
+    let key = "00".repeat(16);
+    let long = "00".repeat(257);
+    let cases: [(&[&str], &str); 8] = [
+        (&["seal", "3", &key, &key, "", ""], "refused with answer 1"),
+        (&["seal", "2", &key, &key, "", ""], "refused with answer 2"),
+        (&["seal", "1", &key, "00", "", ""], "refused with answer 3"),
+        (&["seal", "1", &key, &key, &long, ""], "too long for line 4"),
+        (&["seal", "1", &key, &key, "", &long], "too long for line 5"),
+        (&["rounds", "0", "0", "0"], "refused with answer 1"),
+        (&["rounds", "1", "65537", "0"], "refused with answer 5"),
+        (
+            &["rounds", "2", "0", "18446744073709551615"],
+            "refused with answer 5",
+        ),
+    ];
+    let mut ran = 0;
+    for (arguments, words) in cases {
+        let output = run(arguments, b"");
+        assert_eq!(output.status.code(), Some(1), "{arguments:?}");
+        assert!(output.stdout.is_empty());
+        assert!(String::from_utf8_lossy(&output.stderr).contains(words));
+        ran += 1;
+    }
+    assert_eq!(ran, 8);
+}
+
+/// Gives an empty file that can be written but not read.
+fn write_only() -> File {
+    let path = std::path::Path::new(env!("CARGO_TARGET_TMPDIR")).join("write-only");
+    File::create(path).expect("a file for the test")
+}
+
+/// Says that a failed read is said with a nonzero status and isn't the end of the input.
+#[test]
+fn failed_reads() {
+    let folder = File::open(".").expect("the folder opens");
+    let mut ran = 0;
+    for input in [folder, write_only()] {
+        let output = Command::new(env!("CARGO_BIN_EXE_second"))
+            .arg("judge")
+            .stdin(Stdio::from(input))
+            .output()
+            .expect("the program starts");
+        assert_eq!(output.status.code(), Some(1));
+        assert!(output.stdout.is_empty());
+        assert!(output.stderr.starts_with(b"second: reading failed"));
+        ran += 1;
+    }
+    assert_eq!(ran, 2);
+}
+
+/// Says that a failed write is said with a nonzero status.
+#[test]
+fn failed_writes() {
+    let cases: [&[&str]; 4] = [
+        &["vectors", "3", "1"],
+        &["vectors", "300", "1"],
+        &["rounds", "1", "0", "0"],
+        &["open", "3", "", "", "", "", ""],
+    ];
+    let mut ran = 0;
+    for arguments in cases {
+        // A file opened for reading takes no output.
+        let readable = File::open("Cargo.toml").expect("the file opens");
+        let output = Command::new(env!("CARGO_BIN_EXE_second"))
+            .args(arguments)
+            .stdout(Stdio::from(readable))
+            .stderr(Stdio::piped())
+            .output()
+            .expect("the program starts");
+        assert_eq!(output.status.code(), Some(1), "{arguments:?}");
+        assert!(output.stderr.starts_with(b"second: writing failed"));
+        ran += 1;
+    }
+    assert_eq!(ran, 4);
+}

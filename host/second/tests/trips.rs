@@ -1,0 +1,172 @@
+//! Pseudo-random messages sealed, opened, and opened after damage.
+
+use second::calls::{open, seal, Answer};
+use second::cipher::{set_of, Set};
+use second::formula::rounds_by_formula;
+use second::random::Random;
+
+const SEED: u64 = 20_140_315;
+const PER_PAIR: usize = 12;
+
+/// A sealed message with all that belongs to it.
+struct Message {
+    set: &'static Set,
+    key: Vec<u8>,
+    nonce: Vec<u8>,
+    ad: Vec<u8>,
+    text: Vec<u8>,
+    cipher: Vec<u8>,
+    tag: Vec<u8>,
+    rounds: u64,
+}
+
+/// Gives the lengths around the first block edges of a set, one for each place in the list.
+fn edges(set: &Set) -> [usize; 10] {
+    let b = set.block;
+    [
+        0,
+        1,
+        b - 1,
+        b,
+        b + 1,
+        2 * b - 1,
+        2 * b,
+        2 * b + 1,
+        3 * b - 1,
+        4 * b,
+    ]
+}
+
+/// Gives a pseudo-random message of the given lengths, sealed into a longer output.
+fn sealed(random: &mut Random, set: &'static Set, ad: usize, text: usize) -> Message {
+    let key = random.bytes(set.key);
+    let nonce = random.bytes(set.key);
+    let ad = random.bytes(ad);
+    let text = random.bytes(text);
+    let spare = random.below(4);
+    let before = random.bytes(text.len() + spare);
+    let mut out = before.clone();
+    let mut tag = random.bytes(set.key);
+    let answer = seal(set.number, &key, &nonce, &ad, &text, &mut out, &mut tag);
+    let rounds = rounds_by_formula(set, ad.len(), text.len());
+    assert_eq!(answer, Answer { number: 0, rounds });
+    assert_eq!(out[text.len()..], before[text.len()..]);
+    out.truncate(text.len());
+    Message {
+        set,
+        key,
+        nonce,
+        ad,
+        text,
+        cipher: out,
+        tag,
+        rounds,
+    }
+}
+
+/// Opens into an output with spare bytes and gives the answer and the front of the output.
+fn opened(
+    random: &mut Random,
+    m: &Message,
+    ad: &[u8],
+    cipher: &[u8],
+    tag: &[u8],
+) -> (Answer, Vec<u8>) {
+    let spare = random.below(4);
+    let before = random.bytes(cipher.len() + spare);
+    let mut out = before.clone();
+    let answer = open(m.set.number, &m.key, &m.nonce, ad, cipher, tag, &mut out);
+    assert_eq!(out[cipher.len()..], before[cipher.len()..]);
+    out.truncate(cipher.len());
+    (answer, out)
+}
+
+/// Gives the bytes with one bit changed, or with one byte added when there are none.
+fn damaged(random: &mut Random, bytes: &[u8]) -> Vec<u8> {
+    let mut other = bytes.to_vec();
+    if other.is_empty() {
+        return random.bytes(1);
+    }
+    let place = random.below(other.len());
+    other[place] ^= 1 << random.below(8);
+    other
+}
+
+/// Opens a damaged message and checks answer 9, its rounds and the zeros.
+fn refused(random: &mut Random, m: &Message, ad: &[u8], cipher: &[u8], tag: &[u8]) {
+    let (answer, out) = opened(random, m, ad, cipher, tag);
+    let rounds = rounds_by_formula(m.set, ad.len(), cipher.len());
+    assert_eq!(answer, Answer { number: 9, rounds });
+    assert_eq!(answer.one_number(), 16 * rounds + 9);
+    assert!(out.iter().all(|byte| *byte == 0));
+}
+
+/// Says that each message comes back, and none does after damage to tag, ciphertext or data.
+#[test]
+fn trips_with_damage() {
+    let mut random = Random::new(SEED);
+    let (mut trips, mut damages) = (0, 0);
+    for number in [1, 2] {
+        let set = set_of(number).expect("a known set");
+        for ad_length in edges(set) {
+            for text_length in edges(set) {
+                for _ in 0..PER_PAIR {
+                    let random = &mut random;
+                    let m = sealed(random, set, ad_length, text_length);
+                    let (answer, out) = opened(random, &m, &m.ad, &m.cipher, &m.tag);
+                    let rounds = m.rounds;
+                    assert_eq!(answer, Answer { number: 0, rounds });
+                    assert_eq!(out, m.text);
+                    trips += 1;
+
+                    let tag = damaged(random, &m.tag);
+                    refused(random, &m, &m.ad, &m.cipher, &tag);
+                    let cipher = damaged(random, &m.cipher);
+                    refused(random, &m, &m.ad, &cipher, &m.tag);
+                    let ad = damaged(random, &m.ad);
+                    refused(random, &m, &ad, &m.cipher, &m.tag);
+                    damages += 3;
+                }
+            }
+        }
+    }
+    assert_eq!((trips, damages), (2_400, 7_200));
+}
+
+/// Says that every single bit of a tag counts.
+#[test]
+fn every_tag_bit_counts() {
+    let mut random = Random::new(SEED + 1);
+    let mut ran = 0;
+    for number in [1, 2] {
+        let set = set_of(number).expect("a known set");
+        let m = sealed(&mut random, set, 5, 21);
+        for place in 0..set.key * 8 {
+            let mut tag = m.tag.clone();
+            tag[place / 8] ^= 1 << (place % 8);
+            refused(&mut random, &m, &m.ad, &m.cipher, &tag);
+            ran += 1;
+        }
+    }
+    assert_eq!(ran, 128 + 96);
+}
+
+/// Says that a ciphertext cut or lengthened at a block edge is refused.
+#[test]
+fn other_lengths_are_refused() {
+    let mut random = Random::new(SEED + 2);
+    let mut ran = 0;
+    for number in [1, 2] {
+        let set = set_of(number).expect("a known set");
+        for text_length in 1..=40 {
+            let m = sealed(&mut random, set, 3, text_length);
+            let shorter = m.cipher[..text_length - 1].to_vec();
+            refused(&mut random, &m, &m.ad, &shorter, &m.tag);
+            let mut longer = m.cipher.clone();
+            longer.push(0x80);
+            refused(&mut random, &m, &m.ad, &longer, &m.tag);
+            ran += 2;
+        }
+    }
+    assert_eq!(ran, 160);
+}

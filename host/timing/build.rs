@@ -1,0 +1,7 @@
+//! Links the permutation's C boundary.
+#[path = "../link.rs"]
+mod link;
+
+fn main() {
+    link::archive("timing");
+}
