@@ -2,11 +2,13 @@
 use mathlib.Core.Path.{_≡_, refl, ap, ap₂, _∙_}
 use mathlib.Core.Bool.{Bool, true, false, cond}
 use mathlib.Core.List.{List, [], _∷_, _++_}
-use Prim.Native.Nat.{ℕ, zero, suc, _+_, _^_, _<_}
+use Prim.Native.Nat.{ℕ, zero, suc, _+_, _^_, _≤_, _<_}
+use native.Mathlib.Numerals.{add-one}
 use native.Mathlib.Omega.{arith}
 use lib.Bits.{xor-lt}
 use lib.Dec.{eqb}
-use lib.ListN.{length, getD, set, length-set}
+use lib.ListN.{length, getD, set, take, drop}
+use lib.Seq.{append-snoc, drop-cons, drop-set-lt, take-suc-set}
 use borrow.Author.Tests.{eqb-false}
 use Rattle.permutation.specs.Strings.{Bytes}
 use Rattle.permutation.proofs.Strings.{bytes-cons, bytes-tail, bytes-set}
@@ -29,6 +31,35 @@ module _ (r : ℕ) (pᵇ : List ℕ → List ℕ) where
     pub length-outs : (a : At) (m : List ℕ) → length (outs r pᵇ keep a m) ≡ length m
     length-outs a [] = refl
     length-outs a (b ∷ m) = ap suc (length-outs (step r pᵇ keep a b) m)
+
+    -- ---- the place
+
+    -- it stays in the front
+    pub step-place : (a : At) (b : ℕ) → a .place < r → step r pᵇ keep a b .place < r
+    step-place a b h = go (eqb (a .place + 1) r) refl
+      where
+        go : (t : Bool) → eqb (a .place + 1) r ≡ t → step r pᵇ keep a b .place < r
+        go true e = rw e (omega arith)
+        go false e = rw e (omega (arith, eqb-false (a .place + 1) r e))
+
+    -- ---- a loop's turn, at byte i of a piece
+
+    -- the steps that are left
+    pub steps-left : (a : At) (i : ℕ) (piece : List ℕ) → i < length piece
+        → steps r pᵇ keep (step r pᵇ keep a (getD piece i 0)) (drop (i + 1) piece) ≡ steps r pᵇ keep a (drop i piece)
+    steps-left a i piece h = rw (drop-cons piece i 0, add-one i)
+
+    -- the whole of a lent output once they are done
+    abbrev pub outLeft : At → ℕ → List ℕ → List ℕ → List ℕ
+    outLeft a i piece out = take i out ++ (outs r pᵇ keep a (drop i piece) ++ drop (length piece) out)
+
+    pub out-left : (a : At) (i : ℕ) (piece out : List ℕ) → i < length piece → length piece ≤ length out
+        → outLeft (step r pᵇ keep a (getD piece i 0)) (i + 1) piece (set out i (gone a (getD piece i 0))) ≡ outLeft a i piece out
+    out-left a i piece out h k =
+        let x : ℕ = gone a (getD piece i 0) in
+        let rest : List ℕ = outs r pᵇ keep (step r pᵇ keep a (getD piece i 0)) (drop (suc i) piece) ++ drop (length piece) out in
+        rw (add-one i, take-suc-set out i x (omega arith), drop-set-lt (length piece) out i x)
+        (append-snoc (take i out) x rest ∙ rw (drop-cons piece i 0))
 
   -- ---- bytes stay bytes, if a run gives bytes and the direction keeps one
 

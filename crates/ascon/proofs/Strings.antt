@@ -4,11 +4,12 @@ use mathlib.Core.Bool.{Bool, true, false, _&&_, false≢true}
 use mathlib.Core.List.{List, [], _∷_, _++_}
 use Prim.Native.Nat.{ℕ, zero, suc, _+_, _*_, _/_, _%_, _^_, _≤_, _<_, min}
 use native.Mathlib.Nat.{not-suc-le-zero, le-of-suc-le-suc, div-add-mod'}
+use native.Mathlib.Numerals.{add-one}
 use native.Mathlib.Omega.{arith}
 use lib.Arith.{bin-ind}
-use lib.Bits.{bitXor, differ, xor-step, xor-shr, xor-mod, xor-zero-r, xor-lt}
+use lib.Bits.{bitXor, differ, xor-step, xor-shr, xor-mod, xor-zero-l, xor-zero-r, xor-lt}
 use lib.Dec.{eqb, lit<}
-use lib.ListN.{length, getD, take}
+use lib.ListN.{length, getD, set, take, length-set, length-replicate, replicate-append-replicate}
 use borrow.Author.Tests.{eqb-true, eq-eqb}
 use Rattle.permutation.specs.Strings.{Bytes}
 use Rattle.permutation.proofs.Strings.{bytes-cons}
@@ -42,6 +43,13 @@ length-xor [] y = omega arith
 length-xor (a ∷ x) [] = omega arith
 length-xor (a ∷ x) (b ∷ y) = ap suc (length-xor x y) ∙ omega arith
 
+-- byte by byte
+pub getD-xor : (x y : List ℕ) (i : ℕ) → i < length x → i < length y → getD (x ⊕ y) i 0 ≡ bitXor (getD x i 0) (getD y i 0)
+getD-xor [] y i h k = absurd (not-suc-le-zero h)
+getD-xor (a ∷ x) [] i h k = absurd (not-suc-le-zero k)
+getD-xor (a ∷ x) (b ∷ y) zero h k = refl
+getD-xor (a ∷ x) (b ∷ y) (suc i) h k = getD-xor x y i (le-of-suc-le-suc h) (le-of-suc-le-suc k)
+
 -- two joined strings, part by part
 pub xor-append : (x y u v : List ℕ) → length x ≡ length y → (x ++ u) ⊕ (y ++ v) ≡ (x ⊕ y) ++ (u ⊕ v)
 xor-append [] [] u v e = refl
@@ -67,6 +75,41 @@ xor-short [] (b ∷ y) zero h = refl
 xor-short [] (b ∷ y) (suc n) h = refl
 xor-short (a ∷ x) (b ∷ y) zero h = absurd (not-suc-le-zero h)
 xor-short (a ∷ x) (b ∷ y) (suc n) h = ap (λ (t : List ℕ). bitXor a b ∷ t) (xor-short x y n (le-of-suc-le-suc h))
+
+-- zeros combined with a string give the string
+pub zeros-xor : (y : List ℕ) → zeros (length y) ⊕ y ≡ y
+zeros-xor [] = refl
+zeros-xor (b ∷ y) = ap₂ (λ (c : ℕ) (t : List ℕ). c ∷ t) (xor-zero-l b) (zeros-xor y)
+
+-- a string laid over zeros
+pub xor-fill : (x y : List ℕ) (n : ℕ) → length y ≡ n → (x ++ zeros n) ⊕ (zeros (length x) ++ y) ≡ x ++ y
+xor-fill x y n e =
+    xor-append x (zeros (length x)) (zeros n) y (sym (length-replicate (length x) 0))
+    ∙ ap₂ (λ (s t : List ℕ). s ++ t) (xor-zeros x) (ap (λ (m : ℕ). zeros m ⊕ y) (sym e) ∙ zeros-xor y)
+
+-- ---- bytes combined from a place on
+
+abbrev pub combined : List ℕ → ℕ → List ℕ → List ℕ
+combined S i [] = S
+combined S i (x ∷ xs) = combined (set S i (bitXor (getD S i 0) x)) (i + 1) xs
+
+-- one byte, and what follows it
+combine-one : (S : List ℕ) (i x : ℕ) (T : List ℕ) → i < length S → set S i (bitXor (getD S i 0) x) ⊕ (zeros (suc i) ++ T) ≡ S ⊕ (zeros i ++ x ∷ T)
+combine-one [] i x T h = absurd (not-suc-le-zero h)
+combine-one (y ∷ S) zero x T h = ap (λ (c : ℕ). c ∷ (S ⊕ T)) (xor-zero-r (bitXor y x))
+combine-one (y ∷ S) (suc i) x T h = ap (λ (t : List ℕ). bitXor y 0 ∷ t) (combine-one S i x T (le-of-suc-le-suc h))
+
+-- the string combined with them in their place
+pub combined-xor : (S : List ℕ) (i k : ℕ) (xs : List ℕ) → i + length xs + k ≡ length S → combined S i xs ≡ S ⊕ (zeros i ++ (xs ++ zeros k))
+combined-xor S i k [] e =
+    let l : i + k ≡ length S = omega arith in
+    sym (xor-zeros S) ∙ ap (λ (n : ℕ). S ⊕ zeros n) (sym l) ∙ ap (λ (t : List ℕ). S ⊕ t) (sym (replicate-append-replicate i k 0))
+combined-xor S i k (x ∷ xs) e =
+    let v : ℕ = bitXor (getD S i 0) x in
+    let l : length (set S i v) ≡ length S = length-set S i v in
+    combined-xor (set S i v) (i + 1) k xs (omega arith)
+    ∙ ap (λ (n : ℕ). set S i v ⊕ (zeros n ++ (xs ++ zeros k))) (add-one i)
+    ∙ combine-one S i x (xs ++ zeros k) (omega arith)
 
 -- ---- bytes
 

@@ -2,12 +2,13 @@
 use mathlib.Core.Path.{_≡_, refl, sym, ap, ap₂, _∙_}
 use mathlib.Core.List.{List, [], _∷_, _++_}
 use Prim.Native.Nat.{ℕ, zero, suc, _+_, _-_, _*_, _/_, _%_, _^_, _≤_, _<_}
-use native.Mathlib.Nat.{mod-lt, mod-eq-of-lt, mod-one}
+use native.Mathlib.Nat.{mod-lt, mod-eq-of-lt, mod-one, mul-mod-left, div-eq-of-lt, lt-of-lt-of-le, not-suc-le-zero, le-of-suc-le-suc}
 use native.Mathlib.Omega.{arith}
 use lib.Arith.{digits-lt}
+use lib.Bits.{bitXor, xor-shr, xor-mod, xor-zero-r}
 use lib.Dec.{lit<}
 use lib.ListN.{length, getD, set, take, drop, length-drop, take-append-drop}
-use lib.Pow.{pow-add, pow-pos, mod-pow-add, mod-mod-pow, field, high, low}
+use lib.Pow.{pow-add, pow-mono, mod-pow-add, mod-mod-pow, field, high, low, shl-lt, shl-shr}
 use lib.Seq.{length-take-le, take-all, drop-drop, getD-take, getD-drop}
 use Rattle.permutation.specs.declared.State.{State}
 use Rattle.permutation.specs.Strings.{Bytes, bytesOf, numberOf, stringOf, stateOf}
@@ -103,6 +104,44 @@ bytes-number (b ∷ x) p =
     ap₂ (λ (c : ℕ) (t : List ℕ). c ∷ t)
     (ap (λ (m : ℕ). m % 2 ^ 8) (high b k l) ∙ mod-eq-of-lt (p .at 0))
     (same-low (length x) (b * 2 ^ k + numberOf x) (numberOf x) (low b k l ∙ sym (mod-eq-of-lt l)) ∙ bytes-number x (bytes-tail p))
+
+-- ---- one byte of a number
+
+-- byte j of n
+pub byte-get : (n j x : ℕ) → j < n → getD (bytesOf n x) j 0 ≡ x / 2 ^ (8 * (n - 1 - j)) % 2 ^ 8
+unfolding bytesOf
+byte-get zero j x h = absurd (not-suc-le-zero h)
+byte-get (suc n) zero x h = ap (λ (k : ℕ). x / 2 ^ (8 * k) % 2 ^ 8) (omega arith)
+byte-get (suc n) (suc j) x h = byte-get n j x (le-of-suc-le-suc h) ∙ ap (λ (k : ℕ). x / 2 ^ (8 * k) % 2 ^ 8) (omega arith)
+
+-- digits combine apart
+digit-xor : (x y k : ℕ) → bitXor x y / 2 ^ k % 2 ^ 8 ≡ bitXor (x / 2 ^ k % 2 ^ 8) (y / 2 ^ k % 2 ^ 8)
+digit-xor x y k = ap (λ (n : ℕ). n % 2 ^ 8) (xor-shr x y k) ∙ xor-mod (x / 2 ^ k) (y / 2 ^ k) 8
+
+-- a number combined with a byte in the place of byte j
+pub byte-put : (n j x b : ℕ) → j < n → b < 2 ^ 8
+    → bytesOf n (bitXor x (b * 2 ^ (8 * (n - 1 - j)))) ≡ set (bytesOf n x) j (bitXor (getD (bytesOf n x) j 0) b)
+unfolding bytesOf
+byte-put zero j x b h l = absurd (not-suc-le-zero h)
+byte-put (suc n) zero x b h l =
+    let k : ℕ = 8 * n in
+    let e : suc n - 1 - 0 ≡ n = omega arith in
+    ap (λ (i : ℕ). bytesOf (suc n) (bitXor x (b * 2 ^ (8 * i)))) e
+    ∙ ap₂ (λ (c : ℕ) (t : List ℕ). c ∷ t)
+    (digit-xor x (b * 2 ^ k) k ∙ ap (λ (c : ℕ). bitXor (x / 2 ^ k % 2 ^ 8) c) (ap (λ (c : ℕ). c % 2 ^ 8) (shl-shr b k) ∙ mod-eq-of-lt l))
+    (same-low n (bitXor x (b * 2 ^ k)) x (xor-mod x (b * 2 ^ k) k ∙ ap (λ (c : ℕ). bitXor (x % 2 ^ k) c) (mul-mod-left b (2 ^ k)) ∙ xor-zero-r (x % 2 ^ k)))
+byte-put (suc n) (suc j) x b h l =
+    let i : ℕ = 8 * (n - 1 - j) in
+    let k : ℕ = 8 * n in
+    let e : suc n - 1 - suc j ≡ n - 1 - j = omega arith in
+    let o : 8 + i ≤ k = omega arith in
+    let small : b * 2 ^ i < 2 ^ k = lt-of-lt-of-le (shl-lt 8 i l) (pow-mono o) in
+    ap (λ (m : ℕ). bytesOf (suc n) (bitXor x (b * 2 ^ (8 * m)))) e
+    ∙ ap₂ (λ (c : ℕ) (t : List ℕ). c ∷ t)
+    (digit-xor x (b * 2 ^ i) k
+    ∙ ap (λ (c : ℕ). bitXor (x / 2 ^ k % 2 ^ 8) (c % 2 ^ 8)) (div-eq-of-lt small)
+    ∙ xor-zero-r (x / 2 ^ k % 2 ^ 8))
+    (byte-put n j x b (le-of-suc-le-suc h) l)
 
 -- ---- the state and its string
 

@@ -1,0 +1,13 @@
+-- `sponge::sets::between` meets its contract. Assumes nothing.
+use Rattle.sponge.proofs.Rows.{row-two, row-other}
+use Rattle.sponge.proofs.sets.between.Statement.{statement}
+use Rattle.sponge.proofs.sets.between.Tie as tie
+
+returns : tie.Need-returns
+returns c = rw (row-two _ (c .if1 .taken))
+
+returns-2 : tie.Need-returns-2
+returns-2 c = rw (row-other _ (c .if1 .left))
+
+pub between-spec : {M : Type 1} → statement M
+between-spec = tie.close (tie.spec returns returns-2)
