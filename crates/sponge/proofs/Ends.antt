@@ -16,6 +16,7 @@ use Rattle.permutation.proofs.Strings.{bytes-take}
 use Rattle.ascon.specs.Sets.{ParameterSet}
 use Rattle.ascon.specs.Mode.{_⊕_, zeros, p, firstBlock, initialise, separate, finalise}
 use Rattle.ascon.specs.Bytewise.{at, closed}
+use Rattle.ascon.proofs.Sealing.{Fits, length-tag}
 use Rattle.ascon.proofs.Strings.{length-xor, getD-xor, xor-fill, combined-xor}
 use Rattle.sponge.specs.Sponge.{frontOf, started, dataClosed, tagOf, finished}
 use Rattle.sponge.specs.Words.{byteOf, withByte, withBytes, maskedEnd}
@@ -102,6 +103,14 @@ module _ (row : ParameterSet) (sizes : Sizes row) where
       ∙ ap₂ p (sym (sizes .ends))
       (keyed v key (row .block) (40 - row .block - row .key) f s (omega arith)
       ∙ ap (λ (S : List ℕ). S ⊕ (zeros (row .block) ++ (take (row .key) key ++ zeros (40 - row .block - row .key)))) (sym (closed-view w (n % row .block)))))
+
+  -- the tag is as long as the key
+  pub tag-length : Fits row → (w key : List ℕ) (n : ℕ) → Sixteen key → length (tagOf row w n key) ≡ row .key
+  unfolding tagOf
+  tag-length fits w key n s =
+      let size : length key ≡ 16 = s .size in
+      let most : row .key ≤ 16 = sizes .key in
+      length-tag row fits (take (row .key) key) (length-take-le (row .key) key (omega arith)) (closed (frontOf row w n))
 
   -- the start's words, one after the other
   abbrev first : List ℕ

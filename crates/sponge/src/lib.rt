@@ -4,12 +4,12 @@ mod sets;
 
 ghost use mathlib.Core.Path.{_≡_};
 ghost use Prim.Native.Nat.{_+_, _<_, _≤_};
-ghost use lib.ListN.{take};
+ghost use lib.ListN.{length, take};
 ghost use Rattle.permutation.specs.Strings.{numberOf};
 ghost use Rattle.ascon.specs.Sets.{rowOf};
 ghost use Rattle.ascon.specs.Mode.{firstBlock};
 ghost use Rattle.ascon.specs.Bytewise.{at};
-ghost use Rattle.sponge.specs.Sponge.{started, absorbed, crypted, cryptedOf, dataClosed, finished};
+ghost use Rattle.sponge.specs.Sponge.{started, absorbed, crypted, cryptedOf, dataClosed, tagOf, finished};
 ghost use Rattle.sponge.specs.Words.{byteOf, withByte, withBytes, feedOf, goneOf, stepped, maskedEnd};
 use permutation::Run;
 pub use sets::block_length;
@@ -187,6 +187,7 @@ fn masked_end(w: [u64; 5], key: [u8; 16], n: usize) -> [u8; 16]
 // The tag after the end of `count` bytes of text, and zeros behind it.
 pub fn finish(set: u64, words: [u64; 5], count: usize, key: [u8; 16]) -> [u8; 16]
     ensures { λ r. ⌜ r ≡ finished (rowOf set) words count key ⌝ }
+    ensures { λ _. ⌜ length (tagOf (rowOf set) words count key) ≡ rowOf set .key ⌝ }
 {
     let n = sets::key_length(set);
     let block = sets::block_length(set);

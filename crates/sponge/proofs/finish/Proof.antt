@@ -11,9 +11,9 @@ use Rattle.permutation.specs.declared.Run.the-variants.{Twelve}
 use Rattle.permutation.specs.Runs.{permuteWords}
 use Rattle.ascon.specs.Sets.{rowOf}
 use Rattle.sponge.specs.Words.{withByte, withBytes, maskedEnd}
-use Rattle.sponge.proofs.Rows.{row-sizes}
+use Rattle.sponge.proofs.Rows.{row-sizes, row-fits}
 use Rattle.sponge.proofs.Words.{Five}
-use Rattle.sponge.proofs.Ends.{Sixteen, finish-view}
+use Rattle.sponge.proofs.Ends.{Sixteen, finish-view, tag-length}
 use Rattle.sponge.proofs.finish.Statement.{statement}
 use Rattle.sponge.proofs.finish.Tie as tie
 
@@ -60,13 +60,16 @@ returns c =
     let n = block .before .key-length .result in
     let words = s .args .words in
     let key = s .args .key in
-    c .masked-end .ensures
-    ∙ ap (λ (w : List ℕ). maskedEnd w key n)
-    (c .before .permute-words .ensures
-    ∙ ap (permuteWords Twelve)
-    (c .before .before .before .put-key .ensures ∙ ap (λ (w : List ℕ). withBytes w (block .block-length .result) (take n key)) (put .put-byte .ensures)))
-    ∙ rw (block .before .key-length .ensures, block .block-length .ensures)
-    (finish-view (rowOf (s .args .set)) (row-sizes (s .args .set)) words key (s .args .count) (five s) (sixteen s))
+    let row = rowOf (s .args .set) in (
+      c .masked-end .ensures
+          ∙ ap (λ (w : List ℕ). maskedEnd w key n)
+          (c .before .permute-words .ensures
+          ∙ ap (permuteWords Twelve)
+          (c .before .before .before .put-key .ensures ∙ ap (λ (w : List ℕ). withBytes w (block .block-length .result) (take n key)) (put .put-byte .ensures)))
+          ∙ rw (block .before .key-length .ensures, block .block-length .ensures)
+          (finish-view row (row-sizes (s .args .set)) words key (s .args .count) (five s) (sixteen s)),
+      tag-length row (row-sizes (s .args .set)) (row-fits (s .args .set)) words key (s .args .count) (sixteen s),
+    )
 
 pub finish-spec : {M : Type 1} → statement M
 finish-spec =

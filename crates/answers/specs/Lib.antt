@@ -1,0 +1,2 @@
+-- The rules' table of answer numbers.
+pub mod Numbers

@@ -1,0 +1,2 @@
+-- What the proofs of the calls lean on.
+pub mod Tests

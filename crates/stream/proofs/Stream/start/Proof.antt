@@ -1,0 +1,97 @@
+-- `stream::Stream::start` meets its contract. Assumes nothing.
+use mathlib.Core.Path.{_≡_, sym, ap, ap₂, _∙_}
+use mathlib.Core.Bool.{true, false}
+use mathlib.Core.List.{List, _++_}
+use Prim.Native.Nat.{ℕ, _-_}
+use native.Mathlib.Omega.{arith}
+use denote.Ref.{now}
+use lib.ListN.{length, take}
+use lib.Seq.{take-at}
+use borrow.Author.Needs.{needs}
+use borrow.Author.Tests.{not-true, not-false}
+use Rattle.answers.specs.declared.Answer.the-variants.{Done}
+use Rattle.answers.specs.Numbers.{isDone}
+use Rattle.permutation.specs.Strings.{wordsOfString}
+use Rattle.ascon.specs.Sets.{rowOf}
+use Rattle.ascon.specs.Mode.{zeros, initialise}
+use Rattle.sponge.specs.Sponge.{started}
+use Rattle.sponge.proofs.Rows.{row-sizes}
+use Rattle.stream.specs.declared.Phase.the-variants.{Data}
+use Rattle.stream.specs.Calls.{startTest, refused, startCall}
+use Rattle.stream.proofs.Tests.{StartPassed, start-passed}
+use Rattle.stream.proofs.Stream.start.Statement.{statement}
+use Rattle.stream.proofs.Stream.start.Tie as tie
+
+start-test-requires : tie.Need-start-test-requires
+start-test-requires c κs = search needs
+
+is-done-requires : tie.Need-is-done-requires
+is-done-requires c κs = search needs
+
+ended-requires : tie.Need-ended-requires
+ended-requires c κs = search needs
+
+refusal-requires : tie.Need-refusal-requires
+refusal-requires c κs = search needs
+
+returns : tie.Need-returns
+unfolding startCall
+returns c =
+    let b = c .before .before .before in
+    c .refusal .ensures
+    ∙ ap (refused (b .before .start-test .result)) (c .before .ended .ensures)
+    ∙ rw (← b .before .start-test .ensures, sym (b .is-done .ensures) ∙ not-true _ (c .before .before .if1 .taken))
+
+-- what the passed tests say
+passed : (c : tie.Else1) → let a = c .before .before .before .before .before .args in
+    StartPassed (a .set) (length (now (a .key))) (length (now (a .nonce)))
+passed c =
+    let a = c .before .before .before .before .before .args in
+    start-passed (a .set) (length (now (a .key))) (length (now (a .nonce)))
+    (ap isDone (sym (c .before .before .start-test .ensures)) ∙ sym (c .before .is-done .ensures) ∙ not-false _ (c .if1 .left))
+
+sixteen-requires : tie.Need-sixteen-requires
+sixteen-requires c κs = let h = passed c in omega (arith, row-sizes (c .before .before .before .before .before .args .set) .key)
+
+sixteen-requires-2 : tie.Need-sixteen-requires-2
+sixteen-requires-2 c κs = let h = passed (c .before) in omega (arith, row-sizes (c .before .before .before .before .before .before .args .set) .key)
+
+start-requires : tie.Need-start-requires
+start-requires c κs = search needs
+
+returns-2 : tie.Need-returns-2
+unfolding startCall started
+returns-2 c =
+    let e = c .before .before .before in
+    let a = e .before .before .before .before .before .args in
+    let h = passed e in
+    let row = rowOf (a .set) in
+    let key = now (a .key) in
+    let nonce = now (a .nonce) in
+    let k : c .before .before .sixteen .result ≡ key ++ zeros (16 - length key) = c .before .before .sixteen .ensures in
+    let n : c .before .sixteen2 .result ≡ nonce ++ zeros (16 - length nonce) = c .before .sixteen2 .ensures in
+    let words : c .start .result ≡ wordsOfString (initialise row key nonce) =
+    c .start .ensures
+    ∙ ap₂ (λ (x y : List ℕ). wordsOfString (initialise row x y))
+    (ap (λ (x : List ℕ). take (row .key) x) k ∙ take-at key (zeros (16 - length key)) (row .key) (h .key-fits))
+    (ap (λ (x : List ℕ). take (row .key) x) n ∙ take-at nonce (zeros (16 - length nonce)) (row .key) (h .nonce-fits)) in
+    rw (← e .before .before .start-test .ensures, sym (e .before .is-done .ensures) ∙ not-false _ (e .if1 .left))
+    (λ j. record {
+      answer = Done;
+      rounds = 12;
+      next = record { words = words j; set = a .set; direction = a .direction; phase = Data; key = k j; ad = 0; text = 0; place = 0 };
+    })
+
+pub start-spec : {M : Type 1} → statement M
+start-spec =
+    tie.close
+    (tie.spec
+    start-test-requires
+    is-done-requires
+    ended-requires
+    refusal-requires
+    returns
+    sixteen-requires
+    sixteen-requires-2
+    start-requires
+    returns-2)

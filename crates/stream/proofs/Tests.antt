@@ -1,0 +1,110 @@
+-- What the tests say, one byte at a time, and the bound of a round count. Assumes nothing.
+use mathlib.Core.Path.{_≡_, refl, sym, ap, _∙_}
+use mathlib.Core.Bool.{Bool, true, false, cond, _&&_, false≢true}
+use mathlib.Core.List.{List}
+use Prim.Native.Nat.{ℕ, zero, suc, _+_, _-_, _*_, _/_, _≤_, _<_}
+use native.Mathlib.Nat.{sub-zero, zero-sub, suc-sub-suc, le-trans, le-div-iff-mul-le, div-mul-le-self, mul-le-mul-right, div-le-self}
+use native.Mathlib.Numerals.{add-one}
+use native.Mathlib.Omega.{arith}
+use lib.Dec.{eqb, leb, lit≤}
+use lib.ListN.{length, getD, drop}
+use lib.Seq.{drop-cons}
+use borrow.Author.Tests.{eqb-true, leb-true}
+use Rattle.answers.specs.declared.Answer.{Answer}
+use Rattle.answers.specs.declared.Answer.the-variants.{Done, UnknownSet, KeyLength, NonceLength, TagLength, PastLimit, OutOfPhase, BrokenState}
+use Rattle.answers.specs.Numbers.{isDone}
+use Rattle.permutation.specs.Runs.{roundsOf}
+use Rattle.ascon.specs.Sets.{ParameterSet, isSet, rowOf}
+use Rattle.ascon.specs.Mode.{zeros, same}
+use Rattle.sponge.proofs.Rows.{Sizes, row-sizes}
+use Rattle.stream.specs.State.{allZero, isData, isSound}
+use Rattle.stream.specs.Calls.{filledRounds, closingRounds, startTest, pieceTest, finishTest}
+use Rattle.stream.specs.declared.Stream.{Stream}
+
+pub and-assoc : (a b c : Bool) → ((a && b) && c) ≡ (a && (b && c))
+and-assoc true b c = refl
+and-assoc false b c = refl
+
+pub and-true : (a : Bool) → a ≡ (a && true)
+and-true true = refl
+and-true false = refl
+
+-- the element at i, and the rest
+pub zero-left : (xs : List ℕ) (i : ℕ) → i < length xs → allZero (drop i xs) ≡ (eqb (getD xs i 0) 0 && allZero (drop (i + 1) xs))
+zero-left xs i h = rw (add-one i, drop-cons xs i 0 h)
+
+-- the bytes at i, and the rest
+pub same-left : (xs ys : List ℕ) (i : ℕ) → i < length xs → i < length ys
+    → same (drop i xs) (drop i ys) ≡ (eqb (getD xs i 0) (getD ys i 0) && same (drop (i + 1) xs) (drop (i + 1) ys))
+same-left xs ys i h k = rw (add-one i, drop-cons xs i 0 h, drop-cons ys i 0 k)
+
+-- what is left of zeros
+pub drop-zeros : (n m : ℕ) → drop n (zeros m) ≡ zeros (m - n)
+drop-zeros zero m = ap zeros (sym (sub-zero m))
+drop-zeros (suc n) zero = ap zeros (sym (zero-sub (suc n)))
+drop-zeros (suc n) (suc m) = drop-zeros n m ∙ ap zeros (sym (suc-sub-suc m n))
+
+pub div-mono : (x y : ℕ) {k : ℕ} → 0 < k → x ≤ y → x / k ≤ y / k
+div-mono x y {k} pos h = le-div-iff-mul-le pos .1 (le-trans (div-mul-le-self x k) h)
+
+-- a piece within the limit runs few rounds
+pub rounds-bound : (row : ParameterSet) → Sizes row → (count n : ℕ) → count + n ≤ 1_048_576 → filledRounds row count n ≤ 8_388_608
+unfolding filledRounds
+rounds-bound row sizes count n h =
+    let blocks : ℕ = (count + n) / row .block - count / row .block in
+    let few : blocks ≤ 1_048_576 = omega (arith, div-le-self (count + n) (row .block)) in
+    let most : roundsOf (row .between) * blocks ≤ 8 * blocks = mul-le-mul-right blocks (sizes .rounds) in
+    omega arith
+
+-- closing the data runs few rounds
+pub closing-bound : (s : Stream) → closingRounds s ≤ 8
+unfolding closingRounds
+closing-bound s = go (isData (s .phase)) (eqb (s .ad) 0)
+  where
+    go : (a b : Bool) → cond a (cond b 0 (roundsOf (rowOf (s .set) .between))) 0 ≤ 8
+    go true true = lit≤ tt
+    go true false = row-sizes (s .set) .rounds
+    go false b = lit≤ tt
+
+-- ---- what passed tests say
+
+-- three tests, each with its refusal
+three : (a b c : Bool) (x y z : Answer) → isDone x ≡ false → isDone y ≡ false → isDone z ≡ false
+    → isDone (cond a (cond b (cond c Done z) y) x) ≡ true → (a ≡ true) × (b ≡ true) × (c ≡ true)
+three true true true x y z p q r e = (refl, refl, refl)
+three true true false x y z p q r e = absurd (false≢true (sym r ∙ e))
+three true false c x y z p q r e = absurd (false≢true (sym q ∙ e))
+three false b c x y z p q r e = absurd (false≢true (sym p ∙ e))
+
+pub record StartPassed (set key nonce : ℕ) : Type 0 where
+  pub known : isSet set ≡ true
+  pub key-fits : key ≡ rowOf set .key
+  pub nonce-fits : nonce ≡ rowOf set .key
+
+pub start-passed : (set key nonce : ℕ) → isDone (startTest set key nonce) ≡ true → StartPassed set key nonce
+unfolding startTest
+start-passed set key nonce e =
+    let h = three (isSet set) (eqb key (rowOf set .key)) (eqb nonce (rowOf set .key)) UnknownSet KeyLength NonceLength refl refl refl e in
+    record { known = h .0; key-fits = eqb-true key (rowOf set .key) (h .1); nonce-fits = eqb-true nonce (rowOf set .key) (h .2) }
+
+pub record PiecePassed (s : Stream) (fits : Bool) (count n limit : ℕ) : Type 0 where
+  pub sound : isSound s ≡ true
+  pub fit : fits ≡ true
+  pub within : count + n ≤ limit
+
+pub piece-passed : (s : Stream) (fits : Bool) (count n limit : ℕ) → isDone (pieceTest s fits count n limit) ≡ true → PiecePassed s fits count n limit
+unfolding pieceTest
+piece-passed s fits count n limit e =
+    let h = three (isSound s) fits (leb (count + n) limit) BrokenState OutOfPhase PastLimit refl refl refl e in
+    record { sound = h .0; fit = h .1; within = leb-true (count + n) limit (h .2) }
+
+pub record FinishPassed (s : Stream) (fits : Bool) (n : ℕ) : Type 0 where
+  pub sound : isSound s ≡ true
+  pub fit : fits ≡ true
+  pub tag-fits : n ≡ rowOf (s .set) .key
+
+pub finish-passed : (s : Stream) (fits : Bool) (n : ℕ) → isDone (finishTest s fits n) ≡ true → FinishPassed s fits n
+unfolding finishTest
+finish-passed s fits n e =
+    let h = three (isSound s) fits (eqb n (rowOf (s .set) .key)) BrokenState OutOfPhase TagLength refl refl refl e in
+    record { sound = h .0; fit = h .1; tag-fits = eqb-true n (rowOf (s .set) .key) (h .2) }

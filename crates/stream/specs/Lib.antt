@@ -1,0 +1,3 @@
+-- The rules of streams: which states are broken, and what each call answers.
+pub mod State
+pub mod Calls

@@ -1,0 +1,515 @@
+// Sealing and checking streams. A state goes into each call and comes back from it; every call takes any state, any lengths and any order, and answers with
+// its listed number.
+ghost use mathlib.Core.Path.{_≡_};
+ghost use mathlib.Core.Bool.{_&&_};
+ghost use mathlib.Core.List.{_++_};
+ghost use Prim.Native.Nat.{_+_, _-_, _*_, _≤_, _<_};
+ghost use lib.ListN.{length, take, drop};
+ghost use Rattle.ascon.specs.Sets.{rowOf};
+ghost use Rattle.ascon.specs.Mode.{zeros, same};
+ghost use Rattle.stream.specs.State.{allZero, isData, isOpen, isSealing, isChecking, ended, isSoundOpen, isSoundEnded, isSound};
+ghost use Rattle.stream.specs.Calls.{filledRounds, pieceTest, finishTest, startTest, refused, textWords, closingRounds, startCall, dataCall, tookText, ownTag, called, sealCall, checkCall, finishSealingCall, finishCheckingCall};
+use answers::Answer;
+use sponge::Way;
+
+// What a stream does with its text.
+pub enum Direction {
+    Sealing,
+    Checking,
+}
+
+// What a stream takes next.
+pub enum Phase {
+    Data,
+    Text,
+    Ended,
+}
+
+// A stream's state. The key has the set's length, with zeros behind it; ad and text are the bytes taken so far; the place is that of the next byte in its
+// block.
+pub struct Stream {
+    pub words: [u64; 5],
+    pub set: u64,
+    pub direction: Direction,
+    pub phase: Phase,
+    pub key: [u8; 16],
+    pub ad: usize,
+    pub text: usize,
+    pub place: usize,
+}
+
+// What a call answers: the answer, the rounds run in the call, and the next state.
+pub struct Outcome {
+    pub answer: Answer,
+    pub rounds: u64,
+    pub next: Stream,
+}
+
+// Whether a phase is that of the associated data.
+fn is_data(phase: Phase) -> bool
+    ensures { λ r. ⌜ r ≡ isData phase ⌝ }
+{
+    match phase {
+        Phase::Data => true,
+        Phase::Text => false,
+        Phase::Ended => false,
+    }
+}
+
+// Whether a phase is before the end.
+fn is_open(phase: Phase) -> bool
+    ensures { λ r. ⌜ r ≡ isOpen phase ⌝ }
+{
+    match phase {
+        Phase::Data => true,
+        Phase::Text => true,
+        Phase::Ended => false,
+    }
+}
+
+// Whether a direction is sealing.
+fn is_sealing(direction: Direction) -> bool
+    ensures { λ r. ⌜ r ≡ isSealing direction ⌝ }
+{
+    match direction {
+        Direction::Sealing => true,
+        Direction::Checking => false,
+    }
+}
+
+// Whether a direction is checking.
+fn is_checking(direction: Direction) -> bool
+    ensures { λ r. ⌜ r ≡ isChecking direction ⌝ }
+{
+    match direction {
+        Direction::Sealing => false,
+        Direction::Checking => true,
+    }
+}
+
+// Whether both hold.
+fn both(one: bool, other: bool) -> bool
+    ensures { λ r. ⌜ r ≡ (one && other) ⌝ }
+{
+    if one { other } else { false }
+}
+
+// Whether the bytes of a key from a place on are zero.
+fn zero_from(key: [u8; 16], n: usize) -> bool
+    ensures { λ r. ⌜ r ≡ allZero (drop n key) ⌝ }
+{
+    let mut i = n;
+    while i < 16 {
+        if key[i] != 0 {
+            return false;
+        }
+        i += 1;
+    }
+    true
+}
+
+// Whether five words are zero.
+fn zero_words(words: [u64; 5]) -> bool
+    ensures { λ r. ⌜ r ≡ allZero words ⌝ }
+{
+    let mut i = 0;
+    while i < 5 {
+        if words[i] != 0 {
+            return false;
+        }
+        i += 1;
+    }
+    true
+}
+
+// Whether two strings of one length are one; every byte is looked at.
+fn same_tag(ours: [u8; 16], theirs: &[u8]) -> bool
+    requires { ⌜ length (now theirs) ≤ 16 ⌝ }
+    ensures { λ r. ⌜ r ≡ same (now (theirs .entry)) (take (length (now (theirs .entry))) ours) ⌝ }
+{
+    let mut equal = true;
+    let mut i = 0;
+    while i < theirs.len() {
+        equal = both(equal, theirs[i] == ours[i]);
+        i += 1;
+    }
+    equal
+}
+
+// A string of at most 16 bytes, with zeros behind it.
+fn sixteen(string: &[u8]) -> [u8; 16]
+    requires { ⌜ length (now string) ≤ 16 ⌝ }
+    ensures { λ r. ⌜ r ≡ now (string .entry) ++ zeros (16 - length (now (string .entry))) ⌝ }
+{
+    let mut all = [0; 16];
+    bytes::copy(string, &mut all);
+    all
+}
+
+// The rounds of the blocks that n bytes fill after `count` of them.
+fn filled_rounds(set: u64, count: usize, n: usize) -> u64
+    requires { ⌜ count + n ≤ 1048576 ⌝ }
+    ensures { λ r. ⌜ r ≡ filledRounds (rowOf set) count n ⌝ }
+{
+    let block = sponge::block_length(set);
+    let blocks = (count + n) / block - count / block;
+    sponge::rounds_between(set) * (blocks as u64)
+}
+
+// Puts a tag's first bytes into the place lent for it.
+fn give_tag(ours: [u8; 16], tag: &mut [u8])
+    requires { ⌜ length (now tag) ≤ 16 ⌝ }
+    ensures { λ _. ⌜ now (tag .exit) ≡ take (length (now (tag .entry))) ours ⌝ }
+{
+    let n = tag.len();
+    bytes::copy(&ours[..n], tag);
+}
+
+// The tests of a start: set, key length, nonce length.
+fn start_test(set: u64, key: usize, nonce: usize) -> Answer
+    ensures { λ r. ⌜ r ≡ startTest set key nonce ⌝ }
+{
+    if !sponge::is_set(set) {
+        return Answer::UnknownSet;
+    }
+    if key != sponge::key_length(set) {
+        return Answer::KeyLength;
+    }
+    if nonce != sponge::key_length(set) {
+        return Answer::NonceLength;
+    }
+    Answer::Done
+}
+
+// A refusal, which leaves the state as it was.
+fn refusal(answer: Answer, next: Stream) -> Outcome
+    ensures { λ r. ⌜ r ≡ refused answer next ⌝ }
+{
+    Outcome {
+        answer,
+        rounds: 0,
+        next,
+    }
+}
+
+impl Stream {
+    // The one ended state.
+    pub fn ended() -> Stream
+        ensures { λ r. ⌜ r ≡ ended ⌝ }
+    {
+        Stream {
+            words: [0; 5],
+            set: 1,
+            direction: Direction::Sealing,
+            phase: Phase::Ended,
+            key: [0; 16],
+            ad: 0,
+            text: 0,
+            place: 0,
+        }
+    }
+
+    // Whether an open state, whose phase has taken `count` bytes, keeps the rules of set, key, counts and place.
+    fn sound_open(self, count: usize) -> bool
+        ensures { λ r. ⌜ r ≡ isSoundOpen self count ⌝ }
+    {
+        let set = self.set;
+        let key = self.key;
+        both(
+            sponge::is_set(set),
+            both(
+                zero_from(key, sponge::key_length(set)),
+                both(
+                    self.ad <= 65536,
+                    both(
+                        self.text <= 1048576,
+                        self.place == count % sponge::block_length(set),
+                    ),
+                ),
+            ),
+        )
+    }
+
+    // Whether the state is the ended one, but for its phase.
+    fn sound_ended(self) -> bool
+        ensures { λ r. ⌜ r ≡ isSoundEnded self ⌝ }
+    {
+        let words = self.words;
+        let key = self.key;
+        let direction = self.direction;
+        both(
+            zero_words(words),
+            both(
+                zero_from(key, 0),
+                both(
+                    is_sealing(direction),
+                    both(
+                        self.set == 1,
+                        both(self.ad == 0, both(self.text == 0, self.place == 0)),
+                    ),
+                ),
+            ),
+        )
+    }
+
+    // Whether the state breaks no rule.
+    fn sound(self) -> bool
+        ensures { λ r. ⌜ r ≡ isSound self ⌝ }
+    {
+        let phase = self.phase;
+        match phase {
+            Phase::Data => both(self.text == 0, self.sound_open(self.ad)),
+            Phase::Text => self.sound_open(self.text),
+            Phase::Ended => self.sound_ended(),
+        }
+    }
+
+    // The tests of a piece of n bytes after `count` of them: state, phase and direction, limit.
+    fn piece_test(self, fits: bool, count: usize, n: usize, limit: usize) -> Answer
+        ensures { λ r. ⌜ r ≡ pieceTest self fits count n limit ⌝ }
+    {
+        if !self.sound() {
+            return Answer::BrokenState;
+        }
+        if !fits {
+            return Answer::OutOfPhase;
+        }
+        if limit < n {
+            return Answer::PastLimit;
+        }
+        if limit - n < count {
+            return Answer::PastLimit;
+        }
+        Answer::Done
+    }
+
+    // The tests of a finish with a tag of n bytes: state, phase and direction, tag length.
+    fn finish_test(self, fits: bool, n: usize) -> Answer
+        ensures { λ r. ⌜ r ≡ finishTest self fits n ⌝ }
+    {
+        if !self.sound() {
+            return Answer::BrokenState;
+        }
+        if !fits {
+            return Answer::OutOfPhase;
+        }
+        if n != sponge::key_length(self.set) {
+            return Answer::TagLength;
+        }
+        Answer::Done
+    }
+
+    // The words at the text: the associated data is closed where it is still open.
+    fn text_words(self) -> [u64; 5]
+        ensures { λ r. ⌜ r ≡ textWords self ⌝ }
+    {
+        let words = self.words;
+        let phase = self.phase;
+        if is_data(phase) {
+            return sponge::close_data(self.set, words, self.ad);
+        }
+        words
+    }
+
+    // The rounds of closing the associated data, where it is still open and not empty.
+    fn closing_rounds(self) -> u64
+        ensures { λ r. ⌜ r ≡ closingRounds self ⌝ }
+    {
+        let phase = self.phase;
+        if !is_data(phase) {
+            return 0;
+        }
+        if self.ad == 0 {
+            return 0;
+        }
+        sponge::rounds_between(self.set)
+    }
+
+    // A start: set, key and nonce are tested, and the data phase is open.
+    pub fn start(direction: Direction, set: u64, key: &[u8], nonce: &[u8]) -> Outcome
+        ensures { λ r. ⌜ r ≡ startCall direction set (now (key .entry)) (now (nonce .entry)) ⌝ }
+    {
+        let answer = start_test(set, key.len(), nonce.len());
+        if !answers::is_done(answer) {
+            return refusal(answer, Stream::ended());
+        }
+        let key16 = sixteen(key);
+        let words = sponge::start(set, key16, sixteen(nonce));
+        let next = Stream {
+            words,
+            set,
+            direction,
+            phase: Phase::Data,
+            key: key16,
+            ad: 0,
+            text: 0,
+            place: 0,
+        };
+        Outcome {
+            answer: Answer::Done,
+            rounds: 12,
+            next,
+        }
+    }
+
+    // A piece of the associated data, in either direction.
+    pub fn ad(self, piece: &[u8]) -> Outcome
+        ensures { λ r. ⌜ r ≡ dataCall self (now (piece .entry)) ⌝ }
+    {
+        let phase = self.phase;
+        let count = self.ad;
+        let answer = self.piece_test(is_data(phase), count, piece.len(), 65536);
+        if !answers::is_done(answer) {
+            return refusal(answer, self);
+        }
+        let set = self.set;
+        let direction = self.direction;
+        let key = self.key;
+        let text = self.text;
+        let before = self.words;
+        let words = sponge::absorb(set, Way::Seal, before, count, piece);
+        let rounds = filled_rounds(set, count, piece.len());
+        let ad = count + piece.len();
+        let place = ad % sponge::block_length(set);
+        let next = Stream {
+            words,
+            set,
+            direction,
+            phase,
+            key,
+            ad,
+            text,
+            place,
+        };
+        Outcome {
+            answer: Answer::Done,
+            rounds,
+            next,
+        }
+    }
+
+    // What a text call answers when n bytes were taken and left these words.
+    fn took_text(self, words: [u64; 5], n: usize) -> Outcome
+        requires { ⌜ self .text + n ≤ 1048576 ⌝ }
+        ensures { λ r. ⌜ r ≡ tookText self words n ⌝ }
+    {
+        let set = self.set;
+        let direction = self.direction;
+        let key = self.key;
+        let ad = self.ad;
+        let count = self.text;
+        let rounds = self.closing_rounds() + filled_rounds(set, count, n);
+        let text = count + n;
+        let place = text % sponge::block_length(set);
+        let next = Stream {
+            words,
+            set,
+            direction,
+            phase: Phase::Text,
+            key,
+            ad,
+            text,
+            place,
+        };
+        Outcome {
+            answer: Answer::Done,
+            rounds,
+            next,
+        }
+    }
+
+    // A piece of the text, sealed into `out`.
+    pub fn seal(self, piece: &[u8], out: &mut [u8]) -> Outcome
+        ensures { λ r. ⌜ called r (now (out .exit)) ≡ sealCall self (now (piece .entry)) (now (out .entry)) ⌝ }
+    {
+        let phase = self.phase;
+        let direction = self.direction;
+        let fits = both(is_open(phase), is_sealing(direction));
+        let answer = self.piece_test(fits, self.text, piece.len(), 1048576);
+        if !answers::is_done(answer) {
+            return refusal(answer, self);
+        }
+        if out.len() < piece.len() {
+            return refusal(Answer::NoRoom, self);
+        }
+        let words = sponge::crypt(
+            self.set,
+            Way::Seal,
+            self.text_words(),
+            self.text,
+            piece,
+            out,
+        );
+        self.took_text(words, piece.len())
+    }
+
+    // A piece of the ciphertext, to be checked.
+    pub fn check(self, piece: &[u8]) -> Outcome
+        ensures { λ r. ⌜ r ≡ checkCall self (now (piece .entry)) ⌝ }
+    {
+        let phase = self.phase;
+        let direction = self.direction;
+        let fits = both(is_open(phase), is_checking(direction));
+        let answer = self.piece_test(fits, self.text, piece.len(), 1048576);
+        if !answers::is_done(answer) {
+            return refusal(answer, self);
+        }
+        let words = sponge::absorb(self.set, Way::Open, self.text_words(), self.text, piece);
+        self.took_text(words, piece.len())
+    }
+
+    // The tag of the text so far, with zeros behind it.
+    fn tag16(self) -> [u8; 16]
+        ensures { λ r. ⌜ take (rowOf (self .set) .key) r ≡ ownTag self ⌝ }
+    {
+        let key = self.key;
+        sponge::finish(self.set, self.text_words(), self.text, key)
+    }
+
+    // The end of a sealing: the tag.
+    pub fn finish_sealing(self, tag: &mut [u8]) -> Outcome
+        ensures { λ r. ⌜ called r (now (tag .exit)) ≡ finishSealingCall self (now (tag .entry)) ⌝ }
+    {
+        let phase = self.phase;
+        let direction = self.direction;
+        let fits = both(is_open(phase), is_sealing(direction));
+        let answer = self.finish_test(fits, tag.len());
+        if !answers::is_done(answer) {
+            return refusal(answer, self);
+        }
+        let ours = self.tag16();
+        give_tag(ours, tag);
+        Outcome {
+            answer: Answer::Done,
+            rounds: self.closing_rounds() + 12,
+            next: Stream::ended(),
+        }
+    }
+
+    // The end of a checking: whether the tag is the right one.
+    pub fn finish_checking(self, tag: &[u8]) -> Outcome
+        ensures { λ r. ⌜ r ≡ finishCheckingCall self (now (tag .entry)) ⌝ }
+    {
+        let phase = self.phase;
+        let direction = self.direction;
+        let fits = both(is_open(phase), is_checking(direction));
+        let answer = self.finish_test(fits, tag.len());
+        if !answers::is_done(answer) {
+            return refusal(answer, self);
+        }
+        let rounds = self.closing_rounds() + 12;
+        let next = Stream::ended();
+        if same_tag(self.tag16(), tag) {
+            return Outcome {
+                answer: Answer::Done,
+                rounds,
+                next,
+            };
+        }
+        Outcome {
+            answer: Answer::TagDiffers,
+            rounds,
+            next,
+        }
+    }
+}
