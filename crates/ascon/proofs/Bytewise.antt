@@ -1,15 +1,16 @@
 -- The laws of a text taken byte by byte: it may be cut anywhere, and opening undoes sealing. Assumes nothing.
-use mathlib.Core.Path.{_≡_, refl, ap, ap₂, _∙_}
+use mathlib.Core.Path.{_≡_, refl, sym, ap, ap₂, _∙_}
 use mathlib.Core.Bool.{Bool, true, false, cond}
 use mathlib.Core.List.{List, [], _∷_, _++_}
-use Prim.Native.Nat.{ℕ, zero, suc, _+_, _^_, _≤_, _<_}
+use Prim.Native.Nat.{ℕ, zero, suc, _+_, _%_, _^_, _≤_, _<_}
+use native.Mathlib.Nat.{add-zero, zero-add, mod-eq-of-lt, add-mod-left}
 use native.Mathlib.Numerals.{add-one}
 use native.Mathlib.Omega.{arith}
 use lib.Bits.{xor-lt}
 use lib.Dec.{eqb}
-use lib.ListN.{length, getD, set, take, drop}
+use lib.ListN.{length, getD, set, take, drop, length-set}
 use lib.Seq.{append-snoc, drop-cons, drop-set-lt, take-suc-set}
-use borrow.Author.Tests.{eqb-false}
+use borrow.Author.Tests.{eqb-true, eqb-false}
 use Rattle.permutation.specs.Strings.{Bytes}
 use Rattle.permutation.proofs.Strings.{bytes-cons, bytes-tail, bytes-set}
 use Rattle.ascon.specs.Bytewise.{At, at, gone, sealing, opening, closed, turned, step, steps, outs}
@@ -42,6 +43,27 @@ module _ (r : ℕ) (pᵇ : List ℕ → List ℕ) where
         go true e = rw e (omega arith)
         go false e = rw e (omega (arith, eqb-false (a .place + 1) r e))
 
+    -- after n bytes it is n further on, modulo the block
+    pub steps-place : (a : At) (m : List ℕ) → 0 < r → a .place < r → steps r pᵇ keep a m .place ≡ (a .place + length m) % r
+    steps-place a [] pos h = sym (ap (λ (n : ℕ). n % r) (add-zero (a .place)) ∙ mod-eq-of-lt h)
+    steps-place a (b ∷ m) pos h = steps-place (step r pᵇ keep a b) m pos (step-place a b h) ∙ go (eqb (a .place + 1) r) refl
+      where
+        go : (t : Bool) → eqb (a .place + 1) r ≡ t → (step r pᵇ keep a b .place + length m) % r ≡ (a .place + suc (length m)) % r
+        go true e =
+            let f : a .place + 1 ≡ r = eqb-true (a .place + 1) r e in
+            let g : r + length m ≡ a .place + suc (length m) = omega arith in
+            rw e (ap (λ (n : ℕ). n % r) (zero-add (length m)) ∙ sym (add-mod-left r (length m)) ∙ ap (λ (n : ℕ). n % r) g)
+        go false e = let g : a .place + 1 + length m ≡ a .place + suc (length m) = omega arith in rw e (ap (λ (n : ℕ). n % r) g)
+
+    -- the state keeps its length, if a run does
+    pub length-steps : (size : ℕ) → ((S : List ℕ) → length (pᵇ S) ≡ size) → (a : At) (m : List ℕ) → length (a .state) ≡ size → length (steps r pᵇ keep a m .state) ≡ size
+    length-steps size each a [] h = h
+    length-steps size each a (b ∷ m) h = length-steps size each (step r pᵇ keep a b) m (go (eqb (a .place + 1) r))
+      where
+        go : (t : Bool) → let S = set (a .state) (a .place) (keep b (gone a b)) in length (cond t (at (pᵇ S) 0) (at S (a .place + 1)) .state) ≡ size
+        go true = each (set (a .state) (a .place) (keep b (gone a b)))
+        go false = length-set (a .state) (a .place) (keep b (gone a b)) ∙ h
+
     -- ---- a loop's turn, at byte i of a piece
 
     -- the steps that are left
@@ -73,6 +95,10 @@ module _ (r : ℕ) (pᵇ : List ℕ → List ℕ) where
         go : (t : Bool) → Bytes (cond t (at (pᵇ S) 0) (at S (a .place + 1)) .state)
         go true = run-bytes S
         go false = bytes-set (a .state) (a .place) _ h (keep-byte b (gone a b) l (xor-lt 8 _ b (h .at (a .place)) l))
+
+    pub bytes-steps : (a : At) (m : List ℕ) → Bytes (a .state) → Bytes m → Bytes (steps r pᵇ keep a m .state)
+    bytes-steps a [] h k = h
+    bytes-steps a (b ∷ m) h k = bytes-steps (step r pᵇ keep a b) m (step-bytes a b h (k .at 0)) (bytes-tail k)
 
     pub bytes-outs : (a : At) (m : List ℕ) → Bytes (a .state) → Bytes m → Bytes (outs r pᵇ keep a m)
     bytes-outs a [] h k = k

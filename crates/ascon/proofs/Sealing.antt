@@ -55,11 +55,11 @@ module _ (set : ParameterSet) (fits : Fits set) (K : List ℕ) (key : length K �
   bytes-tag k S = bytes-xor (bytes-drop (40 - set .key) (bytes-p (set .ends) _)) k
 
   module _ (N : List ℕ) where
-    length-initialise : length (initialise set K N) ≡ 40
+    pub length-initialise : length (initialise set K N) ≡ 40
     unfolding initialise
     length-initialise = let room : set .block + set .key ≤ 40 = fits .room in simp (length-xor, length-p, length-append, length-replicate) (omega arith)
 
-    bytes-initialise : Bytes K → Bytes (initialise set K N)
+    pub bytes-initialise : Bytes K → Bytes (initialise set K N)
     unfolding initialise
     bytes-initialise k = bytes-xor (bytes-p (set .ends) _) (bytes-append (bytes-zeros (40 - set .key)) k)
 

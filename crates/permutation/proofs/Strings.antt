@@ -16,7 +16,7 @@ use Rattle.permutation.proofs.Words.{Words}
 
 -- ---- strings of bytes
 
-bytes-none : Bytes []
+pub bytes-none : Bytes []
 bytes-none = record { at = λ i. lit< tt }
 
 pub bytes-cons : {b : ℕ} {x : List ℕ} → b < 2 ^ 8 → Bytes x → Bytes (b ∷ x)

@@ -75,13 +75,12 @@ startCall direction set key nonce =
       };
     })
 
--- a piece of the associated data
-unfoldable pub dataCall : Stream → List ℕ → Outcome
-dataCall s piece =
+-- a piece of the associated data that is taken
+abbrev pub tookData : Stream → List ℕ → Outcome
+tookData s piece =
     let row = rowOf (s .set) in
     let n = length piece in
-    decided (pieceTest s (isData (s .phase)) (s .ad) n dataLimit) s
-    (record {
+    record {
       answer = Done;
       rounds = filledRounds row (s .ad) n;
       next = record {
@@ -94,7 +93,11 @@ dataCall s piece =
         text = s .text;
         place = (s .ad + n) % row .block;
       };
-    })
+    }
+
+-- a piece of the associated data
+unfoldable pub dataCall : Stream → List ℕ → Outcome
+dataCall s piece = decided (pieceTest s (isData (s .phase)) (s .ad) (length piece) dataLimit) s (tookData s piece)
 
 -- the words at the text: the associated data is closed where it is open
 unfoldable pub textWords : Stream → List ℕ
