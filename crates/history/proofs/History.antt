@@ -33,7 +33,6 @@ use Rattle.stream.specs.Calls.{refused, filledRounds, closingRounds, startTest,
 use Rattle.stream.proofs.Tests.{StartPassed, start-passed, PiecePassed, piece-passed}
 use Rattle.history.specs.History.{Call, giveAd, giveText, giveCipher, endSealing, endChecking, reply, adOf, textOf, outOf, History, begun, next, after, BytesIn, wayOf, stateAt, roundsAt, Told, HistoryLaw}
 use Rattle.history.proofs.Fronts.{stood, absorbed-more, given-more, l₀, b₀, closed-is, l₁, b₁, sealed-out}
-
 use Rattle.history.proofs.Rounds.{rounds-data, rounds-text}
 use Rattle.history.proofs.Replies.{next-is, next-refused, unfit-piece, unfit-finish, shut-data, data-refused, data-done, seal-refused, seal-short, seal-done, check-refused, check-done, finish-sealing-refused, finish-sealing-done, finish-checking-refused, finish-checking-done, out-given}
 
@@ -47,21 +46,34 @@ start-tested direction set K N e = go (isDone (startTest set (length K) (length 
     go true f = f
     go false f = let no : isDone (startCall direction set K N .answer) ≡ false = rw f f in absurd (false≢true (sym no ∙ e))
 
+-- bytes within a limit
+pub record Bounded (x : List ℕ) (limit : ℕ) : Type 0 where
+  pub bytes : Bytes x
+  pub within : length x ≤ limit
+
+-- none of them
+bounded-none : (limit : ℕ) → Bounded [] limit
+bounded-none limit = record { bytes = bytes-none; within = omega arith }
+
+-- a piece more
+bounded-more : (x piece : List ℕ) (limit : ℕ) → Bounded x limit → Bytes piece → length x + length piece ≤ limit → Bounded (x ++ piece) limit
+bounded-more x piece limit h b l = record { bytes = bytes-append (h .bytes) b; within = rw (length-append x piece) l }
+
 module _ (direction : Direction) (set : ℕ) (K N : List ℕ) (done : isDone (startCall direction set K N .answer) ≡ true) (kb : Bytes K) where
-  abbrev row : ParameterSet
+  abbrev pub row : ParameterSet
   row = rowOf set
 
-  fit : Fits row
+  pub fit : Fits row
   fit = row-fits set
 
-  passed : StartPassed set (length K) (length N)
+  pub passed : StartPassed set (length K) (length N)
   passed = start-passed set (length K) (length N) (start-tested direction set K N done)
 
-  key : length K ≡ row .key
+  pub key : length K ≡ row .key
   key = passed .key-fits
 
   -- the state at the start
-  start-state : startCall direction set K N .next ≡ stateAt direction set K N Data [] []
+  pub start-state : startCall direction set K N .next ≡ stateAt direction set K N Data [] []
   unfolding startCall stateAt
   start-state =
       let none : 0 ≡ 0 % row .block = sym (mod-eq-of-lt (fit .some-block)) in
@@ -83,10 +95,10 @@ module _ (direction : Direction) (set : ℕ) (K N : List ℕ) (done : isDone (st
 
   -- ---- the state moves on
 
-  abbrev way : Way
+  abbrev pub way : Way
   way = wayOf direction
 
-  abbrev S₁ : List ℕ → List ℕ
+  abbrev pub S₁ : List ℕ → List ℕ
   S₁ A = beforeText row K N A
 
   -- a piece of data
@@ -138,12 +150,12 @@ module _ (direction : Direction) (set : ℕ) (K N : List ℕ) (done : isDone (st
 
   -- ---- what every history comes to
 
-  data Reached (h : History) : Type 0 where
+  pub data Reached (h : History) : Type 0 where
     in-data : h .stream ≡ stateAt direction set K N Data (h .ad) [] → h .text ≡ [] → h .out ≡ [] → h .rounds ≡ roundsAt row Data (length (h .ad)) 0
-        → Bytes (h .ad) → Reached h
+        → Bounded (h .ad) dataLimit → Reached h
     in-text : h .stream ≡ stateAt direction set K N Text (h .ad) (h .text)
         → (isSealing direction ≡ true → h .out ≡ outs (row .block) (p (row .between)) sealing (at (S₁ (h .ad)) 0) (h .text))
-        → h .rounds ≡ roundsAt row Text (length (h .ad)) (length (h .text)) → Bytes (h .ad) → Bytes (h .text) → Reached h
+        → h .rounds ≡ roundsAt row Text (length (h .ad)) (length (h .text)) → Bounded (h .ad) dataLimit → Bounded (h .text) textLimit → Reached h
     over : isOpen (h .stream .phase) ≡ false → Reached h
 
   -- a history that is what another is
@@ -156,17 +168,17 @@ module _ (direction : Direction) (set : ℕ) (K N : List ℕ) (done : isDone (st
 
   -- ---- a stream that can take text
 
-  record Ready (h : History) : Type 0 where
-    set-is : h .stream .set ≡ set
-    direction-is : h .stream .direction ≡ direction
-    key-is : h .stream .key ≡ K ++ zeros (16 - length K)
-    ad-is : h .stream .ad ≡ length (h .ad)
-    text-is : h .stream .text ≡ length (h .text)
-    words-is : textWords (h .stream) ≡ wordsOfString (stood row fit way (S₁ (h .ad)) (l₁ row fit K N key kb (h .ad)) (b₁ row fit K N key kb (h .ad)) (h .text) .state)
-    rounds-is : h .rounds + closingRounds (h .stream) ≡ roundsAt row Text (length (h .ad)) (length (h .text))
-    out-is : isSealing direction ≡ true → h .out ≡ outs (row .block) (p (row .between)) sealing (at (S₁ (h .ad)) 0) (h .text)
-    ad-bytes : Bytes (h .ad)
-    text-bytes : Bytes (h .text)
+  pub record Ready (h : History) : Type 0 where
+    pub set-is : h .stream .set ≡ set
+    pub direction-is : h .stream .direction ≡ direction
+    pub key-is : h .stream .key ≡ K ++ zeros (16 - length K)
+    pub ad-is : h .stream .ad ≡ length (h .ad)
+    pub text-is : h .stream .text ≡ length (h .text)
+    pub words-is : textWords (h .stream) ≡ wordsOfString (stood row fit way (S₁ (h .ad)) (l₁ row fit K N key kb (h .ad)) (b₁ row fit K N key kb (h .ad)) (h .text) .state)
+    pub rounds-is : h .rounds + closingRounds (h .stream) ≡ roundsAt row Text (length (h .ad)) (length (h .text))
+    pub out-is : isSealing direction ≡ true → h .out ≡ outs (row .block) (p (row .between)) sealing (at (S₁ (h .ad)) 0) (h .text)
+    pub ad-bounded : Bounded (h .ad) dataLimit
+    pub text-bounded : Bounded (h .text) textLimit
 
   -- the closing of the data, where the text is empty
   closing-first : (A : List ℕ) → roundsAt row Data (length A) 0 + closingRounds (stateAt direction set K N Data A []) ≡ roundsAt row Text (length A) 0
@@ -182,7 +194,7 @@ module _ (direction : Direction) (set : ℕ) (K N : List ℕ) (done : isDone (st
   closing-none A T = refl
 
   open-in-data : (h : History) → h .stream ≡ stateAt direction set K N Data (h .ad) [] → h .text ≡ [] → h .out ≡ [] → h .rounds ≡ roundsAt row Data (length (h .ad)) 0
-      → Bytes (h .ad) → Ready h
+      → Bounded (h .ad) dataLimit → Ready h
   unfolding stateAt
   open-in-data h es et eo er ab =
       let start : List ℕ → List ℕ = λ T. wordsOfString (stood row fit way (S₁ (h .ad)) (l₁ row fit K N key kb (h .ad)) (b₁ row fit K N key kb (h .ad)) T .state) in
@@ -192,18 +204,18 @@ module _ (direction : Direction) (set : ℕ) (K N : List ℕ) (done : isDone (st
         key-is = ap (λ (s : Stream). s .key) es;
         ad-is = ap (λ (s : Stream). s .ad) es;
         text-is = ap (λ (s : Stream). s .text) es ∙ ap length (sym et);
-        words-is = ap textWords es ∙ words-from-data (h .ad) ab ∙ ap start (sym et);
+        words-is = ap textWords es ∙ words-from-data (h .ad) (ab .bytes) ∙ ap start (sym et);
         rounds-is =
             ap₂ (λ (n k : ℕ). n + k) er (ap closingRounds es) ∙ closing-first (h .ad)
             ∙ ap (λ (T : List ℕ). roundsAt row Text (length (h .ad)) (length T)) (sym et);
         out-is = λ x. eo ∙ ap (λ (T : List ℕ). outs (row .block) (p (row .between)) sealing (at (S₁ (h .ad)) 0) T) (sym et);
-        ad-bytes = ab;
-        text-bytes = rw et bytes-none;
+        ad-bounded = ab;
+        text-bounded = rw et (bounded-none textLimit);
       }
 
   open-in-text : (h : History) → h .stream ≡ stateAt direction set K N Text (h .ad) (h .text)
       → (isSealing direction ≡ true → h .out ≡ outs (row .block) (p (row .between)) sealing (at (S₁ (h .ad)) 0) (h .text))
-      → h .rounds ≡ roundsAt row Text (length (h .ad)) (length (h .text)) → Bytes (h .ad) → Bytes (h .text) → Ready h
+      → h .rounds ≡ roundsAt row Text (length (h .ad)) (length (h .text)) → Bounded (h .ad) dataLimit → Bounded (h .text) textLimit → Ready h
   unfolding stateAt
   open-in-text h es eo er ab tb =
       record {
@@ -215,11 +227,11 @@ module _ (direction : Direction) (set : ℕ) (K N : List ℕ) (done : isDone (st
         words-is = ap textWords es ∙ words-in-text (h .ad) (h .text);
         rounds-is = ap (λ (n : ℕ). h .rounds + n) (ap closingRounds es ∙ closing-none (h .ad) (h .text)) ∙ add-zero (h .rounds) ∙ er;
         out-is = eo;
-        ad-bytes = ab;
-        text-bytes = tb;
+        ad-bounded = ab;
+        text-bounded = tb;
       }
 
-  ready : (h : History) → Reached h → isOpen (h .stream .phase) ≡ true → Ready h
+  pub ready : (h : History) → Reached h → isOpen (h .stream .phase) ≡ true → Ready h
   ready h (in-data es et eo er ab) o = open-in-data h es et eo er ab
   ready h (in-text es eo er ab tb) o = open-in-text h es eo er ab tb
   ready h (over e) o = absurd (false≢true (sym e ∙ o))
@@ -255,15 +267,15 @@ module _ (direction : Direction) (set : ℕ) (K N : List ℕ) (done : isDone (st
       (e
       ∙ ap (λ (k : ℕ). given (rowOf k) Seal (textWords (h .stream)) (h .stream .text) piece) (o .set-is)
       ∙ ap₂ (λ (w : List ℕ) (k : ℕ). given row Seal w k piece) words (o .text-is))
-      ∙ given-more row fit Seal (S₁ (h .ad)) l b (h .text) piece (o .text-bytes)
+      ∙ given-more row fit Seal (S₁ (h .ad)) l b (h .text) piece (o .text-bounded .bytes)
 
   -- a piece of text that is taken
-  takes-text : (h : History) (call : Call) (piece : List ℕ) → Ready h → Bytes piece → adOf call ≡ [] → textOf call ≡ piece
+  takes-text : (h : History) (call : Call) (piece : List ℕ) → Ready h → Bytes piece → h .stream .text + length piece ≤ textLimit → adOf call ≡ [] → textOf call ≡ piece
       → reply (h .stream) call ≡ tookText (h .stream) (absorbed (rowOf (h .stream .set)) way (textWords (h .stream)) (h .stream .text) piece) (length piece)
       → (isSealing direction ≡ true → outOf (h .stream) call ≡ given (rowOf (h .stream .set)) Seal (textWords (h .stream)) (h .stream .text) piece)
       → Reached (next h call)
   unfolding tookText
-  takes-text h call piece o pb ea et er eo =
+  takes-text h call piece o pb w ea et er eo =
       let s : Stream = h .stream in
       let A : List ℕ = h .ad in
       let T : List ℕ = h .text in
@@ -272,14 +284,14 @@ module _ (direction : Direction) (set : ℕ) (K N : List ℕ) (done : isDone (st
       let to : next h call ≡ g =
       next-is h call _ true er refl
       ∙ (λ j. record {
-        stream = text-moves s A T piece (o .text-bytes) (o .set-is) (o .direction-is) (o .key-is) (o .ad-is) (o .text-is) (o .words-is) j;
+        stream = text-moves s A T piece (o .text-bounded .bytes) (o .set-is) (o .direction-is) (o .key-is) (o .ad-is) (o .text-is) (o .words-is) j;
         ad = (ap (λ (x : List ℕ). A ++ x) ea ∙ append-nil A) j;
         text = T ++ et j;
         out = h .out ++ outOf s call;
         rounds = h .rounds + (closingRounds s + f);
       }) in
       moved (next h call) g to
-      (in-text refl (λ x. text-out h call piece o x (eo x)) (text-rounds h piece o) (o .ad-bytes) (bytes-append (o .text-bytes) pb))
+      (in-text refl (λ x. text-out h call piece o x (eo x)) (text-rounds h piece o) (o .ad-bounded) (bounded-more T piece textLimit (o .text-bounded) pb (rw (← o .text-is) w)))
 
   -- ---- one call more
 
@@ -290,7 +302,7 @@ module _ (direction : Direction) (set : ℕ) (K N : List ℕ) (done : isDone (st
 
   -- a piece of data in the data phase
   takes-data : (h : History) (piece : List ℕ) → h .stream ≡ stateAt direction set K N Data (h .ad) [] → h .text ≡ [] → h .out ≡ []
-      → h .rounds ≡ roundsAt row Data (length (h .ad)) 0 → Bytes (h .ad) → Bytes piece
+      → h .rounds ≡ roundsAt row Data (length (h .ad)) 0 → Bounded (h .ad) dataLimit → Bytes piece
       → isDone (pieceTest (h .stream) (isData (h .stream .phase)) (h .stream .ad) (length piece) dataLimit) ≡ true → Reached (next h (giveAd piece))
   unfolding stateAt
   takes-data h piece es et eo er ab pb t =
@@ -301,7 +313,7 @@ module _ (direction : Direction) (set : ℕ) (K N : List ℕ) (done : isDone (st
       let to : next h (giveAd piece) ≡ g =
       next-is h (giveAd piece) (tookData (h .stream) piece) true (data-done (h .stream) piece t) refl
       ∙ (λ j. record {
-        stream = (ap (λ (s : Stream). tookData s piece .next) es ∙ data-moves A piece ab) j;
+        stream = (ap (λ (s : Stream). tookData s piece .next) es ∙ data-moves A piece (ab .bytes)) j;
         ad = A ++ piece;
         text = (append-nil (h .text) ∙ et) j;
         out = (append-nil (h .out) ∙ eo) j;
@@ -310,7 +322,9 @@ module _ (direction : Direction) (set : ℕ) (K N : List ℕ) (done : isDone (st
       let rounds : h .rounds + filledRounds row (length A) (length piece) ≡ roundsAt row Data (length (A ++ piece)) 0 =
       ap (λ (n : ℕ). n + filledRounds row (length A) (length piece)) er ∙ rounds-data row (fit .some-block) (length A) (length piece)
       ∙ ap (λ (n : ℕ). roundsAt row Data n 0) (sym (length-append A piece)) in
-      moved (next h (giveAd piece)) g to (in-data refl refl refl rounds (bytes-append ab pb))
+      let within : length A + length piece ≤ dataLimit =
+      rw (← ap (λ (s : Stream). s .ad) es) (piece-passed (h .stream) (isData (h .stream .phase)) (h .stream .ad) (length piece) dataLimit t .within) in
+      moved (next h (giveAd piece)) g to (in-data refl refl refl rounds (bounded-more A piece dataLimit ab pb within))
 
   -- data after the data phase is refused
   refuses-data : (h : History) (piece : List ℕ) → isData (h .stream .phase) ≡ false → Reached h → Reached (next h (giveAd piece))
@@ -329,18 +343,22 @@ module _ (direction : Direction) (set : ℕ) (K N : List ℕ) (done : isDone (st
     where
       s : Stream
       s = h .stream
+
       call : Call
       call = giveText piece out
+
       test : Answer
       test = pieceTest s (isOpen (s .phase) && isSealing (s .direction)) (s .text) (length piece) textLimit
+
       go : (t : Bool) → isDone test ≡ t → (u : Bool) → leb (length piece) (length out) ≡ u → Reached (next h call)
       go false e u f = refused-stays h call test (ap (λ (c : Called). c .outcome) (seal-refused s piece out e)) e r
       go true e false f = refused-stays h call NoRoom (ap (λ (c : Called). c .outcome) (seal-short s piece out e f)) refl r
       go true e true f =
-          let fits = both-true (isOpen (s .phase)) (isSealing (s .direction)) (piece-passed s (isOpen (s .phase) && isSealing (s .direction)) (s .text) (length piece) textLimit e .fit) in
+          let ok = piece-passed s (isOpen (s .phase) && isSealing (s .direction)) (s .text) (length piece) textLimit e in
+          let fits = both-true (isOpen (s .phase)) (isSealing (s .direction)) (ok .fit) in
           let o = ready h r (fits .0) in
           let x : isSealing direction ≡ true = ap isSealing (sym (o .direction-is)) ∙ fits .1 in
-          takes-text h call piece o pb refl refl
+          takes-text h call piece o pb (ok .within) refl refl
           (ap (λ (c : Called). c .outcome) (seal-done s piece out e f)
           ∙ ap (λ (v : Way). tookText s (absorbed (rowOf (s .set)) v (textWords s) (s .text) piece) (length piece)) (sym (seal-way direction x)))
           (λ y. out-given s piece out e f)
@@ -351,17 +369,21 @@ module _ (direction : Direction) (set : ℕ) (K N : List ℕ) (done : isDone (st
     where
       s : Stream
       s = h .stream
+
       call : Call
       call = giveCipher piece
+
       test : Answer
       test = pieceTest s (isOpen (s .phase) && isChecking (s .direction)) (s .text) (length piece) textLimit
+
       go : (t : Bool) → isDone test ≡ t → Reached (next h call)
       go false e = refused-stays h call test (check-refused s piece e) e r
       go true e =
-          let fits = both-true (isOpen (s .phase)) (isChecking (s .direction)) (piece-passed s (isOpen (s .phase) && isChecking (s .direction)) (s .text) (length piece) textLimit e .fit) in
+          let ok = piece-passed s (isOpen (s .phase) && isChecking (s .direction)) (s .text) (length piece) textLimit e in
+          let fits = both-true (isOpen (s .phase)) (isChecking (s .direction)) (ok .fit) in
           let o = ready h r (fits .0) in
           let x : isChecking direction ≡ true = ap isChecking (sym (o .direction-is)) ∙ fits .1 in
-          takes-text h call piece o pb refl refl
+          takes-text h call piece o pb (ok .within) refl refl
           (check-done s piece e
           ∙ ap (λ (v : Way). tookText s (absorbed (rowOf (s .set)) v (textWords s) (s .text) piece) (length piece)) (sym (check-way direction x)))
           (λ y. absurd (not-both direction y x))
@@ -375,8 +397,10 @@ module _ (direction : Direction) (set : ℕ) (K N : List ℕ) (done : isDone (st
     where
       s : Stream
       s = h .stream
+
       test : Answer
       test = finishTest s (isOpen (s .phase) && isSealing (s .direction)) (length tag)
+
       go : (t : Bool) → isDone test ≡ t → Reached (next h (endSealing tag))
       go false e = refused-stays h (endSealing tag) test (ap (λ (c : Called). c .outcome) (finish-sealing-refused s tag e)) e r
       go true e = ends h (endSealing tag) Done (ap (λ (c : Called). c .outcome) (finish-sealing-done s tag e))
@@ -386,8 +410,10 @@ module _ (direction : Direction) (set : ℕ) (K N : List ℕ) (done : isDone (st
     where
       s : Stream
       s = h .stream
+
       test : Answer
       test = finishTest s (isOpen (s .phase) && isChecking (s .direction)) (length tag)
+
       go : (t : Bool) → isDone test ≡ t → Reached (next h (endChecking tag))
       go false e = refused-stays h (endChecking tag) test (finish-checking-refused s tag e) e r
       go true e = ends h (endChecking tag) (cond (same tag (ownTag s)) Done TagDiffers) (finish-checking-done s tag e)
@@ -400,12 +426,13 @@ module _ (direction : Direction) (set : ℕ) (K N : List ℕ) (done : isDone (st
       let none : b * (0 / row .block) ≡ 0 = ap (λ (k : ℕ). b * k) (zero-div (row .block)) ∙ mul-zero b in
       omega arith
 
-  advance : (h : History) (call : Call) → Bytes (adOf call) → Bytes (textOf call) → Reached h → Reached (next h call)
+  pub advance : (h : History) (call : Call) → Bytes (adOf call) → Bytes (textOf call) → Reached h → Reached (next h call)
   unfolding stateAt
   advance h (giveAd piece) pb tb (in-data es et eo er ab) = go (isDone test) refl
     where
       test : Answer
       test = pieceTest (h .stream) (isData (h .stream .phase)) (h .stream .ad) (length piece) dataLimit
+
       go : (t : Bool) → isDone test ≡ t → Reached (next h (giveAd piece))
       go true e = takes-data h piece es et eo er ab pb e
       go false e = refused-stays h (giveAd piece) test (data-refused (h .stream) piece e) e (in-data es et eo er ab)
@@ -422,11 +449,11 @@ module _ (direction : Direction) (set : ℕ) (K N : List ℕ) (done : isDone (st
   reach (call ∷ calls) b h r = reach calls (b .2) (next h call) (advance h call (b .0) (b .1) r)
 
   -- from the start
-  reached : (calls : List Call) → BytesIn calls → Reached (after (begun direction set K N) calls)
-  reached calls b = reach calls b (begun direction set K N) (in-data start-state refl refl (start-rounds ∙ rounds-none) bytes-none)
+  pub reached : (calls : List Call) → BytesIn calls → Reached (after (begun direction set K N) calls)
+  reached calls b = reach calls b (begun direction set K N) (in-data start-state refl refl (start-rounds ∙ rounds-none) (bounded-none dataLimit))
 
   -- what is reached is told
-  told : (h : History) → Reached h → isOpen (h .stream .phase) ≡ true → Told direction set K N h
+  pub told : (h : History) → Reached h → isOpen (h .stream .phase) ≡ true → Told direction set K N h
   unfolding sealed stateAt
   told h (in-data es et eo er ab) o =
       let e : h .stream .phase ≡ Data = ap (λ (s : Stream). s .phase) es in
@@ -434,6 +461,7 @@ module _ (direction : Direction) (set : ℕ) (K N : List ℕ) (done : isDone (st
         state = es ∙ ap₂ (λ (phase : Phase) (T : List ℕ). stateAt direction set K N phase (h .ad) T) (sym e) (sym et);
         out = λ x. eo ∙ ap (λ (T : List ℕ). outs (row .block) (p (row .between)) sealing (at (S₁ (h .ad)) 0) T) (sym et) ∙ sealed-out row fit K N key kb (h .ad) (h .text);
         rounds = er ∙ ap₂ (λ (phase : Phase) (n : ℕ). roundsAt row phase (length (h .ad)) n) (sym e) (ap length (sym et));
+        within = (ab .within, rw et (omega arith));
       }
   told h (in-text es eo er ab tb) o =
       let e : h .stream .phase ≡ Text = ap (λ (s : Stream). s .phase) es in
@@ -441,6 +469,7 @@ module _ (direction : Direction) (set : ℕ) (K N : List ℕ) (done : isDone (st
         state = es ∙ ap (λ (phase : Phase). stateAt direction set K N phase (h .ad) (h .text)) (sym e);
         out = λ x. eo x ∙ sealed-out row fit K N key kb (h .ad) (h .text);
         rounds = er ∙ ap (λ (phase : Phase). roundsAt row phase (length (h .ad)) (length (h .text))) (sym e);
+        within = (ab .within, tb .within);
       }
   told h (over e) o = absurd (false≢true (sym e ∙ o))
 

@@ -2,13 +2,13 @@
 use mathlib.Core.Bool.{Bool, true, false, cond}
 use mathlib.Core.List.{List, [], _∷_, _++_}
 use mathlib.Core.Path.{_≡_}
-use Prim.Native.Nat.{ℕ, _+_, _-_, _*_, _/_, _%_}
+use Prim.Native.Nat.{ℕ, _+_, _-_, _*_, _/_, _%_, _≤_}
 use lib.Dec.{eqb}
 use lib.ListN.{length, take}
 use Rattle.answers.specs.Numbers.{isDone}
 use Rattle.permutation.specs.Runs.{roundsOf}
 use Rattle.permutation.specs.Strings.{Bytes, wordsOfString}
-use Rattle.ascon.specs.Sets.{ParameterSet, rowOf}
+use Rattle.ascon.specs.Sets.{ParameterSet, rowOf, dataLimit, textLimit}
 use Rattle.ascon.specs.Mode.{zeros, p, initialise, beforeText, sealed}
 use Rattle.ascon.specs.Bytewise.{at, sealing, steps}
 use Rattle.sponge.specs.declared.Way.{Way}
@@ -144,6 +144,7 @@ pub record Told (direction : Direction) (set : ℕ) (K N : List ℕ) (h : Histor
   pub state : h .stream ≡ stateAt direction set K N (h .stream .phase) (h .ad) (h .text)
   pub out : isSealing direction ≡ true → h .out ≡ sealed (rowOf set) K N (h .ad) (h .text) .cipher
   pub rounds : h .rounds ≡ roundsAt (rowOf set) (h .stream .phase) (length (h .ad)) (length (h .text))
+  pub within : (length (h .ad) ≤ dataLimit) × (length (h .text) ≤ textLimit)
 
 -- the history law: any calls at all, in any order, after a done start
 abbrev pub HistoryLaw : Type 0
