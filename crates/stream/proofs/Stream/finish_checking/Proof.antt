@@ -1,6 +1,6 @@
 -- `stream::Stream::finish_checking` meets its contract. Assumes nothing.
 use mathlib.Core.Path.{_≡_, sym, ap, ap₂, _∙_}
-use mathlib.Core.Bool.{Bool, true, false, _&&_}
+use mathlib.Core.Bool.{Bool, true, false, cond, _&&_}
 use mathlib.Core.List.{List}
 use Prim.Native.Nat.{ℕ, _+_}
 use native.Mathlib.Omega.{arith}
@@ -84,8 +84,8 @@ returns-2 c =
     ap (λ (x : List ℕ). same (now (a .tag)) x)
     (sym (c .before .before .tag16 .ensures) ∙ ap (λ (n : ℕ). take n (c .before .before .tag16 .result)) (sym (h .tag-fits)))
     ∙ sym (c .before .same-tag .ensures) ∙ c .if2 .taken in
-    rw (← tested (e .before .before), sym (e .before .is-done .ensures) ∙ not-false _ (e .if1 .left), same-is)
-    (λ j. record { answer = Done; rounds = c .before .before .before .before .closing-rounds .ensures j + 12; next = c .before .before .before .ended .ensures j })
+    rw (← tested (e .before .before), sym (e .before .is-done .ensures) ∙ not-false _ (e .if1 .left))
+    (λ j. record { answer = sym (ap (λ (t : Bool). cond t Done TagDiffers) same-is) j; rounds = c .before .before .before .before .closing-rounds .ensures j + 12; next = c .before .before .before .ended .ensures j })
 
 returns-3 : tie.Need-returns-3
 unfolding finishCheckingCall
@@ -97,8 +97,8 @@ returns-3 c =
     ap (λ (x : List ℕ). same (now (a .tag)) x)
     (sym (c .before .before .tag16 .ensures) ∙ ap (λ (n : ℕ). take n (c .before .before .tag16 .result)) (sym (h .tag-fits)))
     ∙ sym (c .before .same-tag .ensures) ∙ c .if2 .left in
-    rw (← tested (e .before .before), sym (e .before .is-done .ensures) ∙ not-false _ (e .if1 .left), same-is)
-    (λ j. record { answer = TagDiffers; rounds = c .before .before .before .before .closing-rounds .ensures j + 12; next = c .before .before .before .ended .ensures j })
+    rw (← tested (e .before .before), sym (e .before .is-done .ensures) ∙ not-false _ (e .if1 .left))
+    (λ j. record { answer = sym (ap (λ (t : Bool). cond t Done TagDiffers) same-is) j; rounds = c .before .before .before .before .closing-rounds .ensures j + 12; next = c .before .before .before .ended .ensures j })
 
 pub finish-checking-spec : {M : Type 1} → statement M
 finish-checking-spec =

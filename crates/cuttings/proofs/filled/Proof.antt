@@ -1,0 +1,34 @@
+-- `cuttings::filled` is safe and ends: the measure is the number of pieces left. Assumes nothing.
+use Prim.Native.Nat.{_-_}
+use borrow.Author.Needs.{needs}
+use Rattle.cuttings.proofs.filled.Statement.{statement}
+use Rattle.cuttings.proofs.filled.Tie as tie
+
+abbrev Inv-loop : tie.InvT-loop
+Inv-loop block s₀ k₀ s k = Unit {0}
+
+abbrev μ-loop : tie.MeasureT-loop
+μ-loop block s₀ k₀ s k = 16 - k
+
+loop-holds : tie.Need-loop-holds Inv-loop μ-loop
+loop-holds c = search needs
+
+check-requires : tie.Need-check-requires Inv-loop μ-loop
+check-requires c κs = search needs
+
+add-k : tie.Need-add-k Inv-loop μ-loop
+add-k c = search needs
+
+loop-less : tie.Need-loop-less Inv-loop μ-loop
+loop-less c = search needs
+
+loop-again : tie.Need-loop-again Inv-loop μ-loop
+loop-again c = search needs
+
+returns : tie.Need-returns Inv-loop μ-loop
+returns c = search needs
+
+pub filled-spec : {M : Type 1} → statement M
+filled-spec =
+    tie.close
+    (tie.spec Inv-loop μ-loop loop-holds check-requires add-k loop-less loop-again returns)
