@@ -32,7 +32,7 @@ use Rattle.stream.specs.State.{isData, isOpen, isSealing, isChecking, ended, is
 use Rattle.stream.specs.Calls.{refused, filledRounds, closingRounds, startTest, pieceTest, finishTest, startCall, tookData, textWords, tookText, Called, ownTag, finishedWith}
 use Rattle.stream.proofs.Tests.{StartPassed, start-passed, PiecePassed, piece-passed}
 use Rattle.history.specs.History.{Call, giveAd, giveText, giveCipher, endSealing, endChecking, reply, adOf, textOf, outOf, History, begun, next, after, BytesIn, wayOf, stateAt, roundsAt, Told, HistoryLaw}
-use Rattle.history.proofs.Fronts.{stood, absorbed-more, given-more, l₀, b₀, closed-is, l₁, b₁, sealed-out}
+use Rattle.sponge.proofs.Fronts.{stood, absorbed-more, given-more, l₀, b₀, closed-is, l₁, b₁, sealed-out}
 use Rattle.history.proofs.Rounds.{rounds-data, rounds-text}
 use Rattle.history.proofs.Replies.{next-is, next-refused, unfit-piece, unfit-finish, shut-data, data-refused, data-done, seal-refused, seal-short, seal-done, check-refused, check-done, finish-sealing-refused, finish-sealing-done, finish-checking-refused, finish-checking-done, out-given}
 

@@ -1,5 +1,4 @@
 -- The laws of histories.
-pub mod Fronts
 pub mod Rounds
 pub mod Replies
 pub mod History

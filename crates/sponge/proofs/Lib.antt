@@ -2,3 +2,5 @@
 pub mod Rows
 pub mod Words
 pub mod Ends
+pub mod Fronts
+pub mod Compared

@@ -1,6 +1,7 @@
 // The cipher on five words: the start, a piece of data or text byte by byte, the end of the data, the end of the text with the tag. Streams and whole
 // messages are built on it. Each public function is total, and its contract speaks of the state's 40 bytes.
 mod sets;
+mod tags;
 
 ghost use mathlib.Core.Path.{_≡_};
 ghost use Prim.Native.Nat.{_+_, _<_, _≤_};
@@ -16,6 +17,10 @@ pub use sets::block_length;
 pub use sets::is_set;
 pub use sets::key_length;
 pub use sets::rounds_between;
+pub use tags::both;
+pub use tags::give_tag;
+pub use tags::same_tag;
+pub use tags::sixteen;
 
 // What stays in the state: the byte that goes out, or the one that comes.
 pub enum Way {

@@ -3,7 +3,7 @@ use mathlib.Core.Path.{_≡_, refl, sym, ap, _∙_}
 use mathlib.Core.Bool.{Bool, true, false, cond, _&&_, false≢true}
 use mathlib.Core.List.{List}
 use Prim.Native.Nat.{ℕ, zero, suc, _+_, _-_, _*_, _/_, _≤_, _<_}
-use native.Mathlib.Nat.{sub-zero, zero-sub, suc-sub-suc, le-trans, le-div-iff-mul-le, div-mul-le-self, mul-le-mul-right, div-le-self}
+use native.Mathlib.Nat.{le-trans, le-div-iff-mul-le, div-mul-le-self, mul-le-mul-right, div-le-self}
 use native.Mathlib.Numerals.{add-one}
 use native.Mathlib.Omega.{arith}
 use lib.Dec.{eqb, leb, lit≤}
@@ -15,34 +15,15 @@ use Rattle.answers.specs.declared.Answer.the-variants.{Done, UnknownSet, KeyLen
 use Rattle.answers.specs.Numbers.{isDone}
 use Rattle.permutation.specs.Runs.{roundsOf}
 use Rattle.ascon.specs.Sets.{ParameterSet, isSet, rowOf}
-use Rattle.ascon.specs.Mode.{zeros, same}
+use Rattle.ascon.specs.Mode.{zeros}
 use Rattle.sponge.proofs.Rows.{Sizes, row-sizes}
 use Rattle.stream.specs.State.{allZero, isData, isSound}
 use Rattle.stream.specs.Calls.{filledRounds, closingRounds, startTest, pieceTest, finishTest}
 use Rattle.stream.specs.declared.Stream.{Stream}
 
-pub and-assoc : (a b c : Bool) → ((a && b) && c) ≡ (a && (b && c))
-and-assoc true b c = refl
-and-assoc false b c = refl
-
-pub and-true : (a : Bool) → a ≡ (a && true)
-and-true true = refl
-and-true false = refl
-
 -- the element at i, and the rest
 pub zero-left : (xs : List ℕ) (i : ℕ) → i < length xs → allZero (drop i xs) ≡ (eqb (getD xs i 0) 0 && allZero (drop (i + 1) xs))
 zero-left xs i h = rw (add-one i, drop-cons xs i 0 h)
-
--- the bytes at i, and the rest
-pub same-left : (xs ys : List ℕ) (i : ℕ) → i < length xs → i < length ys
-    → same (drop i xs) (drop i ys) ≡ (eqb (getD xs i 0) (getD ys i 0) && same (drop (i + 1) xs) (drop (i + 1) ys))
-same-left xs ys i h k = rw (add-one i, drop-cons xs i 0 h, drop-cons ys i 0 k)
-
--- what is left of zeros
-pub drop-zeros : (n m : ℕ) → drop n (zeros m) ≡ zeros (m - n)
-drop-zeros zero m = ap zeros (sym (sub-zero m))
-drop-zeros (suc n) zero = ap zeros (sym (zero-sub (suc n)))
-drop-zeros (suc n) (suc m) = drop-zeros n m ∙ ap zeros (sym (suc-sub-suc m n))
 
 pub div-mono : (x y : ℕ) {k : ℕ} → 0 < k → x ≤ y → x / k ≤ y / k
 div-mono x y {k} pos h = le-div-iff-mul-le pos .1 (le-trans (div-mul-le-self x k) h)

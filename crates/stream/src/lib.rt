@@ -87,13 +87,6 @@ fn is_checking(direction: Direction) -> bool
     }
 }
 
-// Whether both hold.
-fn both(one: bool, other: bool) -> bool
-    ensures { λ r. ⌜ r ≡ (one && other) ⌝ }
-{
-    if one { other } else { false }
-}
-
 // Whether the bytes of a key from a place on are zero.
 fn zero_from(key: [u8; 16], n: usize) -> bool
     ensures { λ r. ⌜ r ≡ allZero (drop n key) ⌝ }
@@ -122,30 +115,6 @@ fn zero_words(words: [u64; 5]) -> bool
     true
 }
 
-// Whether two strings of one length are one; every byte is looked at.
-fn same_tag(ours: [u8; 16], theirs: &[u8]) -> bool
-    requires { ⌜ length (now theirs) ≤ 16 ⌝ }
-    ensures { λ r. ⌜ r ≡ same (now (theirs .entry)) (take (length (now (theirs .entry))) ours) ⌝ }
-{
-    let mut equal = true;
-    let mut i = 0;
-    while i < theirs.len() {
-        equal = both(equal, theirs[i] == ours[i]);
-        i += 1;
-    }
-    equal
-}
-
-// A string of at most 16 bytes, with zeros behind it.
-fn sixteen(string: &[u8]) -> [u8; 16]
-    requires { ⌜ length (now string) ≤ 16 ⌝ }
-    ensures { λ r. ⌜ r ≡ now (string .entry) ++ zeros (16 - length (now (string .entry))) ⌝ }
-{
-    let mut all = [0; 16];
-    bytes::copy(string, &mut all);
-    all
-}
-
 // The rounds of the blocks that n bytes fill after `count` of them.
 fn filled_rounds(set: u64, count: usize, n: usize) -> u64
     requires { ⌜ count + n ≤ 1048576 ⌝ }
@@ -154,15 +123,6 @@ fn filled_rounds(set: u64, count: usize, n: usize) -> u64
     let block = sponge::block_length(set);
     let blocks = (count + n) / block - count / block;
     sponge::rounds_between(set) * (blocks as u64)
-}
-
-// Puts a tag's first bytes into the place lent for it.
-fn give_tag(ours: [u8; 16], tag: &mut [u8])
-    requires { ⌜ length (now tag) ≤ 16 ⌝ }
-    ensures { λ _. ⌜ now (tag .exit) ≡ take (length (now (tag .entry))) ours ⌝ }
-{
-    let n = tag.len();
-    bytes::copy(&ours[..n], tag);
 }
 
 // The tests of a start: set, key length, nonce length.
@@ -215,13 +175,13 @@ impl Stream {
     {
         let set = self.set;
         let key = self.key;
-        both(
+        sponge::both(
             sponge::is_set(set),
-            both(
+            sponge::both(
                 zero_from(key, sponge::key_length(set)),
-                both(
+                sponge::both(
                     self.ad <= 65536,
-                    both(
+                    sponge::both(
                         self.text <= 1048576,
                         self.place == count % sponge::block_length(set),
                     ),
@@ -237,15 +197,15 @@ impl Stream {
         let words = self.words;
         let key = self.key;
         let direction = self.direction;
-        both(
+        sponge::both(
             zero_words(words),
-            both(
+            sponge::both(
                 zero_from(key, 0),
-                both(
+                sponge::both(
                     is_sealing(direction),
-                    both(
+                    sponge::both(
                         self.set == 1,
-                        both(self.ad == 0, both(self.text == 0, self.place == 0)),
+                        sponge::both(self.ad == 0, sponge::both(self.text == 0, self.place == 0)),
                     ),
                 ),
             ),
@@ -258,7 +218,7 @@ impl Stream {
     {
         let phase = self.phase;
         match phase {
-            Phase::Data => both(self.text == 0, self.sound_open(self.ad)),
+            Phase::Data => sponge::both(self.text == 0, self.sound_open(self.ad)),
             Phase::Text => self.sound_open(self.text),
             Phase::Ended => self.sound_ended(),
         }
@@ -333,8 +293,8 @@ impl Stream {
         if !answers::is_done(answer) {
             return refusal(answer, Stream::ended());
         }
-        let key16 = sixteen(key);
-        let words = sponge::start(set, key16, sixteen(nonce));
+        let key16 = sponge::sixteen(key);
+        let words = sponge::start(set, key16, sponge::sixteen(nonce));
         let next = Stream {
             words,
             set,
@@ -424,7 +384,7 @@ impl Stream {
     {
         let phase = self.phase;
         let direction = self.direction;
-        let fits = both(is_open(phase), is_sealing(direction));
+        let fits = sponge::both(is_open(phase), is_sealing(direction));
         let answer = self.piece_test(fits, self.text, piece.len(), 1048576);
         if !answers::is_done(answer) {
             return refusal(answer, self);
@@ -449,7 +409,7 @@ impl Stream {
     {
         let phase = self.phase;
         let direction = self.direction;
-        let fits = both(is_open(phase), is_checking(direction));
+        let fits = sponge::both(is_open(phase), is_checking(direction));
         let answer = self.piece_test(fits, self.text, piece.len(), 1048576);
         if !answers::is_done(answer) {
             return refusal(answer, self);
@@ -472,13 +432,13 @@ impl Stream {
     {
         let phase = self.phase;
         let direction = self.direction;
-        let fits = both(is_open(phase), is_sealing(direction));
+        let fits = sponge::both(is_open(phase), is_sealing(direction));
         let answer = self.finish_test(fits, tag.len());
         if !answers::is_done(answer) {
             return refusal(answer, self);
         }
         let ours = self.tag16();
-        give_tag(ours, tag);
+        sponge::give_tag(ours, tag);
         Outcome {
             answer: Answer::Done,
             rounds: self.closing_rounds() + 12,
@@ -492,14 +452,14 @@ impl Stream {
     {
         let phase = self.phase;
         let direction = self.direction;
-        let fits = both(is_open(phase), is_checking(direction));
+        let fits = sponge::both(is_open(phase), is_checking(direction));
         let answer = self.finish_test(fits, tag.len());
         if !answers::is_done(answer) {
             return refusal(answer, self);
         }
         let rounds = self.closing_rounds() + 12;
         let next = Stream::ended();
-        if same_tag(self.tag16(), tag) {
+        if sponge::same_tag(self.tag16(), tag) {
             return Outcome {
                 answer: Answer::Done,
                 rounds,

@@ -10,6 +10,7 @@ use borrow.Author.Tests.{not-true, not-false}
 use Rattle.answers.specs.Numbers.{isDone}
 use Rattle.answers.specs.declared.Answer.the-variants.{Done, TagDiffers}
 use Rattle.ascon.specs.Mode.{same}
+use Rattle.sponge.proofs.Compared
 use Rattle.sponge.proofs.Rows.{row-sizes}
 use Rattle.stream.specs.State.{isOpen, isChecking}
 use Rattle.stream.specs.Calls.{finishTest, ownTag, finishCheckingCall}
@@ -83,7 +84,7 @@ returns-2 c =
     let same-is : same (now (a .tag)) (ownTag (a .self)) ≡ true =
     ap (λ (x : List ℕ). same (now (a .tag)) x)
     (sym (c .before .before .tag16 .ensures) ∙ ap (λ (n : ℕ). take n (c .before .before .tag16 .result)) (sym (h .tag-fits)))
-    ∙ sym (c .before .same-tag .ensures) ∙ c .if2 .taken in
+    ∙ sym (c .before .same-tag .ensures ∙ Compared.same-is _ (now (a .tag)) (omega (arith, h .tag-fits, row-sizes (a .self .set) .key))) ∙ c .if2 .taken in
     rw (← tested (e .before .before), sym (e .before .is-done .ensures) ∙ not-false _ (e .if1 .left))
     (λ j. record { answer = sym (ap (λ (t : Bool). cond t Done TagDiffers) same-is) j; rounds = c .before .before .before .before .closing-rounds .ensures j + 12; next = c .before .before .before .ended .ensures j })
 
@@ -96,7 +97,7 @@ returns-3 c =
     let same-is : same (now (a .tag)) (ownTag (a .self)) ≡ false =
     ap (λ (x : List ℕ). same (now (a .tag)) x)
     (sym (c .before .before .tag16 .ensures) ∙ ap (λ (n : ℕ). take n (c .before .before .tag16 .result)) (sym (h .tag-fits)))
-    ∙ sym (c .before .same-tag .ensures) ∙ c .if2 .left in
+    ∙ sym (c .before .same-tag .ensures ∙ Compared.same-is _ (now (a .tag)) (omega (arith, h .tag-fits, row-sizes (a .self .set) .key))) ∙ c .if2 .left in
     rw (← tested (e .before .before), sym (e .before .is-done .ensures) ∙ not-false _ (e .if1 .left))
     (λ j. record { answer = sym (ap (λ (t : Bool). cond t Done TagDiffers) same-is) j; rounds = c .before .before .before .before .closing-rounds .ensures j + 12; next = c .before .before .before .ended .ensures j })
 

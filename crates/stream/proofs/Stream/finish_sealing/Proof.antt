@@ -9,6 +9,7 @@ use lib.ListN.{length, take}
 use borrow.Author.Tests.{not-true, not-false}
 use Rattle.answers.specs.Numbers.{isDone}
 use Rattle.answers.specs.declared.Answer.the-variants.{Done}
+use Rattle.sponge.proofs.Compared.{given-is}
 use Rattle.sponge.proofs.Rows.{row-sizes}
 use Rattle.stream.specs.declared.Outcome.{Outcome}
 use Rattle.stream.specs.State.{isOpen, isSealing}
@@ -86,7 +87,7 @@ returns-2 c =
     let h = passed e in
     let g = c .before .before .before .before in
     let tag : g .give-tag .last .1 .0 ≡ ownTag (a .self) =
-    g .give-tag .ensures ∙ ap (λ (n : ℕ). take n (g .before .before .tag16 .result)) (h .tag-fits) ∙ g .before .before .tag16 .ensures in
+    g .give-tag .ensures ∙ given-is _ (now (a .tag)) (omega (arith, h .tag-fits, row-sizes (a .self .set) .key)) ∙ ap (λ (n : ℕ). take n (g .before .before .tag16 .result)) (h .tag-fits) ∙ g .before .before .tag16 .ensures in
     rw (← tested (e .before .before), sym (e .before .is-done .ensures) ∙ not-false _ (e .if1 .left))
     (λ j. called (record { answer = Done; rounds = c .before .closing-rounds .ensures j + 12; next = c .ended .ensures j }) (tag j))
 

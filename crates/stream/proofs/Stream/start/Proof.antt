@@ -15,6 +15,7 @@ use Rattle.permutation.specs.Strings.{wordsOfString}
 use Rattle.ascon.specs.Sets.{rowOf}
 use Rattle.ascon.specs.Mode.{zeros, initialise}
 use Rattle.sponge.specs.Sponge.{started}
+use Rattle.sponge.proofs.Compared.{sixteen-is}
 use Rattle.sponge.proofs.Rows.{row-sizes}
 use Rattle.stream.specs.declared.Phase.the-variants.{Data}
 use Rattle.stream.specs.Calls.{startTest, refused, startCall}
@@ -68,8 +69,10 @@ returns-2 c =
     let row = rowOf (a .set) in
     let key = now (a .key) in
     let nonce = now (a .nonce) in
-    let k : c .before .before .sixteen .result ≡ key ++ zeros (16 - length key) = c .before .before .sixteen .ensures in
-    let n : c .before .sixteen2 .result ≡ nonce ++ zeros (16 - length nonce) = c .before .sixteen2 .ensures in
+    let k : c .before .before .sixteen .result ≡ key ++ zeros (16 - length key) =
+    c .before .before .sixteen .ensures ∙ sixteen-is key (omega (arith, h .key-fits, row-sizes (a .set) .key)) in
+    let n : c .before .sixteen2 .result ≡ nonce ++ zeros (16 - length nonce) =
+    c .before .sixteen2 .ensures ∙ sixteen-is nonce (omega (arith, h .nonce-fits, row-sizes (a .set) .key)) in
     let words : c .start .result ≡ wordsOfString (initialise row key nonce) =
     c .start .ensures
     ∙ ap₂ (λ (x y : List ℕ). wordsOfString (initialise row x y))

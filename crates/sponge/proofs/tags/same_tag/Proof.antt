@@ -1,4 +1,4 @@
--- `stream::same_tag` meets its contract. The loop's invariant: what was found and what is left decide. The measure is the number of bytes left. Assumes
+-- `sponge::tags::same_tag` meets its contract. The loop's invariant: what was found and what is left decide. The measure is the number of bytes left. Assumes
 -- nothing.
 use mathlib.Core.Path.{_≡_, refl, sym, ap, ap₂, _∙_}
 use mathlib.Core.Bool.{Bool, true, _&&_}
@@ -10,10 +10,12 @@ use lib.Dec.{eqb}
 use lib.ListN.{length, getD, take, drop, drop-of-length-le}
 use lib.Seq.{length-take-le, getD-take}
 use borrow.Author.Needs.{needs}
+use borrow.Author.Tests.{lt-leb, le-leb}
+use Rattle.sponge.specs.Tags.{sameTag}
 use Rattle.ascon.specs.Mode.{same}
-use Rattle.stream.proofs.Tests.{and-assoc, and-true, same-left}
-use Rattle.stream.proofs.same_tag.Statement.{statement}
-use Rattle.stream.proofs.same_tag.Tie as tie
+use Rattle.sponge.proofs.Compared.{and-assoc, and-true, same-left}
+use Rattle.sponge.proofs.tags.same_tag.Statement.{statement}
+use Rattle.sponge.proofs.tags.same_tag.Tie as tie
 
 abbrev Inv-loop : tie.InvT-loop
 Inv-loop theirs ours equal₀ i₀ equal i =
@@ -23,10 +25,15 @@ abbrev μ-loop : tie.MeasureT-loop
 μ-loop theirs ours equal₀ i₀ equal i = length theirs - i
 
 -- as much of ours as there is of theirs
-fits : (c : tie.Start Inv-loop μ-loop) → let n = length (now (c .args .theirs)) in length (take n (c .args .t1)) ≡ n
+fits : (c : tie.Else1 Inv-loop μ-loop) → let s = c .before .before in length (take (length (now (s .args .theirs))) (s .args .t1)) ≡ length (now (s .args .theirs))
 fits c =
-    let size : length (c .args .t1) ≡ 16 = c .good .0 .1 .0 .1 in
-    length-take-le (length (now (c .args .theirs))) (c .args .t1) (omega arith)
+    let s = c .before .before in
+    let size : length (s .args .t1) ≡ 16 = s .good .0 .1 .0 .1 in
+    length-take-le (length (now (s .args .theirs))) (s .args .t1) (omega arith)
+
+returns : tie.Need-returns Inv-loop μ-loop
+unfolding sameTag
+returns c = rw (lt-leb _ _ (c .if1 .taken))
 
 loop-holds : tie.Need-loop-holds Inv-loop μ-loop
 loop-holds c = (search needs, refl)
@@ -48,11 +55,11 @@ loop-less c = search needs
 
 loop-again : tie.Need-loop-again Inv-loop μ-loop
 loop-again c =
-    let s = c .before .before .before .before .before in
+    let s = c .before .before .before .before .before .before in
     let l = c .before .before .before .loop in
     let theirs = now (s .args .theirs) in
     let ours = take (length theirs) (s .args .t1) in
-    let size : length ours ≡ length theirs = fits s in
+    let size : length ours ≡ length theirs = fits (c .before .before .before .before) in
     let h : l .i < length theirs = omega arith in
     let rest = same (drop (l .i + 1) theirs) (drop (l .i + 1) ours) in (
       search needs,
@@ -63,19 +70,33 @@ loop-again c =
           ∙ l .inv .1,
     )
 
-returns : tie.Need-returns Inv-loop μ-loop
-returns c =
-    let s = c .before .before .before in
+returns-2 : tie.Need-returns-2 Inv-loop μ-loop
+unfolding sameTag
+returns-2 c =
+    let e = c .before .before in
+    let s = e .before .before in
     let l = c .before .loop in
     let theirs = now (s .args .theirs) in
     let ours = take (length theirs) (s .args .t1) in
-    let size : length ours ≡ length theirs = fits s in
-    and-true (l .equal)
+    let size : length ours ≡ length theirs = fits e in
+    rw (le-leb _ _ (e .if1 .left))
+    (and-true (l .equal)
     ∙ ap₂ (λ (x y : List ℕ). l .equal && same x y)
     (sym (drop-of-length-le theirs {i = l .i} (omega arith))) (sym (drop-of-length-le ours {i = l .i} (omega arith)))
-    ∙ l .inv .1
+    ∙ l .inv .1)
 
 pub same-tag-spec : {M : Type 1} → statement M
 same-tag-spec =
     tie.close
-    (tie.spec Inv-loop μ-loop loop-holds shared-slice-read-both array-read-both both-requires add-i loop-less loop-again returns)
+    (tie.spec
+    Inv-loop
+    μ-loop
+    returns
+    loop-holds
+    shared-slice-read-both
+    array-read-both
+    both-requires
+    add-i
+    loop-less
+    loop-again
+    returns-2)
