@@ -31,8 +31,8 @@ use Rattle.stream.specs.declared.Stream.{Stream}
 use Rattle.stream.specs.declared.Outcome.{Outcome}
 use Rattle.stream.specs.State.{isData, isOpen, isSealing, isChecking, isSound}
 use Rattle.stream.specs.Calls.{pieceTest, finishTest, startCall, tookData, textWords, tookText, closingRounds, Called, ownTag, finishSealingCall, finishCheckingCall}
-use Rattle.history.specs.History.{Call, giveAd, giveText, giveCipher, endSealing, endChecking, reply, History, begun, next, after, BytesIn, wayOf, stateAt, roundsAt, Told}
-use Rattle.history.specs.Cuts.{textCall, Refused, TextCut, TextCut.text-end, TextCut.text-refusal, TextCut.text-piece, Cut, Cut.data-end, Cut.data-refusal, Cut.data-piece, Message, SealedWhole, CheckedWhole, CuttingDoesNotMatter}
+use Rattle.history.specs.History.{Call, giveAd, giveText, giveCipher, textCall, endSealing, endChecking, reply, History, begun, next, after, BytesIn, wayOf, stateAt, roundsAt, Told, Fitting, Fitting.ad-fits, Fitting.text-fits, NeverRefused}
+use Rattle.history.specs.Cuts.{Refused, TextCut, TextCut.text-end, TextCut.text-refusal, TextCut.text-piece, Cut, Cut.data-end, Cut.data-refusal, Cut.data-piece, Message, SealedWhole, CheckedWhole, CuttingDoesNotMatter}
 use Rattle.sponge.proofs.Fronts.{stood, tag-is, l₁, b₁, sealed-end, checked-end}
 use Rattle.history.proofs.Rounds.{rounds-whole}
 use Rattle.history.proofs.Replies.{next-is, next-refused, data-refused, data-done, seal-refused, seal-short, seal-done, check-refused, check-done, finish-sealing-refused, finish-sealing-done, finish-checking-refused, finish-checking-done}
@@ -119,7 +119,23 @@ next-stream : (h : History) (call : Call) {s : Stream} → h .stream ≡ s → n
 unfolding next
 next-stream h call e = ap (λ (x : Stream). reply x call .next) e
 
--- what a piece that fits comes to
+-- ---- a piece that fits is taken
+
+data-reply : (s : Stream) (piece : List ℕ) → isSound s ≡ true → s .phase ≡ Data → s .ad + length piece ≤ dataLimit → reply s (giveAd piece) ≡ tookData s piece
+data-reply s piece sound e l = data-done s piece (fits-piece s (isData (s .phase)) (s .ad) (length piece) dataLimit sound (ap isData e) l)
+
+-- the words that it leaves
+text-reply : (d : Direction) (s : Stream) (piece out : List ℕ) → isSound s ≡ true → isOpen (s .phase) ≡ true → s .direction ≡ d
+    → s .text + length piece ≤ textLimit → length piece ≤ length out
+    → reply s (textCall d piece out) ≡ tookText s (absorbed (rowOf (s .set)) (wayOf d) (textWords s) (s .text) piece) (length piece)
+text-reply Sealing s piece out sound o e l m =
+    ap (λ (c : Called). c .outcome)
+    (seal-done s piece out (fits-piece s (isOpen (s .phase) && isSealing (s .direction)) (s .text) (length piece) textLimit sound (ap₂ _&&_ o (ap isSealing e)) l)
+    (le-leb (length piece) (length out) m))
+text-reply Checking s piece out sound o e l m =
+    check-done s piece (fits-piece s (isOpen (s .phase) && isChecking (s .direction)) (s .text) (length piece) textLimit sound (ap₂ _&&_ o (ap isChecking e)) l)
+
+-- the history after it
 record Taken (h g : History) (ad text : List ℕ) (phase : Phase) : Type 0 where
   phase-is : g .stream .phase ≡ phase
   ad-is : g .ad ≡ h .ad ++ ad
@@ -127,24 +143,31 @@ record Taken (h g : History) (ad text : List ℕ) (phase : Phase) : Type 0 where
 
 data-taken : (h : History) (piece : List ℕ) → isSound (h .stream) ≡ true → h .stream .phase ≡ Data → h .stream .ad + length piece ≤ dataLimit → Taken h (next h (giveAd piece)) piece [] Data
 data-taken h piece sound e l =
-    let s : Stream = h .stream in
-    let ok = fits-piece s (isData (s .phase)) (s .ad) (length piece) dataLimit sound (ap isData e) l in
-    let to = next-is h (giveAd piece) (tookData s piece) true (data-done s piece ok) refl in
+    let to = next-is h (giveAd piece) (tookData (h .stream) piece) true (data-reply (h .stream) piece sound e l) refl in
     record { phase-is = ap (λ (g : History). g .stream .phase) to ∙ e; ad-is = ap (λ (g : History). g .ad) to; text-is = ap (λ (g : History). g .text) to }
 
 text-taken : (d : Direction) (h : History) (piece out : List ℕ) → isSound (h .stream) ≡ true → isOpen (h .stream .phase) ≡ true → h .stream .direction ≡ d
     → h .stream .text + length piece ≤ textLimit → length piece ≤ length out → Taken h (next h (textCall d piece out)) [] piece Text
 unfolding tookText
 text-taken Sealing h piece out sound o e l m =
-    let s : Stream = h .stream in
-    let ok = fits-piece s (isOpen (s .phase) && isSealing (s .direction)) (s .text) (length piece) textLimit sound (ap₂ _&&_ o (ap isSealing e)) l in
-    let to = next-is h (giveText piece out) _ true (ap (λ (c : Called). c .outcome) (seal-done s piece out ok (le-leb (length piece) (length out) m))) refl in
+    let to = next-is h (giveText piece out) _ true (text-reply Sealing (h .stream) piece out sound o e l m) refl in
     record { phase-is = ap (λ (g : History). g .stream .phase) to; ad-is = ap (λ (g : History). g .ad) to; text-is = ap (λ (g : History). g .text) to }
 text-taken Checking h piece out sound o e l m =
-    let s : Stream = h .stream in
-    let ok = fits-piece s (isOpen (s .phase) && isChecking (s .direction)) (s .text) (length piece) textLimit sound (ap₂ _&&_ o (ap isChecking e)) l in
-    let to = next-is h (giveCipher piece) _ true (check-done s piece ok) refl in
+    let to = next-is h (giveCipher piece) _ true (text-reply Checking (h .stream) piece out sound o e l m) refl in
     record { phase-is = ap (λ (g : History). g .stream .phase) to; ad-is = ap (λ (g : History). g .ad) to; text-is = ap (λ (g : History). g .text) to }
+
+pub never-refused : NeverRefused
+unfolding tookText
+never-refused d set K N done kb calls b o call (ad-fits piece e l) =
+    let h : History = after (begun d set K N) calls in
+    let r : Reached d set K N done kb h = reached d set K N done kb calls b in
+    let y : Ready d set K N done kb h = ready d set K N done kb h r o in
+    ap (λ (x : Outcome). x .answer) (data-reply (h .stream) piece (reached-sound d set K N done kb h r o) e (rw (y .ad-is) l))
+never-refused d set K N done kb calls b o call (text-fits piece out l m) =
+    let h : History = after (begun d set K N) calls in
+    let r : Reached d set K N done kb h = reached d set K N done kb calls b in
+    let y : Ready d set K N done kb h = ready d set K N done kb h r o in
+    ap (λ (x : Outcome). x .answer) (text-reply d (h .stream) piece out (reached-sound d set K N done kb h r o) o (y .direction-is) (rw (y .text-is) l) m)
 
 module _ (d : Direction) (set : ℕ) (K N : List ℕ) (done : isDone (startCall d set K N .answer) ≡ true) (kb : Bytes K) where
   follow-text : {s : Stream} {T : List ℕ} {calls : List Call} → TextCut d s T calls → (h : History) → h .stream ≡ s → Reached d set K N done kb h

@@ -16,12 +16,7 @@ use Rattle.stream.specs.declared.Direction.the-variants.{Sealing, Checking}
 use Rattle.stream.specs.declared.Stream.{Stream}
 use Rattle.stream.specs.State.{isOpen}
 use Rattle.stream.specs.Calls.{startCall, finishSealingCall, finishCheckingCall}
-use Rattle.history.specs.History.{Call, giveAd, giveText, giveCipher, reply, begun, after, BytesIn}
-
--- the call that hands a piece of text to a stream of a direction
-abbrev pub textCall : Direction → List ℕ → List ℕ → Call
-textCall Sealing piece out = giveText piece out
-textCall Checking piece out = giveCipher piece
+use Rattle.history.specs.History.{Call, giveAd, textCall, reply, begun, after, BytesIn}
 
 -- a call on a stream that is refused with 4 to 8
 pub record Refused (s : Stream) (call : Call) : Type 0 where

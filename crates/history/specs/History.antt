@@ -5,6 +5,7 @@ use mathlib.Core.Path.{_≡_}
 use Prim.Native.Nat.{ℕ, _+_, _-_, _*_, _/_, _%_, _≤_}
 use lib.Dec.{eqb}
 use lib.ListN.{length, take}
+use Rattle.answers.specs.declared.Answer.the-variants.{Done}
 use Rattle.answers.specs.Numbers.{isDone}
 use Rattle.permutation.specs.Runs.{roundsOf}
 use Rattle.permutation.specs.Strings.{Bytes, wordsOfString}
@@ -30,6 +31,11 @@ pub data Call : Type 0 where
   giveCipher : List ℕ → Call
   endSealing : List ℕ → Call
   endChecking : List ℕ → Call
+
+-- the call that hands a piece of text to a stream of a direction
+abbrev pub textCall : Direction → List ℕ → List ℕ → Call
+textCall Sealing piece out = giveText piece out
+textCall Checking piece out = giveCipher piece
 
 -- what the call answers
 abbrev pub reply : Stream → Call → Outcome
@@ -153,3 +159,17 @@ HistoryLaw =
     → (calls : List Call) → BytesIn calls
     → isOpen (after (begun direction set K N) calls .stream .phase) ≡ true
     → Told direction set K N (after (begun direction set K N) calls)
+
+-- a piece in its phase and direction, within the limits and with room
+pub data Fitting (direction : Direction) (h : History) : Call → Type 0 where
+  ad-fits : (piece : List ℕ) → h .stream .phase ≡ Data → length (h .ad) + length piece ≤ dataLimit → Fitting direction h (giveAd piece)
+  text-fits : (piece out : List ℕ) → length (h .text) + length piece ≤ textLimit → length piece ≤ length out → Fitting direction h (textCall direction piece out)
+
+-- the other half: such a piece is never refused
+abbrev pub NeverRefused : Type 0
+NeverRefused =
+    (direction : Direction) (set : ℕ) (K N : List ℕ) → isDone (startCall direction set K N .answer) ≡ true → Bytes K
+    → (calls : List Call) → BytesIn calls
+    → isOpen (after (begun direction set K N) calls .stream .phase) ≡ true
+    → (call : Call) → Fitting direction (after (begun direction set K N) calls) call
+    → reply (after (begun direction set K N) calls .stream) call .answer ≡ Done
