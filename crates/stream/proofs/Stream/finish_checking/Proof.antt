@@ -73,7 +73,7 @@ tag16-requires : tie.Need-tag16-requires
 tag16-requires c κs = search needs
 
 same-tag-requires : tie.Need-same-tag-requires
-same-tag-requires c κs = let h = passed (c .before .before .before) in omega (arith, row-sizes (c .before .before .before .before .before .before .before .before .before .before .args .self .set) .key)
+same-tag-requires c κs = search needs
 
 returns-2 : tie.Need-returns-2
 unfolding finishCheckingCall

@@ -65,7 +65,7 @@ tag16-requires : tie.Need-tag16-requires
 tag16-requires c κs = search needs
 
 give-tag-requires : tie.Need-give-tag-requires
-give-tag-requires c κs = let h = passed (c .before .before) in omega (arith, row-sizes (c .before .before .before .before .before .before .before .before .before .args .self .set) .key)
+give-tag-requires c κs = search needs
 
 closing-rounds-requires : tie.Need-closing-rounds-requires
 closing-rounds-requires c κs = search needs

@@ -52,10 +52,10 @@ passed c =
     (ap isDone (sym (c .before .before .start-test .ensures)) ∙ sym (c .before .is-done .ensures) ∙ not-false _ (c .if1 .left))
 
 sixteen-requires : tie.Need-sixteen-requires
-sixteen-requires c κs = let h = passed c in omega (arith, row-sizes (c .before .before .before .before .before .args .set) .key)
+sixteen-requires c κs = search needs
 
 sixteen-requires-2 : tie.Need-sixteen-requires-2
-sixteen-requires-2 c κs = let h = passed (c .before) in omega (arith, row-sizes (c .before .before .before .before .before .before .args .set) .key)
+sixteen-requires-2 c κs = search needs
 
 start-requires : tie.Need-start-requires
 start-requires c κs = search needs
