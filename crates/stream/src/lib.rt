@@ -126,7 +126,7 @@ fn filled_rounds(set: u64, count: usize, n: usize) -> u64
 }
 
 // The tests of a start: set, key length, nonce length.
-fn start_test(set: u64, key: usize, nonce: usize) -> Answer
+pub fn start_test(set: u64, key: usize, nonce: usize) -> Answer
     ensures { λ r. ⌜ r ≡ startTest set key nonce ⌝ }
 {
     if !sponge::is_set(set) {

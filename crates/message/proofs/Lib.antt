@@ -1,0 +1,3 @@
+-- The laws of whole messages.
+pub mod Tests
+pub mod Whole

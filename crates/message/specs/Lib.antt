@@ -1,0 +1,2 @@
+-- The rules of whole messages.
+pub mod Message

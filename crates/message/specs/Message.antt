@@ -1,0 +1,76 @@
+-- What sealing and opening a whole message answer: the tests in their order, the rounds, and what each lent place then holds.
+use mathlib.Core.Bool.{cond, _&&_}
+use mathlib.Core.List.{List, _++_}
+use mathlib.Core.Option.{Option, some, none}
+use Prim.Native.Nat.{ℕ}
+use lib.Dec.{eqb, leb}
+use lib.ListN.{length, drop}
+use Rattle.answers.specs.declared.Answer.{Answer}
+use Rattle.answers.specs.declared.Answer.the-variants.{Done, TagLength, PastLimit, NoRoom, TagDiffers}
+use Rattle.answers.specs.Numbers.{isDone}
+use Rattle.ascon.specs.Sets.{ParameterSet, rowOf, dataLimit, textLimit}
+use Rattle.ascon.specs.Mode.{zeros, Processed, encrypted, decrypted, sealed, opened}
+use Rattle.ascon.specs.Rounds.{messageRounds}
+use Rattle.sponge.specs.declared.Way.{Way}
+use Rattle.sponge.specs.declared.Way.the-variants.{Seal, Open}
+use Rattle.stream.specs.Calls.{startTest}
+use Rattle.message.specs.declared.Outcome.{Outcome}
+
+-- ---- the tests
+
+-- of lengths: 1, 2, 3 as a start has them, then 4, 5, 6
+unfoldable pub messageTest : ℕ → ℕ → ℕ → ℕ → ℕ → ℕ → ℕ → Answer
+messageTest set key nonce tag ad text out =
+    let start = startTest set key nonce in
+    cond (isDone start)
+    (cond (eqb tag (rowOf set .key)) (cond (leb ad dataLimit && leb text textLimit) (cond (leb text out) Done NoRoom) PastLimit) TagLength)
+    start
+
+-- ---- sealing
+
+-- an outcome, and what the places of the ciphertext and of the tag then hold
+pub record SealLeaves : Type 0 where
+  pub outcome : Outcome
+  pub out : List ℕ
+  pub tag : List ℕ
+
+abbrev pub sealLeaves : Outcome → List ℕ → List ℕ → SealLeaves
+sealLeaves outcome out tag = record { outcome = outcome; out = out; tag = tag }
+
+-- the published ciphertext and tag; bytes of `out` beyond the text stay
+unfoldable pub sealCall : ℕ → List ℕ → List ℕ → List ℕ → List ℕ → List ℕ → List ℕ → SealLeaves
+sealCall set K N A P out tag =
+    let answer = messageTest set (length K) (length N) (length tag) (length A) (length P) (length out) in
+    let message = sealed (rowOf set) K N A P in
+    cond (isDone answer)
+    (sealLeaves (record { answer = Done; rounds = messageRounds (rowOf set) (length A) (length P) }) (message .cipher ++ drop (length P) out) (message .tag))
+    (sealLeaves (record { answer = answer; rounds = 0 }) out tag)
+
+-- ---- opening
+
+-- an outcome, and what the place of the plaintext then holds
+pub record OpenLeaves : Type 0 where
+  pub outcome : Outcome
+  pub out : List ℕ
+
+abbrev pub openLeaves : Outcome → List ℕ → OpenLeaves
+openLeaves outcome out = record { outcome = outcome; out = out }
+
+-- done with the plaintext, or 9 with as many zeros as the ciphertext has bytes; bytes of `out` beyond it stay
+abbrev pub judged : Option (List ℕ) → ℕ → ℕ → List ℕ → OpenLeaves
+judged (some P) rounds n out = openLeaves (record { answer = Done; rounds = rounds }) (P ++ drop n out)
+judged none rounds n out = openLeaves (record { answer = TagDiffers; rounds = rounds }) (zeros n ++ drop n out)
+
+-- the published opening
+unfoldable pub openCall : ℕ → List ℕ → List ℕ → List ℕ → List ℕ → List ℕ → List ℕ → OpenLeaves
+openCall set K N A C T out =
+    let answer = messageTest set (length K) (length N) (length T) (length A) (length C) (length out) in
+    cond (isDone answer) (judged (opened (rowOf set) K N A C T) (messageRounds (rowOf set) (length A) (length C)) (length C) out)
+    (openLeaves (record { answer = answer; rounds = 0 }) out)
+
+-- ---- inside
+
+-- the text and the state after it, in a direction
+abbrev pub processed : Way → ParameterSet → List ℕ → List ℕ → List ℕ → List ℕ → Processed
+processed Seal = encrypted
+processed Open = decrypted

@@ -1,0 +1,178 @@
+// Whole messages: sealing and opening in one call, on the sponge that streams are built on. Every call takes any set number and any lengths, and answers with
+// its listed number.
+ghost use mathlib.Core.Path.{_≡_};
+ghost use mathlib.Core.List.{_++_};
+ghost use Prim.Native.Nat.{_-_, _≤_};
+ghost use lib.ListN.{length, drop};
+ghost use Rattle.ascon.specs.Sets.{rowOf};
+ghost use Rattle.ascon.specs.Mode.{zeros, finalise};
+ghost use Rattle.ascon.specs.Rounds.{dataBlocks, messageRounds};
+ghost use Rattle.message.specs.Message.{processed, messageTest, sealLeaves, sealCall, openLeaves, openCall};
+use answers::Answer;
+use sponge::Way;
+
+// What a call answers: the answer, and the rounds run in the call.
+pub struct Outcome {
+    pub answer: Answer,
+    pub rounds: u64,
+}
+
+// The tests of a message: those of a start, the tag's length, the limits, the room.
+fn message_test(
+    set: u64,
+    key: usize,
+    nonce: usize,
+    tag: usize,
+    ad: usize,
+    text: usize,
+    out: usize,
+) -> Answer
+    ensures { λ r. ⌜ r ≡ messageTest set key nonce tag ad text out ⌝ }
+{
+    let start = stream::start_test(set, key, nonce);
+    if !answers::is_done(start) {
+        return start;
+    }
+    if tag != sponge::key_length(set) {
+        return Answer::TagLength;
+    }
+    if 65536 < ad {
+        return Answer::PastLimit;
+    }
+    if 1048576 < text {
+        return Answer::PastLimit;
+    }
+    if out < text {
+        return Answer::NoRoom;
+    }
+    Answer::Done
+}
+
+// The padded blocks of associated data.
+fn data_blocks(set: u64, ad: usize) -> usize
+    requires { ⌜ ad ≤ 65536 ⌝ }
+    ensures { λ r. ⌜ r ≡ dataBlocks (rowOf set .block) ad ⌝ }
+    ensures { λ r. ⌜ r ≤ 65537 ⌝ }
+{
+    if ad == 0 {
+        return 0;
+    }
+    ad / sponge::block_length(set) + 1
+}
+
+// The rounds of a message, by the lengths of its data and of its text.
+fn message_rounds(set: u64, ad: usize, text: usize) -> u64
+    requires { ⌜ ad ≤ 65536 ⌝ }
+    requires { ⌜ text ≤ 1048576 ⌝ }
+    ensures { λ r. ⌜ r ≡ messageRounds (rowOf set) ad text ⌝ }
+{
+    let blocks = data_blocks(set, ad) + text / sponge::block_length(set);
+    24 + sponge::rounds_between(set) * (blocks as u64)
+}
+
+// Processes a text in a direction into `out`, and gives the tag with zeros behind it.
+fn process(
+    set: u64,
+    way: Way,
+    key: &[u8],
+    nonce: &[u8],
+    ad: &[u8],
+    text: &[u8],
+    out: &mut [u8],
+) -> [u8; 16]
+    requires { ⌜ length (now key) ≡ rowOf set .key ⌝ }
+    requires { ⌜ length (now nonce) ≡ rowOf set .key ⌝ }
+    requires { ⌜ length (now text) ≤ length (now out) ⌝ }
+    ensures { λ r. ⌜ r ≡ finalise (rowOf set) (now (key .entry)) (processed way (rowOf set) (now (key .entry)) (now (nonce .entry)) (now (ad .entry)) (now (text .entry)) .state) ++ zeros (16 - rowOf set .key) ⌝ }
+    ensures { λ _. ⌜ now (out .exit) ≡ processed way (rowOf set) (now (key .entry)) (now (nonce .entry)) (now (ad .entry)) (now (text .entry)) .out ++ drop (length (now (text .entry))) (now (out .entry)) ⌝ }
+{
+    let key16 = sponge::sixteen(key);
+    let started = sponge::start(set, key16, sponge::sixteen(nonce));
+    let absorbed = sponge::absorb(set, Way::Seal, started, 0, ad);
+    let before = sponge::close_data(set, absorbed, ad.len());
+    let after = sponge::crypt(set, way, before, 0, text, out);
+    sponge::finish(set, after, text.len(), key16)
+}
+
+// Puts zeros into the first n bytes of a place.
+fn clear(place: &mut [u8], n: usize)
+    requires { ⌜ n ≤ length (now place) ⌝ }
+    ensures { λ _. ⌜ now (place .exit) ≡ zeros n ++ drop n (now (place .entry)) ⌝ }
+{
+    let mut i = 0;
+    while i < n {
+        place[i] = 0;
+        i += 1;
+    }
+}
+
+// Seals a message: the ciphertext into `out`, the tag into `tag`.
+pub fn seal(
+    set: u64,
+    key: &[u8],
+    nonce: &[u8],
+    ad: &[u8],
+    text: &[u8],
+    out: &mut [u8],
+    tag: &mut [u8],
+) -> Outcome
+    ensures { λ r. ⌜ sealLeaves r (now (out .exit)) (now (tag .exit)) ≡ sealCall set (now (key .entry)) (now (nonce .entry)) (now (ad .entry)) (now (text .entry)) (now (out .entry)) (now (tag .entry)) ⌝ }
+{
+    let answer = message_test(
+        set,
+        key.len(),
+        nonce.len(),
+        tag.len(),
+        ad.len(),
+        text.len(),
+        out.len(),
+    );
+    if !answers::is_done(answer) {
+        return Outcome { answer, rounds: 0 };
+    }
+    let ours = process(set, Way::Seal, key, nonce, ad, text, out);
+    sponge::give_tag(ours, tag);
+    Outcome {
+        answer: Answer::Done,
+        rounds: message_rounds(set, ad.len(), text.len()),
+    }
+}
+
+// Opens a message: the plaintext into `out` where the tag is right, zeros where it is not.
+pub fn open(
+    set: u64,
+    key: &[u8],
+    nonce: &[u8],
+    ad: &[u8],
+    cipher: &[u8],
+    tag: &[u8],
+    out: &mut [u8],
+) -> Outcome
+    ensures { λ r. ⌜ openLeaves r (now (out .exit)) ≡ openCall set (now (key .entry)) (now (nonce .entry)) (now (ad .entry)) (now (cipher .entry)) (now (tag .entry)) (now (out .entry)) ⌝ }
+{
+    let answer = message_test(
+        set,
+        key.len(),
+        nonce.len(),
+        tag.len(),
+        ad.len(),
+        cipher.len(),
+        out.len(),
+    );
+    if !answers::is_done(answer) {
+        return Outcome { answer, rounds: 0 };
+    }
+    let ours = process(set, Way::Open, key, nonce, ad, cipher, &mut *out);
+    let rounds = message_rounds(set, ad.len(), cipher.len());
+    if sponge::same_tag(ours, tag) {
+        return Outcome {
+            answer: Answer::Done,
+            rounds,
+        };
+    }
+    clear(out, cipher.len());
+    Outcome {
+        answer: Answer::TagDiffers,
+        rounds,
+    }
+}
