@@ -1,3 +1,4 @@
 -- The laws of whole messages.
 pub mod Tests
 pub mod Whole
+pub mod Bounds

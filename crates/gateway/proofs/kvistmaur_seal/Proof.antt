@@ -1,0 +1,34 @@
+-- `gateway::kvistmaur_seal` meets its contract. Assumes nothing.
+use mathlib.Core.Path.{_≡_, ap, _∙_}
+use Prim.Native.Nat.{_≤_}
+use denote.Ref.{now}
+use borrow.Author.Needs.{needs}
+use Rattle.message.specs.declared.Outcome.{Outcome}
+use Rattle.message.specs.Message.{SealLeaves}
+use Rattle.message.proofs.Bounds.{seal-rounds}
+use Rattle.gateway.specs.Word.{wordOf}
+use Rattle.gateway.proofs.kvistmaur_seal.Statement.{statement}
+use Rattle.gateway.proofs.kvistmaur_seal.Tie as tie
+
+seal-requires : tie.Need-seal-requires
+seal-requires c κs = search needs
+
+word-requires : tie.Need-word-requires
+word-requires c κs =
+    let a = c .before .before .before .before .before .before .before .before .before .before .before .before .before .args in
+    rw (ap (λ (s : SealLeaves). s .outcome) (c .before .before .before .before .seal .ensures))
+    (seal-rounds (a .set) (now (a .key)) (now (a .nonce)) (now (a .ad)) (now (a .text)) (now (a .out)) (now (a .tag)))
+
+same-length : tie.Need-same-length
+same-length c = search needs
+
+same-length-2 : tie.Need-same-length-2
+same-length-2 c = search needs
+
+returns : tie.Need-returns
+returns c =
+    let e = c .before .before .before .before .before .seal .ensures in
+    (c .word .ensures ∙ ap (λ (s : SealLeaves). wordOf (s .outcome)) e, (ap (λ (s : SealLeaves). s .out) e, ap (λ (s : SealLeaves). s .tag) e))
+
+pub kvistmaur-seal-spec : {M : Type 1} → statement M
+kvistmaur-seal-spec = tie.close (tie.spec seal-requires word-requires same-length same-length-2 returns)

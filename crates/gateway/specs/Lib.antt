@@ -1,0 +1,2 @@
+-- How an answer crosses the C boundary.
+pub mod Word

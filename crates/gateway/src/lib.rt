@@ -1,0 +1,52 @@
+// The C boundary of whole messages. Each slice crosses as a pointer and a length; the answer and the rounds come back in one word.
+ghost use mathlib.Core.Path.{_≡_};
+ghost use Prim.Native.Nat.{_≤_};
+ghost use Rattle.message.specs.Message.{sealCall, openCall};
+ghost use Rattle.gateway.specs.Word.{wordOf};
+use message::Outcome;
+
+// An answer and its rounds in one word.
+fn word(outcome: Outcome) -> u64
+    requires { ⌜ outcome .rounds ≤ 8912928 ⌝ }
+    ensures { λ r. ⌜ r ≡ wordOf outcome ⌝ }
+{
+    let answer = outcome.answer;
+    16 * outcome.rounds + answers::number(answer)
+}
+
+// Seals a message.
+#[no_mangle]
+pub extern "C" fn kvistmaur_seal(
+    set: u64,
+    key: &[u8],
+    nonce: &[u8],
+    ad: &[u8],
+    text: &[u8],
+    out: &mut [u8],
+    tag: &mut [u8],
+) -> u64
+    ensures { λ r. ⌜ r ≡ wordOf (sealCall set (now (key .entry)) (now (nonce .entry)) (now (ad .entry)) (now (text .entry)) (now (out .entry)) (now (tag .entry)) .outcome) ⌝ }
+    ensures { λ _. ⌜ now (out .exit) ≡ sealCall set (now (key .entry)) (now (nonce .entry)) (now (ad .entry)) (now (text .entry)) (now (out .entry)) (now (tag .entry)) .out ⌝ }
+    ensures { λ _. ⌜ now (tag .exit) ≡ sealCall set (now (key .entry)) (now (nonce .entry)) (now (ad .entry)) (now (text .entry)) (now (out .entry)) (now (tag .entry)) .tag ⌝ }
+{
+    let outcome = message::seal(set, key, nonce, ad, text, out, tag);
+    word(outcome)
+}
+
+// Opens a message.
+#[no_mangle]
+pub extern "C" fn kvistmaur_open(
+    set: u64,
+    key: &[u8],
+    nonce: &[u8],
+    ad: &[u8],
+    cipher: &[u8],
+    tag: &[u8],
+    out: &mut [u8],
+) -> u64
+    ensures { λ r. ⌜ r ≡ wordOf (openCall set (now (key .entry)) (now (nonce .entry)) (now (ad .entry)) (now (cipher .entry)) (now (tag .entry)) (now (out .entry)) .outcome) ⌝ }
+    ensures { λ _. ⌜ now (out .exit) ≡ openCall set (now (key .entry)) (now (nonce .entry)) (now (ad .entry)) (now (cipher .entry)) (now (tag .entry)) (now (out .entry)) .out ⌝ }
+{
+    let outcome = message::open(set, key, nonce, ad, cipher, tag, out);
+    word(outcome)
+}
