@@ -2,3 +2,4 @@
 pub mod Tests
 pub mod Whole
 pub mod Bounds
+pub mod Demands

@@ -1,2 +1,3 @@
 -- The rules of whole messages.
 pub mod Message
+pub mod Demands

@@ -1,0 +1,238 @@
+-- Whole messages answer anything, and are the published cipher: the demands, from what the calls give. Assumes nothing.
+use mathlib.Core.Path.{_≡_, refl, sym, ap, _∙_}
+use mathlib.Core.Bool.{Bool, true, false, cond, not, _&&_, _||_, false≢true}
+use mathlib.Core.List.{List, [], _∷_, _++_}
+use mathlib.Core.Option.{Option, some, none}
+use Prim.Native.Nat.{ℕ, _≤_}
+use native.Mathlib.Omega.{arith}
+use lib.Dec.{eqb, leb, lit≤}
+use lib.ListN.{length, drop}
+use Rattle.answers.specs.declared.Answer.{Answer}
+use Rattle.answers.specs.declared.Answer.the-variants.{Done, UnknownSet, KeyLength, NonceLength, TagLength, PastLimit, NoRoom, OutOfPhase, BrokenState, TagDiffers, BrokenRecord}
+use Rattle.answers.specs.Numbers.{numberOf, isDone}
+use Rattle.ascon.specs.Sets.{isSet, rowOf, dataLimit, textLimit}
+use Rattle.ascon.specs.Mode.{zeros, Sealed, sealed, opened}
+use Rattle.ascon.specs.Rounds.{messageRounds}
+use Rattle.ascon.proofs.Sealing.{open-sealed, seal-opened}
+use Rattle.sponge.proofs.Rows.{row-fits}
+use Rattle.stream.specs.Calls.{startTest}
+use Rattle.message.specs.Message.{messageTest, SealLeaves, sealLeaves, sealCall, OpenLeaves, openLeaves, judged, openCall}
+use Rattle.message.specs.Demands.{Fault, first, faults, isNone, AnswersAnything, IsPublished}
+use Rattle.message.proofs.Tests.{message-passed}
+
+-- ---- the tests are the first fault
+
+-- of the tests as truth values: the tests in a chain, and the faults in a list with a last one
+abbrev chain : Bool → Bool → Bool → Bool → Bool → Bool → Bool → Answer
+chain a b c d e f g =
+    let start = cond a (cond b (cond c Done NonceLength) KeyLength) UnknownSet in
+    cond (isDone start) (cond d (cond (e && f) (cond g Done NoRoom) PastLimit) TagLength) start
+
+abbrev listed : Bool → Bool → Bool → Bool → Bool → Bool → Bool → List Fault
+listed a b c d e f g =
+    record { holds = not a; answer = UnknownSet }
+    ∷ record { holds = not b; answer = KeyLength }
+    ∷ record { holds = not c; answer = NonceLength }
+    ∷ record { holds = not d; answer = TagLength }
+    ∷ record { holds = not e || not f; answer = PastLimit }
+    ∷ record { holds = not g; answer = NoRoom }
+    ∷ []
+
+chain-first : (a b c d e f g : Bool) → chain a b c d e f g ≡ first (listed a b c d e f g)
+chain-first false b c d e f g = refl
+chain-first true false c d e f g = refl
+chain-first true true false d e f g = refl
+chain-first true true true false e f g = refl
+chain-first true true true true false f g = refl
+chain-first true true true true true false g = refl
+chain-first true true true true true true false = refl
+chain-first true true true true true true true = refl
+
+-- with a last fault
+chain-last : (a b c d e f g t : Bool)
+    → cond (isDone (chain a b c d e f g)) (cond t TagDiffers Done) (chain a b c d e f g) ≡ first (listed a b c d e f g ++ record { holds = t; answer = TagDiffers } ∷ [])
+chain-last false b c d e f g t = refl
+chain-last true false c d e f g t = refl
+chain-last true true false d e f g t = refl
+chain-last true true true false e f g t = refl
+chain-last true true true true false f g t = refl
+chain-last true true true true true false g t = refl
+chain-last true true true true true true false t = refl
+chain-last true true true true true true true t = refl
+
+-- the tests answer 0 to 6
+chain-small : (a b c d e f g : Bool) → numberOf (chain a b c d e f g) ≤ 6
+chain-small false b c d e f g = lit≤ tt
+chain-small true false c d e f g = lit≤ tt
+chain-small true true false d e f g = lit≤ tt
+chain-small true true true false e f g = lit≤ tt
+chain-small true true true true false f g = lit≤ tt
+chain-small true true true true true false g = lit≤ tt
+chain-small true true true true true true false = lit≤ tt
+chain-small true true true true true true true = lit≤ tt
+
+-- done is the one answer that is done
+settled : (answer : Answer) → cond (isDone answer) Done answer ≡ answer
+settled Done = refl
+settled UnknownSet = refl
+settled KeyLength = refl
+settled NonceLength = refl
+settled TagLength = refl
+settled PastLimit = refl
+settled NoRoom = refl
+settled OutOfPhase = refl
+settled BrokenState = refl
+settled TagDiffers = refl
+settled BrokenRecord = refl
+
+module _ (set key nonce tag ad text out : ℕ) where
+  test-first : messageTest set key nonce tag ad text out ≡ first (faults set key nonce tag ad text out)
+  unfolding messageTest startTest
+  test-first =
+      chain-first (isSet set) (eqb key (rowOf set .key)) (eqb nonce (rowOf set .key)) (eqb tag (rowOf set .key)) (leb ad dataLimit) (leb text textLimit) (leb text out)
+
+  test-last : (t : Bool)
+      → cond (isDone (messageTest set key nonce tag ad text out)) (cond t TagDiffers Done) (messageTest set key nonce tag ad text out)
+      ≡ first (faults set key nonce tag ad text out ++ record { holds = t; answer = TagDiffers } ∷ [])
+  unfolding messageTest startTest
+  test-last =
+      chain-last (isSet set) (eqb key (rowOf set .key)) (eqb nonce (rowOf set .key)) (eqb tag (rowOf set .key)) (leb ad dataLimit) (leb text textLimit) (leb text out)
+
+  test-small : numberOf (messageTest set key nonce tag ad text out) ≤ 6
+  unfolding messageTest startTest
+  test-small =
+      chain-small (isSet set) (eqb key (rowOf set .key)) (eqb nonce (rowOf set .key)) (eqb tag (rowOf set .key)) (leb ad dataLimit) (leb text textLimit) (leb text out)
+
+-- ---- sealing
+
+module _ (set : ℕ) (K N A P out tag : List ℕ) where
+  seal-test : Answer
+  seal-test = messageTest set (length K) (length N) (length tag) (length A) (length P) (length out)
+
+  seal-passed : isDone seal-test ≡ true
+      → sealCall set K N A P out tag
+      ≡ sealLeaves (record { answer = Done; rounds = messageRounds (rowOf set) (length A) (length P) })
+      (sealed (rowOf set) K N A P .cipher ++ drop (length P) out) (sealed (rowOf set) K N A P .tag)
+  unfolding sealCall seal-test
+  seal-passed e = rw e
+
+  seal-stopped : isDone seal-test ≡ false → sealCall set K N A P out tag ≡ sealLeaves (record { answer = seal-test; rounds = 0 }) out tag
+  unfolding sealCall seal-test
+  seal-stopped e = rw e
+
+  seal-tested : sealCall set K N A P out tag .outcome .answer ≡ seal-test
+  seal-tested = go (isDone seal-test) refl
+    where
+      go : (b : Bool) → isDone seal-test ≡ b → sealCall set K N A P out tag .outcome .answer ≡ seal-test
+      go true e = ap (λ (s : SealLeaves). s .outcome .answer) (seal-passed e) ∙ ap (λ (b : Bool). cond b Done seal-test) (sym e) ∙ settled seal-test
+      go false e = ap (λ (s : SealLeaves). s .outcome .answer) (seal-stopped e)
+
+-- ---- opening
+
+judged-answer : (opening : Option (List ℕ)) (rounds n : ℕ) (out : List ℕ) → judged opening rounds n out .outcome .answer ≡ cond (isNone opening) TagDiffers Done
+judged-answer (some P) rounds n out = refl
+judged-answer none rounds n out = refl
+
+judged-none : (opening : Option (List ℕ)) (rounds n : ℕ) (out : List ℕ) → judged opening rounds n out .outcome .answer ≡ TagDiffers
+    → judged opening rounds n out ≡ openLeaves (record { answer = TagDiffers; rounds = rounds }) (zeros n ++ drop n out)
+judged-none (some P) rounds n out e = absurd (let z : 0 ≡ 9 = ap numberOf e in omega arith)
+judged-none none rounds n out e = refl
+
+judged-some : (opening : Option (List ℕ)) (rounds n : ℕ) (out : List ℕ) → judged opening rounds n out .outcome .answer ≡ Done → (P : List ℕ) × (opening ≡ some P)
+judged-some (some P) rounds n out e = (P, refl)
+judged-some none rounds n out e = absurd (let z : 9 ≡ 0 = ap numberOf e in omega arith)
+
+module _ (set : ℕ) (K N A C T out : List ℕ) where
+  open-test : Answer
+  open-test = messageTest set (length K) (length N) (length T) (length A) (length C) (length out)
+
+  open-passed : isDone open-test ≡ true
+      → openCall set K N A C T out ≡ judged (opened (rowOf set) K N A C T) (messageRounds (rowOf set) (length A) (length C)) (length C) out
+  unfolding openCall open-test
+  open-passed e = rw e
+
+  open-stopped : isDone open-test ≡ false → openCall set K N A C T out ≡ openLeaves (record { answer = open-test; rounds = 0 }) out
+  unfolding openCall open-test
+  open-stopped e = rw e
+
+  open-tested : openCall set K N A C T out .outcome .answer ≡ cond (isDone open-test) (cond (isNone (opened (rowOf set) K N A C T)) TagDiffers Done) open-test
+  open-tested = go (isDone open-test) refl
+    where
+      go : (b : Bool) → isDone open-test ≡ b
+          → openCall set K N A C T out .outcome .answer ≡ cond b (cond (isNone (opened (rowOf set) K N A C T)) TagDiffers Done) open-test
+      go true e = ap (λ (s : OpenLeaves). s .outcome .answer) (open-passed e) ∙ judged-answer (opened (rowOf set) K N A C T) _ _ out
+      go false e = ap (λ (s : OpenLeaves). s .outcome .answer) (open-stopped e)
+
+  open-differing : openCall set K N A C T out .outcome .answer ≡ TagDiffers
+      → openCall set K N A C T out
+      ≡ openLeaves (record { answer = TagDiffers; rounds = messageRounds (rowOf set) (length A) (length C) }) (zeros (length C) ++ drop (length C) out)
+  unfolding open-test
+  open-differing x = go (isDone open-test) refl
+    where
+      go : (b : Bool) → isDone open-test ≡ b → openCall set K N A C T out
+          ≡ openLeaves (record { answer = TagDiffers; rounds = messageRounds (rowOf set) (length A) (length C) }) (zeros (length C) ++ drop (length C) out)
+      go true e = open-passed e ∙ judged-none (opened (rowOf set) K N A C T) _ (length C) out (sym (ap (λ (s : OpenLeaves). s .outcome .answer) (open-passed e)) ∙ x)
+      go false e =
+          let nine : numberOf open-test ≡ 9 = ap numberOf (sym (ap (λ (s : OpenLeaves). s .outcome .answer) (open-stopped e)) ∙ x) in
+          absurd (omega (arith, nine, test-small set (length K) (length N) (length T) (length A) (length C) (length out)))
+
+  -- with no refusal 1 to 6
+  module _ (e : first (faults set (length K) (length N) (length T) (length A) (length C) (length out)) ≡ Done) where
+    done : isDone open-test ≡ true
+    unfolding open-test
+    done = ap isDone (test-first set (length K) (length N) (length T) (length A) (length C) (length out) ∙ e)
+
+    key : length K ≡ rowOf set .key
+    unfolding open-test
+    key = message-passed set (length K) (length N) (length T) (length A) (length C) (length out) done .key-fits
+
+    opened-by : (P : List ℕ) → sealed (rowOf set) K N A P ≡ record { cipher = C; tag = T } → opened (rowOf set) K N A C T ≡ some P
+    opened-by P s = ap (λ (w : Sealed). opened (rowOf set) K N A (w .cipher) (w .tag)) (sym s) ∙ open-sealed (rowOf set) (row-fits set) K key N A P
+
+    handed : (P : List ℕ) → sealed (rowOf set) K N A P ≡ record { cipher = C; tag = T }
+        → openCall set K N A C T out
+        ≡ openLeaves (record { answer = Done; rounds = messageRounds (rowOf set) (length A) (length C) }) (P ++ drop (length C) out)
+    handed P s = open-passed done ∙ ap (λ (o : Option (List ℕ)). judged o (messageRounds (rowOf set) (length A) (length C)) (length C) out) (opened-by P s)
+
+    sealing-of : openCall set K N A C T out .outcome .answer ≡ Done → (P : List ℕ) × (sealed (rowOf set) K N A P ≡ record { cipher = C; tag = T })
+    sealing-of x =
+        let found = judged-some (opened (rowOf set) K N A C T) _ (length C) out (sym (ap (λ (s : OpenLeaves). s .outcome .answer) (open-passed done)) ∙ x) in
+        (found .0, seal-opened (rowOf set) (row-fits set) K key N A (found .0) C T (found .1))
+
+-- ---- the demands
+
+pub answers-anything : AnswersAnything
+unfolding seal-test open-test
+answers-anything =
+    record {
+      seal-answer = λ set K N A P out tag. seal-tested set K N A P out tag ∙ test-first set (length K) (length N) (length tag) (length A) (length P) (length out);
+      seal-refused = λ set K N A P out tag answer e f.
+          let test = sym (seal-tested set K N A P out tag) ∙ e in
+          seal-stopped set K N A P out tag (ap isDone test ∙ f) ∙ ap (λ (a : Answer). sealLeaves (record { answer = a; rounds = 0 }) out tag) test;
+      open-answer = λ set K N A C T out.
+          open-tested set K N A C T out
+          ∙ test-last set (length K) (length N) (length T) (length A) (length C) (length out) (isNone (opened (rowOf set) K N A C T));
+      open-refused = λ set K N A C T out answer e f.
+          let test = test-first set (length K) (length N) (length T) (length A) (length C) (length out) ∙ e in
+          open-stopped set K N A C T out (ap isDone test ∙ f) ∙ ap (λ (a : Answer). openLeaves (record { answer = a; rounds = 0 }) out) test;
+      open-differs = open-differing;
+    }
+
+pub is-published : IsPublished
+unfolding seal-test
+is-published =
+    record {
+      seals = λ set K N A P out tag e. seal-passed set K N A P out tag (ap isDone (sym (seal-tested set K N A P out tag) ∙ e));
+      opens = λ set K N A C T out e. (
+        sealing-of set K N A C T out e,
+        λ (z : (P : List ℕ) × (sealed (rowOf set) K N A P ≡ record { cipher = C; tag = T })).
+            ap (λ (s : OpenLeaves). s .outcome .answer) (handed set K N A C T out e (z .0) (z .1)),
+      );
+      hands = λ set K N A C T out P e s. handed set K N A C T out e P s;
+      only = λ set K N A P Q key e.
+          let same : some P ≡ some Q =
+          sym (open-sealed (rowOf set) (row-fits set) K key N A P)
+          ∙ ap (λ (w : Sealed). opened (rowOf set) K N A (w .cipher) (w .tag)) e
+          ∙ open-sealed (rowOf set) (row-fits set) K key N A Q in
+          cc;
+    }
