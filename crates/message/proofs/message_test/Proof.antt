@@ -1,9 +1,12 @@
 -- `message::message_test` meets its contract. Assumes nothing.
 use mathlib.Core.Path.{_≡_, sym, ap, _∙_}
 use mathlib.Core.Bool.{true}
+use native.Mathlib.Omega.{arith}
+use lib.Dec.{eqb, leb}
 use borrow.Author.Needs.{needs}
 use borrow.Author.Tests.{not-true, not-false, eq-eqb, ne-eqb, lt-leb, le-leb}
 use Rattle.answers.specs.Numbers.{isDone}
+use Rattle.ascon.specs.Sets.{rowOf}
 use Rattle.stream.specs.Calls.{startTest}
 use Rattle.message.specs.Message.{messageTest}
 use Rattle.message.proofs.message_test.Statement.{statement}
@@ -28,44 +31,42 @@ key-length-requires c κs = search needs
 
 returns-2 : tie.Need-returns-2
 unfolding messageTest
-returns-2 c = rw (started (c .before .before), ← c .before .key-length .ensures, ne-eqb _ _ (c .if2 .taken))
+returns-2 c =
+    let a = c .before .before .before .before .before .args in
+    rw (started (c .before .before), ne-eqb (a .tag) (rowOf (a .set) .key) (λ e. omega (arith, c .before .key-length .ensures, c .if2 .taken)))
+
+-- the tag's length is passed
+tagged : (c : tie.Else2) → let a = c .before .before .before .before .before .args in eqb (a .tag) (rowOf (a .set) .key) ≡ true
+tagged c =
+    let a = c .before .before .before .before .before .args in
+    eq-eqb (a .tag) (rowOf (a .set) .key) (omega (arith, c .before .key-length .ensures, c .if2 .left))
 
 returns-3 : tie.Need-returns-3
 unfolding messageTest
 returns-3 c =
-    rw (started (c .before .before .before), eq-eqb _ _ (c .before .if2 .left ∙ c .before .before .key-length .ensures), lt-leb _ _ (c .if3 .taken))
+    let a = c .before .before .before .before .before .before .args in rw (started (c .before .before .before), tagged (c .before), lt-leb (a .ad) 65_536 (omega arith))
 
 returns-4 : tie.Need-returns-4
 unfolding messageTest
 returns-4 c =
-    rw (
-      started (c .before .before .before .before),
-      eq-eqb _ _ (c .before .before .if2 .left ∙ c .before .before .before .key-length .ensures),
-      le-leb _ _ (c .before .if3 .left),
-      lt-leb _ _ (c .if4 .taken),
-    )
+    let a = c .before .before .before .before .before .before .before .args in
+    rw (started (c .before .before .before .before), tagged (c .before .before), le-leb (a .ad) 65_536 (omega arith), lt-leb (a .text) 1_048_576 (omega arith))
+
+-- the limits are passed
+limited : (c : tie.Else4) → let a = c .before .before .before .before .before .before .before .args in (leb (a .ad) 65_536 ≡ true) × (leb (a .text) 1_048_576 ≡ true)
+limited c = let a = c .before .before .before .before .before .before .before .args in (le-leb (a .ad) 65_536 (omega arith), le-leb (a .text) 1_048_576 (omega arith))
 
 returns-5 : tie.Need-returns-5
 unfolding messageTest
 returns-5 c =
-    rw (
-      started (c .before .before .before .before .before),
-      eq-eqb _ _ (c .before .before .before .if2 .left ∙ c .before .before .before .before .key-length .ensures),
-      le-leb _ _ (c .before .before .if3 .left),
-      le-leb _ _ (c .before .if4 .left),
-      lt-leb _ _ (c .if5 .taken),
-    )
+    let a = c .before .before .before .before .before .before .before .before .args in
+    rw (started (c .before .before .before .before .before), tagged (c .before .before .before), limited (c .before) .0, limited (c .before) .1, lt-leb (a .text) (a .out) (omega arith))
 
 returns-6 : tie.Need-returns-6
 unfolding messageTest
 returns-6 c =
-    rw (
-      started (c .before .before .before .before .before),
-      eq-eqb _ _ (c .before .before .before .if2 .left ∙ c .before .before .before .before .key-length .ensures),
-      le-leb _ _ (c .before .before .if3 .left),
-      le-leb _ _ (c .before .if4 .left),
-      le-leb _ _ (c .if5 .left),
-    )
+    let a = c .before .before .before .before .before .before .before .before .args in
+    rw (started (c .before .before .before .before .before), tagged (c .before .before .before), limited (c .before) .0, limited (c .before) .1, le-leb (a .text) (a .out) (omega arith))
 
 pub message-test-spec : {M : Type 1} → statement M
 message-test-spec =

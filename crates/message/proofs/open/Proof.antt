@@ -80,7 +80,9 @@ returns-2 c =
     (λ j. openLeaves (record { answer = Done; rounds = c .before .before .message-rounds .ensures j }) (c .before .before .before .before .before .process .ensures .1 j))
 
 clear-requires : tie.Need-clear-requires
-clear-requires c κs = let h = passed (c .before .before .before .before .before .before .before .before) in rw (c .before .before .before .before .before .out .given) (h .room)
+clear-requires c κs =
+    let h = passed (c .before .before .before .before .before .before .before .before) in
+    omega (arith, h .room, c .before .before .before .before .before .out .given)
 
 same-length-2 : tie.Need-same-length-2
 same-length-2 c = search needs
