@@ -1,14 +1,25 @@
-//! For build scripts: has `host/archive` write the static library of a Rattle crate, and links it.
+//! For build scripts: has `host/archive` write the static library of a Rattle crate, and links a copy of it.
 use std::path::Path;
 use std::process::Command;
 
-/// Links the static library of the Rattle crate `name`.
+/// Links the static library of the Rattle crate `name`. The copy outlives the library, which `rt ci` removes with its other results.
 pub fn archive(name: &str) {
     let host = Path::new(env!("CARGO_MANIFEST_DIR")).join("..");
     let status = Command::new(host.join("archive")).arg(name).status();
-    assert!(status.is_ok_and(|s| s.success()), "`host/archive {name}` wrote no library");
-    println!("cargo:rerun-if-changed={}", host.join("archive").display());
-    println!("cargo:rerun-if-changed={}", host.join("../crates").display());
-    println!("cargo:rustc-link-search=native={}", host.join("../target/native").display());
+    assert!(
+        status.is_ok_and(|s| s.success()),
+        "`host/archive {name}` wrote no library"
+    );
+    let out = std::env::var("OUT_DIR").expect("cargo names the folder of a build script");
+    let file = format!("lib{name}.a");
+    std::fs::copy(
+        host.join("../target/native").join(&file),
+        Path::new(&out).join(&file),
+    )
+    .expect("the library can be copied");
+    for source in ["archive", "../crates", "../crates.txt"] {
+        println!("cargo:rerun-if-changed={}", host.join(source).display());
+    }
+    println!("cargo:rustc-link-search=native={out}");
     println!("cargo:rustc-link-lib=static={name}");
 }

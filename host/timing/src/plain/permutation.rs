@@ -1,16 +1,18 @@
-//! The same permutation as a Rust programmer would write it: the baseline that the model is timed beside.
+//! The permutation, bit-sliced.
 
 /// Table 2 of the Ascon v1 document.
-const CONSTANTS: [u64; 12] = [0xf0, 0xe1, 0xd2, 0xc3, 0xb4, 0xa5, 0x96, 0x87, 0x78, 0x69, 0x5a, 0x4b];
+const CONSTANTS: [u64; 12] = [
+    0xf0, 0xe1, 0xd2, 0xc3, 0xb4, 0xa5, 0x96, 0x87, 0x78, 0x69, 0x5a, 0x4b,
+];
 
-/// One bit-sliced round.
+/// One round in place.
 #[inline(always)]
 fn round(x: &mut [u64; 5], constant: u64) {
     x[2] ^= constant;
     x[0] ^= x[4];
     x[4] ^= x[3];
     x[2] ^= x[1];
-    let t = [!x[0] & x[1], !x[1] & x[2], !x[2] & x[3], !x[3] & x[4], !x[4] & x[0]];
+    let t: [u64; 5] = std::array::from_fn(|i| !x[i] & x[(i + 1) % 5]);
     x[0] ^= t[1];
     x[1] ^= t[2];
     x[2] ^= t[3];
@@ -27,13 +29,22 @@ fn round(x: &mut [u64; 5], constant: u64) {
     x[4] ^= x[4].rotate_right(7) ^ x[4].rotate_right(41);
 }
 
-/// Runs the first rounds of the table in place, and gives their number.
+/// The first rounds of the table, in place.
+#[inline(always)]
+pub fn run<const ROUNDS: usize>(words: &mut [u64; 5]) {
+    for &constant in &CONSTANTS[..ROUNDS] {
+        round(words, constant);
+    }
+}
+
+/// Runs twelve, eight or six rounds in place and gives their number; 0 for any other number.
 #[inline(never)]
 pub fn permute(rounds: u64, words: &mut [u64; 5]) -> u64 {
-    let mut x = *words;
-    for &constant in &CONSTANTS[..rounds as usize] {
-        round(&mut x, constant);
+    match rounds {
+        12 => run::<12>(words),
+        8 => run::<8>(words),
+        6 => run::<6>(words),
+        _ => return 0,
     }
-    *words = x;
     rounds
 }

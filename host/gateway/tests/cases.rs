@@ -1,0 +1,87 @@
+//! The cases that the rules name, on each side of a limit.
+
+use gateway::{open, seal, Refusal, Rounds, Set, DATA_LIMIT, TEXT_LIMIT};
+
+const SET: Set = Set::Ascon128;
+
+/// The lengths of a call in set 1.
+struct Lengths {
+    key: usize,
+    nonce: usize,
+    data: usize,
+    text: usize,
+    room: usize,
+}
+
+/// Spoils the lengths of a call that fits, and checks that sealing and opening both refuse so and leave every byte.
+fn refused(spoil: fn(&mut Lengths), refusal: Refusal, number: u64) {
+    let mut lengths = Lengths {
+        key: 16,
+        nonce: 16,
+        data: 8,
+        text: 21,
+        room: 21,
+    };
+    spoil(&mut lengths);
+    let (key, nonce) = (vec![7; lengths.key], vec![1; lengths.nonce]);
+    let (data, text) = (vec![2; lengths.data], vec![3; lengths.text]);
+    let (mut out, mut tag) = (vec![4; lengths.room], [5; 16]);
+
+    let sealed = seal(SET, &key, &nonce, &data, &text, &mut out, &mut tag);
+    let opened = open(SET, &key, &nonce, &data, &text, &tag, &mut out);
+    assert_eq!((sealed, opened), (Err(refusal), Err(refusal)));
+    assert_eq!(refusal.number(), number);
+    assert_eq!((out, tag), (vec![4; lengths.room], [5; 16]));
+}
+
+#[test]
+fn data_of_65537_bytes() {
+    refused(|of| of.data = 65_537, Refusal::PastLimit, 5);
+}
+
+#[test]
+fn text_of_1048577_bytes() {
+    let spoil = |of: &mut Lengths| (of.text, of.room) = (1_048_577, 1_048_577);
+    refused(spoil, Refusal::PastLimit, 5);
+}
+
+#[test]
+fn output_one_byte_short() {
+    refused(|of| of.room = of.text - 1, Refusal::OutputTooShort, 6);
+}
+
+#[test]
+fn key_of_15_bytes_in_set_1() {
+    refused(|of| of.key = 15, Refusal::KeyLength, 2);
+}
+
+#[test]
+fn key_of_15_bytes_in_set_1_with_a_wrong_nonce() {
+    let spoil = |of: &mut Lengths| (of.key, of.nonce) = (15, 15);
+    refused(spoil, Refusal::KeyLength, 2);
+}
+
+/// P7 to P12, run: the rounds of messages around the block edges and at both limits.
+#[test]
+fn rounds_of_the_table() {
+    for (set, data, text, rounds) in [
+        (Set::Ascon128, 0, 0, 24),
+        (Set::Ascon128, 7, 7, 30),
+        (Set::Ascon128, 8, 0, 36),
+        (Set::Ascon128, 1, 8, 36),
+        (Set::Ascon96, 16, 15, 40),
+        (Set::Ascon128, DATA_LIMIT, TEXT_LIMIT, 835_614),
+    ] {
+        // One slice serves as key and as nonce: what is only read may be lent twice.
+        let key = vec![7; set.key_length()];
+        let (data, text) = (vec![2; data], vec![3; text]);
+        let (mut cipher, mut tag) = (vec![0; text.len()], vec![0; set.key_length()]);
+        let sealed = seal(set, &key, &key, &data, &text, &mut cipher, &mut tag);
+        assert_eq!(sealed, Ok(Rounds(rounds)));
+
+        let mut opened = vec![0; text.len()];
+        let answer = open(set, &key, &key, &data, &cipher, &tag, &mut opened);
+        assert_eq!(answer, Ok(Rounds(rounds)));
+        assert_eq!(opened, text);
+    }
+}

@@ -1,0 +1,109 @@
+//! Whole-message calls with the model's answers.
+
+use super::sponge::Sponge;
+use gateway::{Refusal, Rounds, Set, DATA_LIMIT, TEXT_LIMIT};
+
+/// Seals as the model does.
+#[inline(never)]
+pub fn seal(
+    set: Set,
+    key: &[u8],
+    nonce: &[u8],
+    data: &[u8],
+    text: &[u8],
+    out: &mut [u8],
+    tag: &mut [u8],
+) -> Result<Rounds, Refusal> {
+    match set {
+        Set::Ascon128 => seal_in::<16, 8, 6>(key, nonce, data, text, out, tag),
+        Set::Ascon96 => seal_in::<12, 16, 8>(key, nonce, data, text, out, tag),
+    }
+}
+
+/// Opens as the model does.
+#[inline(never)]
+pub fn open(
+    set: Set,
+    key: &[u8],
+    nonce: &[u8],
+    data: &[u8],
+    cipher: &[u8],
+    tag: &[u8],
+    out: &mut [u8],
+) -> Result<Rounds, Refusal> {
+    match set {
+        Set::Ascon128 => open_in::<16, 8, 6>(key, nonce, data, cipher, tag, out),
+        Set::Ascon96 => open_in::<12, 16, 8>(key, nonce, data, cipher, tag, out),
+    }
+}
+
+/// Seals in the set with these lengths of key and block and this number of middle rounds.
+fn seal_in<const KEY: usize, const BLOCK: usize, const MIDDLE: usize>(
+    key: &[u8],
+    nonce: &[u8],
+    data: &[u8],
+    text: &[u8],
+    out: &mut [u8],
+    tag: &mut [u8],
+) -> Result<Rounds, Refusal> {
+    let (key, nonce) = fitting::<KEY>(key, nonce, tag)?;
+    let out = room(data, text, out)?;
+    let mut sponge = Sponge::<KEY, BLOCK, MIDDLE>::start(key, nonce, data);
+    sponge.encrypt(text, out);
+    tag.copy_from_slice(&sponge.end(key));
+    Ok(rounds::<BLOCK, MIDDLE>(data, text))
+}
+
+/// Opens in the set with these lengths of key and block and this number of middle rounds.
+fn open_in<const KEY: usize, const BLOCK: usize, const MIDDLE: usize>(
+    key: &[u8],
+    nonce: &[u8],
+    data: &[u8],
+    cipher: &[u8],
+    tag: &[u8],
+    out: &mut [u8],
+) -> Result<Rounds, Refusal> {
+    let (key, nonce) = fitting::<KEY>(key, nonce, tag)?;
+    let out = room(data, cipher, out)?;
+    let mut sponge = Sponge::<KEY, BLOCK, MIDDLE>::start(key, nonce, data);
+    sponge.decrypt(cipher, out);
+    let ours = sponge.end(key);
+    let rounds = rounds::<BLOCK, MIDDLE>(data, cipher);
+    if ours.iter().zip(tag).fold(0, |all, (a, b)| all | (a ^ b)) == 0 {
+        Ok(rounds)
+    } else {
+        out.fill(0);
+        Err(Refusal::TagDiffers { rounds })
+    }
+}
+
+/// Key and nonce, when they and the tag have the set's length.
+fn fitting<'a, const KEY: usize>(
+    key: &'a [u8],
+    nonce: &'a [u8],
+    tag: &[u8],
+) -> Result<(&'a [u8; KEY], &'a [u8; KEY]), Refusal> {
+    let key = key.try_into().map_err(|_| Refusal::KeyLength)?;
+    let nonce = nonce.try_into().map_err(|_| Refusal::NonceLength)?;
+    if tag.len() != KEY {
+        return Err(Refusal::TagLength);
+    }
+    Ok((key, nonce))
+}
+
+/// The part of the output that the text needs, when it is there and nothing passes its limit.
+fn room<'a>(data: &[u8], text: &[u8], out: &'a mut [u8]) -> Result<&'a mut [u8], Refusal> {
+    if data.len() > DATA_LIMIT || text.len() > TEXT_LIMIT {
+        return Err(Refusal::PastLimit);
+    }
+    out.get_mut(..text.len()).ok_or(Refusal::OutputTooShort)
+}
+
+/// The rounds of a message.
+fn rounds<const BLOCK: usize, const MIDDLE: usize>(data: &[u8], text: &[u8]) -> Rounds {
+    let data_blocks = match data.len() {
+        0 => 0,
+        length => length / BLOCK + 1,
+    };
+    Rounds((24 + MIDDLE * (data_blocks + text.len() / BLOCK)) as u64)
+}
