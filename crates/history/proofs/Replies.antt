@@ -73,9 +73,6 @@ shut-data Data e = absurd (true≢false e)
 shut-data Text e = refl
 shut-data Ended e = refl
 
-pub and-false : (a b : Bool) → a ≡ false → (a && b) ≡ false
-and-false a b e = rw e
-
 -- ---- the answers, by the tests
 
 abbrev sealFits : Stream → Bool

@@ -8,8 +8,9 @@ use native.Mathlib.Omega.{arith}
 use lib.Dec.{eqb, leb, lit≤}
 use lib.ListN.{length, drop}
 use Rattle.answers.specs.declared.Answer.{Answer}
-use Rattle.answers.specs.declared.Answer.the-variants.{Done, UnknownSet, KeyLength, NonceLength, TagLength, PastLimit, NoRoom, OutOfPhase, BrokenState, TagDiffers, BrokenRecord}
+use Rattle.answers.specs.declared.Answer.the-variants.{Done, UnknownSet, KeyLength, NonceLength, TagLength, PastLimit, NoRoom, TagDiffers}
 use Rattle.answers.specs.Numbers.{numberOf, isDone}
+use Rattle.answers.proofs.Numbers.{done-is}
 use Rattle.ascon.specs.Sets.{isSet, rowOf, dataLimit, textLimit}
 use Rattle.ascon.specs.Mode.{zeros, Sealed, sealed, opened}
 use Rattle.ascon.specs.Rounds.{messageRounds}
@@ -71,20 +72,6 @@ chain-small true true true true true false g = lit≤ tt
 chain-small true true true true true true false = lit≤ tt
 chain-small true true true true true true true = lit≤ tt
 
--- done is the one answer that is done
-settled : (answer : Answer) → cond (isDone answer) Done answer ≡ answer
-settled Done = refl
-settled UnknownSet = refl
-settled KeyLength = refl
-settled NonceLength = refl
-settled TagLength = refl
-settled PastLimit = refl
-settled NoRoom = refl
-settled OutOfPhase = refl
-settled BrokenState = refl
-settled TagDiffers = refl
-settled BrokenRecord = refl
-
 module _ (set key nonce tag ad text out : ℕ) where
   test-first : messageTest set key nonce tag ad text out ≡ first (faults set key nonce tag ad text out)
   unfolding messageTest startTest
@@ -124,7 +111,7 @@ module _ (set : ℕ) (K N A P out tag : List ℕ) where
   seal-tested = go (isDone seal-test) refl
     where
       go : (b : Bool) → isDone seal-test ≡ b → sealCall set K N A P out tag .outcome .answer ≡ seal-test
-      go true e = ap (λ (s : SealLeaves). s .outcome .answer) (seal-passed e) ∙ ap (λ (b : Bool). cond b Done seal-test) (sym e) ∙ settled seal-test
+      go true e = ap (λ (s : SealLeaves). s .outcome .answer) (seal-passed e) ∙ sym (done-is seal-test e)
       go false e = ap (λ (s : SealLeaves). s .outcome .answer) (seal-stopped e)
 
 -- ---- opening
