@@ -60,13 +60,24 @@ fn put_key(w: &mut [u64; 5], place: usize, key: [u8; 16], n: usize)
     }
 }
 
-// What is combined into the state, of the byte that came and the byte that went out: the plaintext's.
-fn feed(way: Way, came: u8, gone: u8) -> u8
-    ensures { λ r. ⌜ r ≡ feedOf way came gone ⌝ }
+// Puts a byte in the place of the one at a place of the words.
+fn replace_byte(w: &mut [u64; 5], place: usize, x: u8)
+    requires { ⌜ place < 40 ⌝ }
+    ensures { λ _. ⌜ now (w .exit) ≡ withByte (now (w .entry)) place (goneOf (now (w .entry)) place x) ⌝ }
+{
+    let k = place / 8;
+    let s = 56 - 8 * (place % 8);
+    w[k] = w[k] ^ ((w[k] & (255 << s)) ^ ((x as u64) << s));
+}
+
+// Takes a byte into the words where they lie: combined, or in the place of the one there.
+fn take_byte(way: Way, w: &mut [u64; 5], place: usize, came: u8)
+    requires { ⌜ place < 40 ⌝ }
+    ensures { λ _. ⌜ now (w .exit) ≡ withByte (now (w .entry)) place (feedOf way came (goneOf (now (w .entry)) place came)) ⌝ }
 {
     match way {
-        Way::Seal => came,
-        Way::Open => gone,
+        Way::Seal => put_byte(w, place, came),
+        Way::Open => replace_byte(w, place, came),
     }
 }
 
@@ -76,14 +87,14 @@ struct Placed {
     gone: u8,
 }
 
-// Takes one byte into the words where they lie.
+// One byte: it is taken, and the words are run where it fills a block.
 fn step(set: u64, way: Way, w: &mut [u64; 5], place: usize, came: u8) -> Placed
     requires { ⌜ place < 40 ⌝ }
     ensures { λ r. ⌜ r .gone ≡ goneOf (now (w .entry)) place came ⌝ }
     ensures { λ r. ⌜ at (now (w .exit)) (r .place) ≡ stepped (rowOf set) way (at (now (w .entry)) place) came ⌝ }
 {
     let gone = byte_at(&*w, place) ^ came;
-    put_byte(&mut *w, place, feed(way, came, gone));
+    take_byte(way, &mut *w, place, came);
     if place + 1 == sets::block_length(set) {
         permutation::permute_words(&mut *w, sets::between(set));
         return Placed { place: 0, gone };
