@@ -22,7 +22,7 @@ use Rattle.ascon.proofs.Sealing.{open-sealed, seal-opened}
 use Rattle.sponge.specs.declared.Way.{Way}
 use Rattle.sponge.specs.declared.Way.the-variants.{Seal, Open}
 use Rattle.sponge.specs.Sponge.{absorbed, tagOf}
-use Rattle.sponge.proofs.Rows.{row-sizes}
+use Rattle.sets.proofs.Rows.{row-sizes}
 use Rattle.stream.specs.declared.Direction.{Direction}
 use Rattle.stream.specs.declared.Direction.the-variants.{Sealing, Checking}
 use Rattle.stream.specs.declared.Phase.{Phase}

@@ -21,7 +21,7 @@ use Rattle.ascon.proofs.Sealing.{Fits}
 use Rattle.sponge.specs.declared.Way.{Way}
 use Rattle.sponge.specs.declared.Way.the-variants.{Seal, Open}
 use Rattle.sponge.specs.Sponge.{keepOf, absorbed, given, dataClosed}
-use Rattle.sponge.proofs.Rows.{row-sizes, row-fits}
+use Rattle.sets.proofs.Rows.{row-sizes, row-fits}
 use Rattle.stream.specs.declared.Direction.{Direction}
 use Rattle.stream.specs.declared.Direction.the-variants.{Sealing, Checking}
 use Rattle.stream.specs.declared.Phase.{Phase}

@@ -13,7 +13,7 @@ use Rattle.permutation.specs.Runs.{roundsOf, constantsOf, constants}
 use Rattle.ascon.specs.Sets.{rowOf, dataLimit, textLimit}
 use Rattle.ascon.specs.Mode.{opened}
 use Rattle.ascon.specs.Rounds.{dataBlocks, textBlocks, messageRounds}
-use Rattle.sponge.proofs.Rows.{row-sizes}
+use Rattle.sets.proofs.Rows.{row-sizes}
 use Rattle.message.specs.Message.{messageTest, SealLeaves, sealCall, OpenLeaves, judged, openCall}
 use Rattle.message.proofs.Tests.{message-passed}
 

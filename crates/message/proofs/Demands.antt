@@ -15,7 +15,7 @@ use Rattle.ascon.specs.Sets.{isSet, rowOf, dataLimit, textLimit}
 use Rattle.ascon.specs.Mode.{zeros, Sealed, sealed, opened}
 use Rattle.ascon.specs.Rounds.{messageRounds}
 use Rattle.ascon.proofs.Sealing.{open-sealed, seal-opened}
-use Rattle.sponge.proofs.Rows.{row-fits}
+use Rattle.sets.proofs.Rows.{row-fits}
 use Rattle.stream.specs.Calls.{startTest}
 use Rattle.message.specs.Message.{messageTest, SealLeaves, sealLeaves, sealCall, OpenLeaves, openLeaves, judged, openCall}
 use Rattle.message.specs.Demands.{Fault, first, faults, isNone, AnswersAnything, IsPublished}

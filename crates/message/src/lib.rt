@@ -33,7 +33,7 @@ fn message_test(
     if !answers::is_done(start) {
         return start;
     }
-    if tag != sponge::key_length(set) {
+    if tag != sets::key_length(set) {
         return Answer::TagLength;
     }
     if 65536 < ad {
@@ -57,7 +57,7 @@ fn data_blocks(set: u64, ad: usize) -> usize
     if ad == 0 {
         return 0;
     }
-    ad / sponge::block_length(set) + 1
+    ad / sets::block_length(set) + 1
 }
 
 // The rounds of a message, by the lengths of its data and of its text.
@@ -66,8 +66,8 @@ fn message_rounds(set: u64, ad: usize, text: usize) -> u64
     requires { ⌜ text ≤ 1048576 ⌝ }
     ensures { λ r. ⌜ r ≡ messageRounds (rowOf set) ad text ⌝ }
 {
-    let blocks = data_blocks(set, ad) + text / sponge::block_length(set);
-    24 + sponge::rounds_between(set) * (blocks as u64)
+    let blocks = data_blocks(set, ad) + text / sets::block_length(set);
+    24 + sets::rounds_between(set) * (blocks as u64)
 }
 
 // Processes a text in a direction into `out`, and gives the tag with zeros behind it.

@@ -20,7 +20,7 @@ use Rattle.ascon.proofs.Sealing.{Fits, length-tag}
 use Rattle.ascon.proofs.Strings.{length-xor, getD-xor, xor-fill, combined-xor}
 use Rattle.sponge.specs.Sponge.{frontOf, started, dataClosed, tagOf, finished}
 use Rattle.sponge.specs.Words.{byteOf, withByte, withBytes, maskedEnd}
-use Rattle.sponge.proofs.Rows.{Sizes}
+use Rattle.sets.proofs.Rows.{Sizes}
 use Rattle.sponge.proofs.Words.{Five, byte-view, put-view, puts-view, five-put, five-puts, five-run, words-view, run-view, length-five}
 
 -- sixteen bytes

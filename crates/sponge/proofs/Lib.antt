@@ -1,5 +1,4 @@
 -- The laws by which the functions on words are the published ones on bytes.
-pub mod Rows
 pub mod Words
 pub mod Ends
 pub mod Fronts

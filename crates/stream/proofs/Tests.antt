@@ -16,7 +16,7 @@ use Rattle.answers.specs.Numbers.{isDone}
 use Rattle.permutation.specs.Runs.{roundsOf}
 use Rattle.ascon.specs.Sets.{ParameterSet, isSet, rowOf}
 use Rattle.ascon.specs.Mode.{zeros}
-use Rattle.sponge.proofs.Rows.{Sizes, row-sizes}
+use Rattle.sets.proofs.Rows.{Sizes, row-sizes}
 use Rattle.stream.specs.State.{allZero, isData, isSound}
 use Rattle.stream.specs.Calls.{filledRounds, closingRounds, startTest, pieceTest, finishTest}
 use Rattle.stream.specs.declared.Stream.{Stream}

@@ -120,22 +120,22 @@ fn filled_rounds(set: u64, count: usize, n: usize) -> u64
     requires { ⌜ count + n ≤ 1048576 ⌝ }
     ensures { λ r. ⌜ r ≡ filledRounds (rowOf set) count n ⌝ }
 {
-    let block = sponge::block_length(set);
+    let block = sets::block_length(set);
     let blocks = (count + n) / block - count / block;
-    sponge::rounds_between(set) * (blocks as u64)
+    sets::rounds_between(set) * (blocks as u64)
 }
 
 // The tests of a start: set, key length, nonce length.
 pub fn start_test(set: u64, key: usize, nonce: usize) -> Answer
     ensures { λ r. ⌜ r ≡ startTest set key nonce ⌝ }
 {
-    if !sponge::is_set(set) {
+    if !sets::is_set(set) {
         return Answer::UnknownSet;
     }
-    if key != sponge::key_length(set) {
+    if key != sets::key_length(set) {
         return Answer::KeyLength;
     }
-    if nonce != sponge::key_length(set) {
+    if nonce != sets::key_length(set) {
         return Answer::NonceLength;
     }
     Answer::Done
@@ -176,14 +176,14 @@ impl Stream {
         let set = self.set;
         let key = self.key;
         sponge::both(
-            sponge::is_set(set),
+            sets::is_set(set),
             sponge::both(
-                zero_from(key, sponge::key_length(set)),
+                zero_from(key, sets::key_length(set)),
                 sponge::both(
                     self.ad <= 65536,
                     sponge::both(
                         self.text <= 1048576,
-                        self.place == count % sponge::block_length(set),
+                        self.place == count % sets::block_length(set),
                     ),
                 ),
             ),
@@ -253,7 +253,7 @@ impl Stream {
         if !fits {
             return Answer::OutOfPhase;
         }
-        if n != sponge::key_length(self.set) {
+        if n != sets::key_length(self.set) {
             return Answer::TagLength;
         }
         Answer::Done
@@ -282,7 +282,7 @@ impl Stream {
         if self.ad == 0 {
             return 0;
         }
-        sponge::rounds_between(self.set)
+        sets::rounds_between(self.set)
     }
 
     // A start: set, key and nonce are tested, and the data phase is open.
@@ -330,7 +330,7 @@ impl Stream {
         let words = sponge::absorb(set, Way::Seal, before, count, piece);
         let rounds = filled_rounds(set, count, piece.len());
         let ad = count + piece.len();
-        let place = ad % sponge::block_length(set);
+        let place = ad % sets::block_length(set);
         let next = Stream {
             words,
             set,
@@ -360,7 +360,7 @@ impl Stream {
         let count = self.text;
         let rounds = self.closing_rounds() + filled_rounds(set, count, n);
         let text = count + n;
-        let place = text % sponge::block_length(set);
+        let place = text % sets::block_length(set);
         let next = Stream {
             words,
             set,

@@ -6,7 +6,7 @@ use native.Mathlib.Omega.{arith}
 use borrow.Author.Needs.{needs}
 use borrow.Author.Tests.{eq-eqb, ne-eqb}
 use Rattle.ascon.specs.Rounds.{dataBlocks}
-use Rattle.sponge.proofs.Rows.{row-sizes}
+use Rattle.sets.proofs.Rows.{row-sizes}
 use Rattle.message.proofs.data_blocks.Statement.{statement}
 use Rattle.message.proofs.data_blocks.Tie as tie
 

@@ -7,7 +7,7 @@ use borrow.Author.Needs.{needs}
 use Rattle.permutation.specs.Runs.{roundsOf, constantsOf, constants}
 use Rattle.ascon.specs.Sets.{rowOf}
 use Rattle.ascon.specs.Rounds.{dataBlocks, textBlocks, messageRounds}
-use Rattle.sponge.proofs.Rows.{row-sizes}
+use Rattle.sets.proofs.Rows.{row-sizes}
 use Rattle.message.proofs.message_rounds.Statement.{statement}
 use Rattle.message.proofs.message_rounds.Tie as tie
 

@@ -16,7 +16,7 @@ use Rattle.ascon.specs.Mode.{p}
 use Rattle.ascon.specs.Bytewise.{At, at, steps}
 use Rattle.ascon.proofs.Bytewise.{steps-left}
 use Rattle.sponge.specs.Sponge.{keepOf, absorbed}
-use Rattle.sponge.proofs.Rows.{row-sizes}
+use Rattle.sets.proofs.Rows.{row-sizes}
 use Rattle.sponge.proofs.Words.{Five, words-view, turn}
 use Rattle.sponge.proofs.absorb.Statement.{statement}
 use Rattle.sponge.proofs.absorb.Tie as tie

@@ -11,7 +11,7 @@ use Rattle.permutation.specs.Runs.{permuteWords}
 use Rattle.ascon.specs.Sets.{rowOf}
 use Rattle.sponge.specs.Sponge.{dataClosed}
 use Rattle.sponge.specs.Words.{withByte}
-use Rattle.sponge.proofs.Rows.{row-sizes}
+use Rattle.sets.proofs.Rows.{row-sizes}
 use Rattle.sponge.proofs.Words.{Five}
 use Rattle.sponge.proofs.Ends.{closed-none, closed-some}
 use Rattle.sponge.proofs.close_data.Statement.{statement}

@@ -17,7 +17,7 @@ use Rattle.ascon.specs.Mode.{p}
 use Rattle.ascon.specs.Bytewise.{At, at, steps}
 use Rattle.ascon.proofs.Bytewise.{steps-left, outLeft, out-left}
 use Rattle.sponge.specs.Sponge.{keepOf, absorbed, given, crypted, cryptedOf}
-use Rattle.sponge.proofs.Rows.{row-sizes}
+use Rattle.sets.proofs.Rows.{row-sizes}
 use Rattle.sponge.proofs.Words.{Five, words-view, gone-view, turn}
 use Rattle.sponge.proofs.crypt.Statement.{statement}
 use Rattle.sponge.proofs.crypt.Tie as tie

@@ -11,7 +11,7 @@ use Rattle.permutation.specs.declared.Run.the-variants.{Twelve}
 use Rattle.permutation.specs.Runs.{permuteWords}
 use Rattle.ascon.specs.Sets.{rowOf}
 use Rattle.sponge.specs.Words.{withByte, withBytes, maskedEnd}
-use Rattle.sponge.proofs.Rows.{row-sizes, row-fits}
+use Rattle.sets.proofs.Rows.{row-sizes, row-fits}
 use Rattle.sponge.proofs.Words.{Five}
 use Rattle.sponge.proofs.Ends.{Sixteen, finish-view, tag-length}
 use Rattle.sponge.proofs.finish.Statement.{statement}

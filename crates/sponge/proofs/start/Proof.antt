@@ -10,7 +10,7 @@ use Rattle.permutation.specs.declared.Run.the-variants.{Twelve}
 use Rattle.permutation.specs.Runs.{permuteWords}
 use Rattle.ascon.specs.Sets.{rowOf}
 use Rattle.sponge.specs.Words.{withBytes}
-use Rattle.sponge.proofs.Rows.{row-sizes}
+use Rattle.sets.proofs.Rows.{row-sizes}
 use Rattle.sponge.proofs.Ends.{Sixteen, start-view}
 use Rattle.sponge.proofs.start.Statement.{statement}
 use Rattle.sponge.proofs.start.Tie as tie

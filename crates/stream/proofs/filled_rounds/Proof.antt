@@ -4,7 +4,7 @@ use Prim.Native.Nat.{ℕ, _+_, _-_, _*_, _/_, _≤_}
 use native.Mathlib.Omega.{arith}
 use borrow.Author.Needs.{needs}
 use Rattle.ascon.specs.Sets.{rowOf}
-use Rattle.sponge.proofs.Rows.{row-sizes}
+use Rattle.sets.proofs.Rows.{row-sizes}
 use Rattle.stream.specs.Calls.{filledRounds}
 use Rattle.stream.proofs.Tests.{div-mono, rounds-bound}
 use Rattle.stream.proofs.filled_rounds.Statement.{statement}

@@ -10,7 +10,7 @@ use borrow.Author.Tests.{not-true, not-false}
 use Rattle.answers.specs.Numbers.{isDone}
 use Rattle.ascon.specs.Sets.{rowOf}
 use Rattle.answers.specs.declared.Answer.the-variants.{Done}
-use Rattle.sponge.proofs.Rows.{row-sizes}
+use Rattle.sets.proofs.Rows.{row-sizes}
 use Rattle.stream.specs.State.{isData}
 use Rattle.stream.specs.Calls.{pieceTest, dataCall}
 use Rattle.stream.proofs.Tests.{PiecePassed, piece-passed}

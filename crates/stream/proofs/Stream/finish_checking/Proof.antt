@@ -11,7 +11,7 @@ use Rattle.answers.specs.Numbers.{isDone}
 use Rattle.answers.specs.declared.Answer.the-variants.{Done, TagDiffers}
 use Rattle.ascon.specs.Mode.{same}
 use Rattle.sponge.proofs.Compared
-use Rattle.sponge.proofs.Rows.{row-sizes}
+use Rattle.sets.proofs.Rows.{row-sizes}
 use Rattle.stream.specs.State.{isOpen, isChecking}
 use Rattle.stream.specs.Calls.{finishTest, ownTag, finishCheckingCall}
 use Rattle.stream.proofs.Tests.{closing-bound, FinishPassed, finish-passed}

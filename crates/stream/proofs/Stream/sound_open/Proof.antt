@@ -4,7 +4,7 @@ use mathlib.Core.Bool.{Bool, _&&_}
 use Prim.Native.Nat.{ℕ, _%_}
 use lib.Dec.{eqb, leb}
 use lib.ListN.{drop}
-use Rattle.sponge.proofs.Rows.{row-sizes}
+use Rattle.sets.proofs.Rows.{row-sizes}
 use Rattle.stream.specs.State.{allZero, isSoundOpen}
 use borrow.Author.Needs.{needs}
 use Rattle.stream.proofs.Stream.sound_open.Statement.{statement}

@@ -16,7 +16,7 @@ use Rattle.ascon.specs.Sets.{rowOf}
 use Rattle.ascon.specs.Mode.{zeros, initialise}
 use Rattle.sponge.specs.Sponge.{started}
 use Rattle.sponge.proofs.Compared.{sixteen-is}
-use Rattle.sponge.proofs.Rows.{row-sizes}
+use Rattle.sets.proofs.Rows.{row-sizes}
 use Rattle.stream.specs.declared.Phase.the-variants.{Data}
 use Rattle.stream.specs.Calls.{startTest, refused, startCall}
 use Rattle.stream.proofs.Tests.{StartPassed, start-passed}

@@ -5,7 +5,7 @@ use native.Mathlib.Omega.{arith}
 use borrow.Author.Needs.{needs}
 use Rattle.answers.specs.declared.Answer.the-variants.{Done}
 use Rattle.ascon.specs.Sets.{rowOf}
-use Rattle.sponge.proofs.Rows.{row-sizes}
+use Rattle.sets.proofs.Rows.{row-sizes}
 use Rattle.stream.specs.declared.Phase.the-variants.{Text}
 use Rattle.stream.specs.Calls.{tookText}
 use Rattle.stream.proofs.Tests.{rounds-bound, closing-bound}

@@ -1,9 +1,9 @@
--- `sponge::sets::is_set` meets its contract. Assumes nothing.
+-- `sets::is_set` meets its contract. Assumes nothing.
 use native.Mathlib.Omega.{arith}
 use borrow.Author.Tests.{le-leb}
 use Rattle.ascon.specs.Sets.{table, isSet}
-use Rattle.sponge.proofs.sets.is_set.Statement.{statement}
-use Rattle.sponge.proofs.sets.is_set.Tie as tie
+use Rattle.sets.proofs.is_set.Statement.{statement}
+use Rattle.sets.proofs.is_set.Tie as tie
 
 returns : tie.Need-returns
 unfolding isSet

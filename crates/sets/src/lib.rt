@@ -1,4 +1,4 @@
-// The numbers of the sets: `rowOf` of Table 1. An unknown set has the first row's.
+// The numbers of the parameter sets: the rows of the published Table 1. An unknown set has the first row's.
 ghost use mathlib.Core.Path.{_≡_};
 ghost use Rattle.ascon.specs.Sets.{isSet, rowOf};
 ghost use Rattle.permutation.specs.Runs.{roundsOf};

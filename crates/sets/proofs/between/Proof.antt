@@ -1,7 +1,7 @@
--- `sponge::sets::between` meets its contract. Assumes nothing.
-use Rattle.sponge.proofs.Rows.{row-two, row-other}
-use Rattle.sponge.proofs.sets.between.Statement.{statement}
-use Rattle.sponge.proofs.sets.between.Tie as tie
+-- `sets::between` meets its contract. Assumes nothing.
+use Rattle.sets.proofs.Rows.{row-two, row-other}
+use Rattle.sets.proofs.between.Statement.{statement}
+use Rattle.sets.proofs.between.Tie as tie
 
 returns : tie.Need-returns
 returns c = rw (row-two _ (c .if1 .taken))

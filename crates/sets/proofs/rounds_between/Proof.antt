@@ -1,8 +1,8 @@
--- `sponge::sets::rounds_between` meets its contract. Assumes nothing.
+-- `sets::rounds_between` meets its contract. Assumes nothing.
 use Rattle.permutation.specs.Runs.{constants, constantsOf, roundsOf}
-use Rattle.sponge.proofs.Rows.{row-two, row-other}
-use Rattle.sponge.proofs.sets.rounds_between.Statement.{statement}
-use Rattle.sponge.proofs.sets.rounds_between.Tie as tie
+use Rattle.sets.proofs.Rows.{row-two, row-other}
+use Rattle.sets.proofs.rounds_between.Statement.{statement}
+use Rattle.sets.proofs.rounds_between.Tie as tie
 
 returns : tie.Need-returns
 unfolding roundsOf constantsOf constants

@@ -1,0 +1,2 @@
+-- Laws of the rows of the table.
+pub mod Rows
