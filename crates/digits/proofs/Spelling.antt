@@ -1,0 +1,109 @@
+-- Hex digits and bytes: each reading undoes its writing, and the other way round. Assumes nothing.
+use mathlib.Core.Path.{_≡_, refl, ap}
+use mathlib.Core.Bool.{Bool, true, false, cond, _&&_, false≢true}
+use mathlib.Core.List.{List, [], _∷_}
+use mathlib.Core.Option.{Option, some, none}
+use Prim.Native.Nat.{ℕ, _+_, _-_, _*_, _/_, _%_, _≤_, _<_}
+use native.Mathlib.Omega.{arith}
+use lib.Dec.{leb, ltb}
+use lib.ListN.{length}
+use lib.Pow.{areBytes}
+use borrow.Author.Tests.{ltb-true, ltb-false, leb-true, lt-ltb, le-ltb, le-leb, lt-leb}
+use Rattle.digits.specs.declared.hex.Digit.{Digit}
+use Rattle.digits.specs.declared.hex.Digit.the-variants.{Value, NoDigit}
+use Rattle.digits.specs.Hex.{within, digitOf, pairOf, andThen, bytesOf, hexDigit, hexOf, allDigits}
+
+-- ---- tests
+
+-- two tests that both hold
+pub and-both : (s t : Bool) → (s && t) ≡ true → (s ≡ true) × (t ≡ true)
+and-both true t e = (refl, e)
+and-both false t e = absurd (false≢true e)
+
+-- a character of a range lies between its ends
+pub within-true : (first last c : ℕ) → within first last c ≡ true → (first ≤ c) × (c ≤ last)
+within-true first last c e =
+    let b = and-both (leb first c) _ e in
+    (leb-true first c (b .0), leb-true c last (b .1))
+
+-- a character between the ends of a range is of the range
+pub within-is : (first last c : ℕ) → first ≤ c → c ≤ last → within first last c ≡ true
+within-is first last c h k = rw (le-leb first c h, le-leb c last k)
+
+-- ---- digits
+
+-- the value that a digit is read as is below 16, and is written as this digit
+pub digit-spells : (c v : ℕ) → digitOf c ≡ Value v → (v < 16) × (hexDigit v ≡ c)
+unfolding digitOf hexDigit
+digit-spells c v = go (within 0x30 0x39 c) (within 0x61 0x66 c) refl refl
+  where
+    go : (t u : Bool) → within 0x30 0x39 c ≡ t → within 0x61 0x66 c ≡ u
+        → cond t (Value (c - 0x30)) (cond u (Value (c - 0x61 + 10)) NoDigit) ≡ Value v → (v < 16) × (hexDigit v ≡ c)
+    go true u e f g =
+        let b = within-true 0x30 0x39 c e in
+        let k : c - 0x30 ≡ v = cc in
+        (omega arith, rw (lt-ltb v 10 (omega arith)) (omega arith))
+    go false true e f g =
+        let b = within-true 0x61 0x66 c f in
+        let k : c - 0x61 + 10 ≡ v = cc in
+        (omega arith, rw (le-ltb v 10 (omega arith)) (omega arith))
+    go false false e f g = let z : _≡_ {A = ℕ} 0 1 = cc in absurd (omega arith)
+
+-- the digit of a value is read as this value
+pub spelled-digit : (v : ℕ) → v < 16 → digitOf (hexDigit v) ≡ Value v
+unfolding digitOf hexDigit
+spelled-digit v h = go (ltb v 10) refl
+  where
+    go : (t : Bool) → ltb v 10 ≡ t → digitOf (cond t (0x30 + v) (0x61 - 10 + v)) ≡ Value v
+    go true e =
+        let l : v < 10 = ltb-true v 10 e in
+        rw (within-is 0x30 0x39 (0x30 + v) (omega arith) (omega arith)) (ap Value (omega arith))
+    go false e =
+        let l : 10 ≤ v = ltb-false v 10 e in
+        rw (le-leb 0x30 (0x57 + v) (omega arith), lt-leb (0x57 + v) 0x39 (omega arith), within-is 0x61 0x66 (0x57 + v) (omega arith) (omega arith))
+        (ap Value (omega arith))
+
+-- ---- bytes
+
+-- the digits of bytes are read as these bytes
+pub bytes-hex : (x : List ℕ) → areBytes x ≡ true → bytesOf (hexOf x) ≡ some x
+bytes-hex [] e = refl
+bytes-hex (b ∷ x) e =
+    let t = and-both (ltb b 256) _ e in
+    let l : b < 256 = ltb-true b 256 (t .0) in
+    rw (spelled-digit (b / 16) (omega arith), spelled-digit (b % 16) (omega arith), bytes-hex x (t .1))
+    (ap (λ (c : ℕ). some (c ∷ x)) (omega arith))
+
+-- what a text is read as are bytes, and their digits are this text
+pub hex-bytes : (text x : List ℕ) → bytesOf text ≡ some x → (hexOf x ≡ text) × (areBytes x ≡ true)
+hex-bytes [] x e = let f : x ≡ [] = cc in rw f (refl, refl)
+hex-bytes (one ∷ []) x e = let z : _≡_ {A = ℕ} 0 1 = cc in absurd (omega arith)
+hex-bytes (high ∷ low ∷ text) x e = go (digitOf high) (digitOf low) (bytesOf text) refl refl refl e (hex-bytes text)
+  where
+    go : (p q : Digit) (r : Option (List ℕ)) → digitOf high ≡ p → digitOf low ≡ q → bytesOf text ≡ r → andThen (pairOf p q) r ≡ some x
+        → ((y : List ℕ) → bytesOf text ≡ some y → (hexOf y ≡ text) × (areBytes y ≡ true))
+        → (hexOf x ≡ high ∷ low ∷ text) × (areBytes x ≡ true)
+    go (Value a) (Value b) (some y) f g h e rest =
+        let s = digit-spells high a f in
+        let t = digit-spells low b g in
+        let u = rest y h in
+        let i : (16 * a + b) / 16 ≡ a = omega arith in
+        let j : (16 * a + b) % 16 ≡ b = omega arith in
+        let k : x ≡ (16 * a + b) ∷ y = cc in
+        rw (k, lt-ltb (16 * a + b) 256 (omega arith)) (cc, u .1)
+    go (Value a) (Value b) none f g h e rest = let z : _≡_ {A = ℕ} 0 1 = cc in absurd (omega arith)
+    go (Value a) NoDigit r f g h e rest = let z : _≡_ {A = ℕ} 0 1 = cc in absurd (omega arith)
+    go NoDigit q r f g h e rest = let z : _≡_ {A = ℕ} 0 1 = cc in absurd (omega arith)
+
+-- two digits a byte
+pub length-hex : (x : List ℕ) → length (hexOf x) ≡ 2 * length x
+length-hex [] = refl
+length-hex (b ∷ x) = omega (arith, length-hex x)
+
+-- the digits of bytes are digits
+pub digits-hex : (x : List ℕ) → areBytes x ≡ true → allDigits (hexOf x) ≡ true
+digits-hex [] e = refl
+digits-hex (b ∷ x) e =
+    let t = and-both (ltb b 256) _ e in
+    let l : b < 256 = ltb-true b 256 (t .0) in
+    rw (spelled-digit (b / 16) (omega arith), spelled-digit (b % 16) (omega arith)) (digits-hex x (t .1))

@@ -1,0 +1,18 @@
+-- Text put at the beginning of a lent place.
+use mathlib.Core.Bool.{cond}
+use mathlib.Core.List.{List, _++_}
+use Prim.Native.Nat.{ℕ}
+use lib.Dec.{leb}
+use lib.ListN.{length, drop}
+
+-- how many bytes were put, and what the place then holds
+pub record Laid : Type 0 where
+  pub count : ℕ
+  pub place : List ℕ
+
+abbrev pub laid : ℕ → List ℕ → Laid
+laid count place = record { count = count; place = place }
+
+-- the text, with the rest of the place behind it; a place too short stays as it is
+unfoldable pub put : List ℕ → List ℕ → Laid
+put text place = cond (leb (length text) (length place)) (laid (length text) (text ++ drop (length text) place)) (laid 0 place)
