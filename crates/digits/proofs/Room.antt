@@ -1,10 +1,13 @@
 -- Text in a place: where there is room, and where there is not. Assumes nothing.
-use mathlib.Core.Path.{_≡_, sym, _∙_}
-use mathlib.Core.List.{List, _++_}
-use Prim.Native.Nat.{ℕ, _≤_, _<_}
+use mathlib.Core.Path.{_≡_, refl, sym, ap, ap₂, _∙_}
+use mathlib.Core.Bool.{Bool, true, false, cond}
+use mathlib.Core.List.{List, [], _++_, append-assoc, append-nil}
+use Prim.Native.Nat.{ℕ, _+_, _-_, _≤_, _<_}
 use native.Mathlib.Omega.{arith}
-use lib.ListN.{length, drop}
-use borrow.Author.Tests.{le-leb, lt-leb}
+use lib.Dec.{leb}
+use lib.ListN.{length, take, drop, length-append, length-drop, drop-of-length-le}
+use lib.Seq.{take-all, take-append-seam, drop-append-seam, drop-drop}
+use borrow.Author.Tests.{le-leb, lt-leb, leb-true}
 use Rattle.digits.specs.Room.{Laid, laid, put}
 
 -- a text that fits stands at the beginning
@@ -22,3 +25,45 @@ pub put-is : (text before after : List ℕ) (count : ℕ) → count ≡ length t
     → laid count after ≡ put text before
 put-is text before after count size room e =
     (λ j. laid (size j) ((e ∙ (λ i. text ++ drop (size i) before)) j)) ∙ sym (put-fits text before (omega arith))
+
+-- a place keeps its length, and what was put is in it
+pub put-inside : (text before after : List ℕ) (count : ℕ) → laid count after ≡ put text before → (count ≤ length after) × (length after ≡ length before)
+unfolding put
+put-inside text before after count = go (leb (length text) (length before)) refl
+  where
+    go : (t : Bool) → leb (length text) (length before) ≡ t
+        → laid count after ≡ cond t (laid (length text) (text ++ drop (length text) before)) (laid 0 before)
+        → (count ≤ length after) × (length after ≡ length before)
+    go true h e =
+        let size = ap (λ (l : Laid). length (l .place)) e ∙ length-append text (drop (length text) before) in
+        let left = length-drop (length text) before in
+        let room = leb-true (length text) (length before) h in
+        let put = ap (λ (l : Laid). l .count) e in
+        (omega arith, omega arith)
+    go false h e = (omega (arith, ap (λ (l : Laid). l .count) e), ap (λ (l : Laid). length (l .place)) e)
+
+-- what was put, where there is room
+pub put-count : (text before after : List ℕ) (count : ℕ) → laid count after ≡ put text before → length text ≤ length before
+    → (count ≡ length text) × (after ≡ text ++ drop (length text) before)
+put-count text before after count e room =
+    let f = e ∙ put-fits text before room in
+    (ap (λ (l : Laid). l .count) f, ap (λ (l : Laid). l .place) f)
+
+-- a text put, and another into the rest of the place, straight after it
+pub put-after : (x y before between after : List ℕ) (m n : ℕ) → laid m between ≡ put x before → length (x ++ y) ≤ length before
+    → laid n after ≡ put y (take (length between - m) (drop m between))
+    → laid (m + n) (take m between ++ (after ++ drop (length between - m) (drop m between))) ≡ put (x ++ y) before
+put-after x y before between after m n e room f =
+    let both = length-append x y in
+    let first = put-count x before between m e (omega arith) in
+    let left = length-drop m between in
+    let rest : take (length between - m) (drop m between) ≡ drop (length x) before =
+    take-all (length between - m) (drop m between) (omega arith) ∙ ap₂ drop (first .0) (first .1) ∙ drop-append-seam x (drop (length x) before) in
+    let second = put-count y _ after n f (omega (arith, ap length rest, length-drop (length x) before)) in
+    let done : take m between ≡ x = ap₂ take (first .0) (first .1) ∙ take-append-seam x (drop (length x) before) in
+    let none : drop (length between - m) (drop m between) ≡ [] = drop-of-length-le (drop m between) {i = length between - m} (omega arith) in
+    let sum : m + n ≡ length (x ++ y) = omega (arith, first .0, second .0) in
+    put-is (x ++ y) before _ (m + n) sum (omega arith)
+    (ap₂ (λ (a b : List ℕ). a ++ b) done (ap (λ (z : List ℕ). after ++ z) none ∙ append-nil after ∙ second .1)
+    ∙ ap (λ (z : List ℕ). x ++ (y ++ z)) (ap (drop (length y)) rest ∙ drop-drop (length y) (length x) before ∙ ap (λ (k : ℕ). drop k before) (sym (sum ∙ both)))
+    ∙ sym (append-assoc x y (drop (m + n) before)))

@@ -13,7 +13,8 @@ use borrow.Author.Needs.{needs}
 use borrow.Author.Tests.{lt-leb, le-leb}
 use Rattle.sponge.specs.Tags.{sameTag}
 use Rattle.ascon.specs.Mode.{same}
-use Rattle.sponge.proofs.Compared.{and-assoc, and-true, same-left}
+use Rattle.ascon.proofs.Strings.{same-left}
+use Rattle.sponge.proofs.Compared.{and-assoc, and-true}
 use Rattle.sponge.proofs.tags.same_tag.Statement.{statement}
 use Rattle.sponge.proofs.tags.same_tag.Tie as tie
 

@@ -8,7 +8,7 @@ use lib.Seq.{take-length}
 use borrow.Author.Needs.{needs}
 use borrow.Author.Tests.{lt-leb, le-leb}
 use Rattle.sponge.specs.Tags.{sixteenOf}
-use Rattle.sponge.proofs.Compared.{drop-zeros}
+use Rattle.ascon.proofs.Strings.{drop-zeros}
 use Rattle.sponge.proofs.tags.sixteen.Statement.{statement}
 use Rattle.sponge.proofs.tags.sixteen.Tie as tie
 

@@ -1,0 +1,59 @@
+-- `record::lines::first_broken` meets its contract. The loop's invariant: the lines left decide. The measure is the number of lines left. Assumes nothing.
+use mathlib.Core.Path.{_≡_, refl, sym, ap, _∙_}
+use mathlib.Core.Bool.{true, false, cond}
+use Prim.Native.Nat.{ℕ, suc, _+_, _-_, _≤_, _<_}
+use native.Mathlib.Omega.{arith}
+use borrow.Author.Needs.{needs}
+use borrow.Author.Tests.{not-true, not-false}
+use Rattle.record.specs.declared.lines.Record.{Record}
+use Rattle.record.specs.Form.{keeps, brokenFrom, broken}
+use Rattle.record.proofs.lines.first_broken.Statement.{statement}
+use Rattle.record.proofs.lines.first_broken.Tie as tie
+
+-- a line, and those behind it
+one-line : (r : Record) (line : ℕ) → line < 9 → brokenFrom (9 - line) line r ≡ cond (keeps line r) (brokenFrom (9 - (line + 1)) (line + 1) r) line
+one-line r line h = let e : 9 - line ≡ suc (9 - (line + 1)) = omega arith in rw e
+
+abbrev Inv-loop : tie.InvT-loop
+Inv-loop entry line₀ line = (line ≤ 9) × (brokenFrom (9 - line) line entry ≡ broken entry)
+
+abbrev μ-loop : tie.MeasureT-loop
+μ-loop entry line₀ line = 9 - line
+
+loop-holds : tie.Need-loop-holds Inv-loop μ-loop
+unfolding broken
+loop-holds c = (omega arith, refl)
+
+keeps-rule-requires : tie.Need-keeps-rule-requires Inv-loop μ-loop
+keeps-rule-requires c κs = search needs
+
+returns : tie.Need-returns Inv-loop μ-loop
+returns c =
+    let l = c .before .before .before .loop in
+    let r = c .before .before .before .before .args .entry in
+    sym (rw (sym (c .before .keeps-rule .ensures) ∙ not-true _ (c .if1 .taken)) at (one-line r (l .line) (c .before .before .loop-test .taken))) ∙ l .inv .1
+
+add-line : tie.Need-add-line Inv-loop μ-loop
+add-line c = search needs
+
+loop-less : tie.Need-loop-less Inv-loop μ-loop
+loop-less c = omega arith
+
+loop-again : tie.Need-loop-again Inv-loop μ-loop
+loop-again c =
+    let l = c .before .before .before .loop in
+    let r = c .before .before .before .before .args .entry in (
+      omega arith,
+      sym (rw (sym (c .before .keeps-rule .ensures) ∙ not-false _ (c .if1 .left)) at (one-line r (l .line) (c .before .before .loop-test .taken))) ∙ l .inv .1,
+    )
+
+returns-2 : tie.Need-returns-2 Inv-loop μ-loop
+returns-2 c =
+    let l = c .before .loop in
+    let r = c .before .before .args .entry in
+    let end : l .line ≡ 9 = omega arith in
+    ap (λ (line : ℕ). brokenFrom (9 - line) line r) (sym end) ∙ l .inv .1
+
+pub first-broken-spec : {M : Type 1} → statement M
+first-broken-spec =
+    tie.close (tie.spec Inv-loop μ-loop loop-holds keeps-rule-requires returns add-line loop-less loop-again returns-2)

@@ -1,0 +1,36 @@
+-- `record::lines::pad` meets its contract. Assumes nothing.
+use mathlib.Core.Path.{_≡_, sym, ap, _∙_}
+use mathlib.Core.List.{List, _++_}
+use Prim.Native.Nat.{ℕ, _-_}
+use denote.Ref.{now}
+use lib.ListN.{length, take, drop}
+use lib.Seq.{take-length}
+use borrow.Author.Needs.{needs}
+use borrow.Author.Tests.{le-leb, lt-leb}
+use Rattle.ascon.specs.Mode.{zeros}
+use Rattle.ascon.proofs.Strings.{drop-zeros}
+use Rattle.record.specs.declared.lines.Name.{Name}
+use Rattle.record.specs.Calls.{padded}
+use Rattle.record.proofs.lines.pad.Statement.{statement}
+use Rattle.record.proofs.lines.pad.Tie as tie
+
+returns : tie.Need-returns
+unfolding padded
+returns c = rw (lt-leb (length (now (c .before .before .args .text))) 8 (c .if1 .taken))
+
+slice-aggregate-copy : tie.Need-slice-aggregate-copy
+slice-aggregate-copy c = search needs
+
+copy-requires : tie.Need-copy-requires
+copy-requires c κs = search needs
+
+returns-2 : tie.Need-returns-2
+unfolding padded
+returns-2 c =
+    let x = now (c .before .before .before .before .before .args .text) in
+    let copied = c .before .copy .ensures in
+    rw (le-leb (length x) 8 (c .before .before .before .if1 .left))
+    (λ j. record { bytes = (copied .1 ∙ (λ i. take-length x i ++ drop-zeros (length x) 8 i)) j; size = copied .0 j })
+
+pub pad-spec : {M : Type 1} → statement M
+pad-spec = tie.close (tie.spec returns slice-aggregate-copy copy-requires returns-2)

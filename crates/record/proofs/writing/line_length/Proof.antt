@@ -1,0 +1,41 @@
+-- `record::writing::line_length` meets its contract. Assumes nothing.
+use mathlib.Core.Path.{_≡_, sym, _∙_}
+use Prim.Native.Nat.{_≤_}
+use native.Mathlib.Omega.{arith}
+use lib.ListN.{length}
+use borrow.Author.Needs.{needs}
+use Rattle.record.specs.Text.{name, valueText}
+use Rattle.record.proofs.Names.{name-sizes, name-of-padded}
+use Rattle.record.proofs.Steps.{line-length}
+use Rattle.record.proofs.writing.line_length.Statement.{statement}
+use Rattle.record.proofs.writing.line_length.Tie as tie
+
+name-of-requires : tie.Need-name-of-requires
+name-of-requires c κs = search needs
+
+value-length-requires : tie.Need-value-length-requires
+value-length-requires c κs = c .before .pre
+
+-- the parts of the line
+parts : (c : tie.After-value-length) → let a = c .before .before .args in
+    (c .before .name-of .result .size ≡ length (name (a .line))) × (length (name (a .line)) ≤ 8) × (c .value-length .result ≡ length (valueText (a .line) (a .entry)))
+    × (c .value-length .result ≤ 512)
+parts c =
+    let n = c .before .name-of in
+    let line = c .before .before .args .line in
+    (name-of-padded line (n .result) (n .ensures) .0, name-sizes line .1, c .value-length .ensures .0, c .value-length .ensures .1)
+
+add-result : tie.Need-add-result
+add-result c = let p = parts (c .before) in record { fits = omega (arith, p .0, p .1, p .3) }
+
+add-result-2 : tie.Need-add-result-2
+add-result-2 c = let p = parts (c .before) in record { fits = omega (arith, p .0, p .1, p .3) }
+
+returns : tie.Need-returns
+returns c =
+    let a = c .before .before .before .args in
+    let p = parts (c .before) in
+    omega (arith, p .0, p .2, line-length (a .line) (a .entry))
+
+pub line-length-spec : {M : Type 1} → statement M
+line-length-spec = tie.close (tie.spec name-of-requires value-length-requires add-result add-result-2 returns)

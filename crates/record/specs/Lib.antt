@@ -1,0 +1,5 @@
+-- The bench record.
+pub mod Form
+pub mod Text
+pub mod Calls
+pub mod Laws

@@ -1,0 +1,43 @@
+-- A bench record as text.
+use mathlib.Core.Bool.{cond}
+use mathlib.Core.List.{List, [], _∷_, _++_}
+use Prim.Native.Nat.{ℕ, zero, suc, _+_, _-_}
+use lib.ListN.{getD}
+use Rattle.digits.specs.Hex.{hexOf}
+use Rattle.digits.specs.Numbers.{numeral}
+use Rattle.record.specs.declared.lines.Record.{Record}
+use Rattle.record.specs.Form.{held, isNumber, numberAt, fieldAt}
+
+-- `set=`, `key=`, `nonce=`, `ad=`, `text=`, `cipher=`, `tag=`, `rounds=`
+unfoldable pub names : List (List ℕ)
+names =
+    (0x73 ∷ 0x65 ∷ 0x74 ∷ 0x3d ∷ [])
+    ∷ (0x6b ∷ 0x65 ∷ 0x79 ∷ 0x3d ∷ [])
+    ∷ (0x6e ∷ 0x6f ∷ 0x6e ∷ 0x63 ∷ 0x65 ∷ 0x3d ∷ [])
+    ∷ (0x61 ∷ 0x64 ∷ 0x3d ∷ [])
+    ∷ (0x74 ∷ 0x65 ∷ 0x78 ∷ 0x74 ∷ 0x3d ∷ [])
+    ∷ (0x63 ∷ 0x69 ∷ 0x70 ∷ 0x68 ∷ 0x65 ∷ 0x72 ∷ 0x3d ∷ [])
+    ∷ (0x74 ∷ 0x61 ∷ 0x67 ∷ 0x3d ∷ [])
+    ∷ (0x72 ∷ 0x6f ∷ 0x75 ∷ 0x6e ∷ 0x64 ∷ 0x73 ∷ 0x3d ∷ [])
+    ∷ []
+
+-- the name of a line
+unfoldable pub name : ℕ → List ℕ
+name line = getD names (line - 1) (getD names 0 [])
+
+-- what stands behind the name: a number in decimals, or bytes in hex
+unfoldable pub valueText : ℕ → Record → List ℕ
+valueText line r = cond (isNumber line) (numeral (numberAt line r)) (hexOf (held (fieldAt line r)))
+
+-- a line, with its line feed
+unfoldable pub lineText : ℕ → Record → List ℕ
+lineText line r = name line ++ (valueText line r ++ 0x0a ∷ [])
+
+-- so many lines, from one on, each straight after the one before
+abbrev pub textFrom : ℕ → ℕ → Record → List ℕ
+textFrom zero line r = []
+textFrom (suc count) line r = lineText line r ++ textFrom count (line + 1) r
+
+-- the text of a record
+unfoldable pub textOf : Record → List ℕ
+textOf r = textFrom 8 1 r

@@ -1,0 +1,131 @@
+// Writing a record: line by line, each straight after the one before.
+ghost use mathlib.Core.Path.{_≡_};
+ghost use mathlib.Core.Bool.{true};
+ghost use mathlib.Core.List.{_++_};
+ghost use Prim.Native.Nat.{_≤_};
+ghost use lib.ListN.{length, drop};
+ghost use Rattle.digits.specs.Room.{laid, put};
+ghost use Rattle.record.specs.Form.{keeps, broken};
+ghost use Rattle.record.specs.Text.{name, valueText, lineText, textOf};
+ghost use Rattle.record.specs.Calls.{writeLeaves, writeCall};
+use crate::lines;
+use crate::lines::Record;
+use answers::Answer;
+
+// What writing answers: the answer, the line of a broken record, and how many bytes were written.
+pub struct Writing {
+    pub answer: Answer,
+    pub line: usize,
+    pub written: usize,
+}
+
+// How many digits stand in a line that keeps its rule.
+fn value_length(line: usize, entry: Record) -> usize
+    requires { ⌜ keeps line entry ≡ true ⌝ }
+    requires { ⌜ 1 ≤ line ⌝ }
+    requires { ⌜ line ≤ 8 ⌝ }
+    ensures { λ r. ⌜ r ≡ length (valueText line entry) ⌝ }
+    ensures { λ r. ⌜ r ≤ 512 ⌝ }
+{
+    if lines::is_number(line) {
+        return digits::number_length(lines::number_at(line, entry));
+    }
+    let field = lines::field_at(line, entry);
+    2 * field.size
+}
+
+// Puts the digits of a line that keeps its rule at the beginning of a place, and gives how many.
+fn put_value(line: usize, entry: Record, place: &mut [u8]) -> usize
+    requires { ⌜ keeps line entry ≡ true ⌝ }
+    requires { ⌜ 1 ≤ line ⌝ }
+    requires { ⌜ line ≤ 8 ⌝ }
+    ensures { λ r. ⌜ laid r (now (place .exit)) ≡ put (valueText line entry) (now (place .entry)) ⌝ }
+{
+    if lines::is_number(line) {
+        return digits::put_number(lines::number_at(line, entry), place);
+    }
+    let field = lines::field_at(line, entry);
+    let bytes = field.bytes;
+    let size = field.size;
+    digits::put_bytes(&bytes[..size], place)
+}
+
+// How many bytes a line has that keeps its rule.
+fn line_length(line: usize, entry: Record) -> usize
+    requires { ⌜ keeps line entry ≡ true ⌝ }
+    requires { ⌜ 1 ≤ line ⌝ }
+    requires { ⌜ line ≤ 8 ⌝ }
+    ensures { λ r. ⌜ r ≡ length (lineText line entry) ⌝ }
+{
+    let name = lines::name_of(line);
+    name.size + value_length(line, entry) + 1
+}
+
+// Puts the name of a line at the beginning of a place, and gives its length.
+fn put_name(line: usize, place: &mut [u8]) -> usize
+    ensures { λ r. ⌜ laid r (now (place .exit)) ≡ put (name line) (now (place .entry)) ⌝ }
+{
+    let name = lines::name_of(line);
+    let bytes = name.bytes;
+    let size = name.size;
+    digits::put_text(&bytes[..size], place)
+}
+
+// Puts a line that keeps its rule at the beginning of a place that has room, and gives its length.
+fn put_line(line: usize, entry: Record, place: &mut [u8]) -> usize
+    requires { ⌜ keeps line entry ≡ true ⌝ }
+    requires { ⌜ 1 ≤ line ⌝ }
+    requires { ⌜ line ≤ 8 ⌝ }
+    requires { ⌜ length (lineText line entry) ≤ length (now place) ⌝ }
+    ensures { λ r. ⌜ laid r (now (place .exit)) ≡ put (lineText line entry) (now (place .entry)) ⌝ }
+{
+    let named = put_name(line, place);
+    let valued = named + put_value(line, entry, &mut place[named..]);
+    valued + digits::put_text(b"\n", &mut place[valued..])
+}
+
+// How many bytes the text of a record in form has.
+fn text_length(entry: Record) -> usize
+    requires { ⌜ broken entry ≡ 0 ⌝ }
+    ensures { λ r. ⌜ r ≡ length (textOf entry) ⌝ }
+{
+    let mut size = 0;
+    let mut line = 1;
+    while line < 9 {
+        size += line_length(line, entry);
+        line += 1;
+    }
+    size
+}
+
+// Writes a record in form at the beginning of a place.
+pub fn write(entry: Record, place: &mut [u8]) -> Writing
+    ensures { λ r. ⌜ writeLeaves r (now (place .exit)) ≡ writeCall entry (now (place .entry)) ⌝ }
+{
+    let bad = lines::first_broken(entry);
+    if bad != 0 {
+        return Writing {
+            answer: Answer::BrokenRecord,
+            line: bad,
+            written: 0,
+        };
+    }
+    if place.len() < text_length(entry) {
+        return Writing {
+            answer: Answer::NoRoom,
+            line: 0,
+            written: 0,
+        };
+    }
+    let mut at = 0;
+    let mut line = 1;
+    while line < 9 {
+        at += put_line(line, entry, &mut place[at..]);
+        line += 1;
+    }
+    Writing {
+        answer: Answer::Done,
+        line: 0,
+        written: at,
+    }
+}
