@@ -8,7 +8,7 @@ use lib.Dec.{leb}
 use lib.ListN.{length, take, drop, length-append, length-drop, drop-of-length-le}
 use lib.Seq.{take-all, take-append-seam, drop-append-seam, drop-drop}
 use borrow.Author.Tests.{le-leb, lt-leb, leb-true}
-use Rattle.digits.specs.Room.{Laid, laid, put}
+use Rattle.digits.specs.Room.{lineOf, Laid, laid, put}
 
 -- a text that fits stands at the beginning
 pub put-fits : (text place : List ℕ) → length text ≤ length place → put text place ≡ laid (length text) (text ++ drop (length text) place)
@@ -67,3 +67,8 @@ put-after x y before between after m n e room f =
     (ap₂ (λ (a b : List ℕ). a ++ b) done (ap (λ (z : List ℕ). after ++ z) none ∙ append-nil after ∙ second .1)
     ∙ ap (λ (z : List ℕ). x ++ (y ++ z)) (ap (drop (length y)) rest ∙ drop-drop (length y) (length x) before ∙ ap (λ (k : ℕ). drop k before) (sym (sum ∙ both)))
     ∙ sym (append-assoc x y (drop (m + n) before)))
+
+-- a line has its name's bytes, its value's, and one more
+pub length-line : (name value : List ℕ) → length (lineOf name value) ≡ length name + length value + 1
+unfolding lineOf
+length-line name value = simp length-append (omega arith)

@@ -3,7 +3,7 @@ mod hex;
 mod numbers;
 
 ghost use mathlib.Core.Path.{_≡_};
-ghost use Rattle.digits.specs.Room.{laid, put};
+ghost use Rattle.digits.specs.Room.{lineOf, laid, put};
 pub use hex::Digit;
 pub use hex::Pair;
 pub use hex::is_digit;
@@ -23,4 +23,16 @@ pub fn put_text(text: &[u8], place: &mut [u8]) -> usize
         return 0;
     }
     bytes::copy(text, place)
+}
+
+// Puts a line, a name, a value and a line feed, at the beginning of a place, and gives its length; a place too short for it stays as it is, and the length is 0.
+pub fn put_line(name: &[u8], value: &[u8], place: &mut [u8]) -> usize
+    ensures { λ r. ⌜ laid r (now (place .exit)) ≡ put (lineOf (now (name .entry)) (now (value .entry))) (now (place .entry)) ⌝ }
+{
+    if place.len() < name.len() + value.len() + 1 {
+        return 0;
+    }
+    let named = put_text(name, place);
+    let valued = named + put_text(value, &mut place[named..]);
+    valued + put_text(b"\n", &mut place[valued..])
 }

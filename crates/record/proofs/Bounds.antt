@@ -1,6 +1,6 @@
 -- How long lines that keep their rules can be. Assumes nothing.
-use mathlib.Core.Path.{_≡_}
-use mathlib.Core.Bool.{Bool, true, _&&_}
+use mathlib.Core.Path.{_≡_, refl}
+use mathlib.Core.Bool.{Bool, true, false, cond, _&&_}
 use mathlib.Core.List.{[], _∷_}
 use Prim.Native.Nat.{ℕ, zero, suc, _+_, _-_, _≤_}
 use native.Mathlib.Omega.{arith}
@@ -8,17 +8,18 @@ use lib.Dec.{eqb, lit≤}
 use lib.ListN.{length, getD, length-append, length-take}
 use borrow.Author.Tests.{leb-true, eqb-true}
 use Rattle.digits.specs.Hex.{hexOf}
+use Rattle.digits.specs.Numbers.{numeral}
 use Rattle.digits.proofs.Spelling.{and-both, length-hex}
 use Rattle.digits.proofs.Numerals.{places-least, length-numeral}
 use Rattle.ascon.specs.Sets.{rowOf}
 use Rattle.sets.proofs.Rows.{row-sizes}
 use Rattle.record.specs.declared.field.Field.{Field}
 use Rattle.record.specs.declared.lines.Record.{Record}
-use Rattle.record.specs.Form.{held, isField, keeps}
+use Rattle.record.specs.Form.{held, isField, isNumber, numberAt, fieldAt, keeps}
 use Rattle.record.specs.Text.{names, name, valueText, lineText, textFrom}
 use Rattle.record.proofs.Fields.{held-most}
 use Rattle.record.proofs.Places.{each-line}
-use Rattle.record.proofs.Rules.{set-most}
+use Rattle.record.proofs.Rules.{set-most, rule-is-field, rule-number}
 use Rattle.record.proofs.Steps.{line-length}
 use Rattle.record.proofs.Chains.{Sound}
 
@@ -31,6 +32,17 @@ key-hex-most : (f : Field) (set : ℕ) → (isField f && eqb (f .size) (rowOf se
 key-hex-most f set e =
     let k : f .size ≡ rowOf set .key = eqb-true (f .size) (rowOf set .key) (and-both (isField f) _ e .1) in
     omega (arith, length-hex (held f), length-take (f .size) (f .bytes), row-sizes set .key)
+
+-- no value of a line that keeps its rule has more than 512 digits
+pub value-most : (line : ℕ) → 1 ≤ line → line ≤ 8 → (r : Record) → keeps line r ≡ true → length (valueText line r) ≤ 512
+unfolding valueText
+value-most line h m r k = go (isNumber line) refl
+  where
+    go : (t : Bool) → isNumber line ≡ t → length (cond t (numeral (numberAt line r)) (hexOf (held (fieldAt line r)))) ≤ 512
+    go true e =
+        let few = rule-number line h m e r k in
+        omega (arith, length-numeral (numberAt line r), places-least (numberAt line r) 6 (omega arith))
+    go false e = omega (arith, length-hex (held (fieldAt line r)), held-most (fieldAt line r) (rule-is-field line h m e r k))
 
 -- the most bytes of a line
 abbrev most : ℕ → ℕ

@@ -6,11 +6,13 @@ use mathlib.Core.Option.{Option, some, none}
 use Prim.Native.Nat.{ℕ, suc, _+_, _≤_, _<_}
 use native.Mathlib.Omega.{arith}
 use lib.Dec.{eqb}
-use lib.ListN.{length, getD, drop, length-append}
+use lib.ListN.{length, getD, drop}
 use lib.Seq.{append-snoc, drop-append-seam, getD-append-seam, getD-append-add, getD-drop}
 use borrow.Author.Tests.{eqb-true}
 use Rattle.digits.specs.Hex.{allDigits}
+use Rattle.digits.specs.Room.{lineOf}
 use Rattle.digits.proofs.Spelling.{and-both}
+use Rattle.digits.proofs.Room.{length-line}
 use Rattle.record.specs.declared.lines.Record.{Record}
 use Rattle.record.specs.Form.{fieldAt, keeps}
 use Rattle.record.specs.Text.{name, valueText, lineText}
@@ -23,14 +25,14 @@ use Rattle.record.proofs.Values.{digits-value, value-spelled, Follows, 
 
 -- a line and what follows it: its name, its value, a line feed
 line-parts : (line : ℕ) (r : Record) (rest : List ℕ) → lineText line r ++ rest ≡ name line ++ (valueText line r ++ 0x0a ∷ rest)
-unfolding lineText
+unfolding lineText lineOf
 line-parts line r rest =
     append-assoc (name line) (valueText line r ++ 0x0a ∷ []) rest ∙ ap (λ (t : List ℕ). name line ++ t) (append-snoc (valueText line r) 0x0a rest)
 
 -- a line has its name's bytes, its value's, and one more
 pub line-length : (line : ℕ) (r : Record) → length (lineText line r) ≡ length (name line) + length (valueText line r) + 1
 unfolding lineText
-line-length line r = simp length-append (omega arith)
+line-length line r = length-line (name line) (valueText line r)
 
 -- ---- what was written is read
 

@@ -5,6 +5,7 @@ use Prim.Native.Nat.{ℕ, zero, suc, _+_, _-_}
 use lib.ListN.{getD}
 use Rattle.digits.specs.Hex.{hexOf}
 use Rattle.digits.specs.Numbers.{numeral}
+use Rattle.digits.specs.Room.{lineOf}
 use Rattle.record.specs.declared.lines.Record.{Record}
 use Rattle.record.specs.Form.{held, isNumber, numberAt, fieldAt}
 
@@ -31,7 +32,7 @@ valueText line r = cond (isNumber line) (numeral (numberAt line r)) (hexOf (held
 
 -- a line, with its line feed
 unfoldable pub lineText : ℕ → Record → List ℕ
-lineText line r = name line ++ (valueText line r ++ 0x0a ∷ [])
+lineText line r = lineOf (name line) (valueText line r)
 
 -- so many lines, from one on, each straight after the one before
 abbrev pub textFrom : ℕ → ℕ → Record → List ℕ

@@ -6,7 +6,7 @@ ghost use Prim.Native.Nat.{_≤_};
 ghost use lib.ListN.{length, drop};
 ghost use Rattle.digits.specs.Room.{laid, put};
 ghost use Rattle.record.specs.Form.{keeps, broken};
-ghost use Rattle.record.specs.Text.{name, valueText, lineText, textOf};
+ghost use Rattle.record.specs.Text.{valueText, lineText, textOf};
 ghost use Rattle.record.specs.Calls.{writeLeaves, writeCall};
 use crate::lines;
 use crate::lines::Record;
@@ -25,7 +25,6 @@ fn value_length(line: usize, entry: Record) -> usize
     requires { ⌜ 1 ≤ line ⌝ }
     requires { ⌜ line ≤ 8 ⌝ }
     ensures { λ r. ⌜ r ≡ length (valueText line entry) ⌝ }
-    ensures { λ r. ⌜ r ≤ 512 ⌝ }
 {
     if lines::is_number(line) {
         return digits::number_length(lines::number_at(line, entry));
@@ -61,27 +60,19 @@ fn line_length(line: usize, entry: Record) -> usize
     name.size + value_length(line, entry) + 1
 }
 
-// Puts the name of a line at the beginning of a place, and gives its length.
-fn put_name(line: usize, place: &mut [u8]) -> usize
-    ensures { λ r. ⌜ laid r (now (place .exit)) ≡ put (name line) (now (place .entry)) ⌝ }
-{
-    let name = lines::name_of(line);
-    let bytes = name.bytes;
-    let size = name.size;
-    digits::put_text(&bytes[..size], place)
-}
-
-// Puts a line that keeps its rule at the beginning of a place that has room, and gives its length.
+// Puts a line that keeps its rule at the beginning of a place, and gives its length; a place too short for it stays as it is, and the length is 0.
 fn put_line(line: usize, entry: Record, place: &mut [u8]) -> usize
     requires { ⌜ keeps line entry ≡ true ⌝ }
     requires { ⌜ 1 ≤ line ⌝ }
     requires { ⌜ line ≤ 8 ⌝ }
-    requires { ⌜ length (lineText line entry) ≤ length (now place) ⌝ }
     ensures { λ r. ⌜ laid r (now (place .exit)) ≡ put (lineText line entry) (now (place .entry)) ⌝ }
 {
-    let named = put_name(line, place);
-    let valued = named + put_value(line, entry, &mut place[named..]);
-    valued + digits::put_text(b"\n", &mut place[valued..])
+    let name = lines::name_of(line);
+    let bytes = name.bytes;
+    let size = name.size;
+    let mut value = [0; 512];
+    let count = put_value(line, entry, &mut value);
+    digits::put_line(&bytes[..size], &value[..count], place)
 }
 
 // How many bytes the text of a record in form has.

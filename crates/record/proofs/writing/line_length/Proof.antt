@@ -7,6 +7,7 @@ use borrow.Author.Needs.{needs}
 use Rattle.record.specs.Text.{name, valueText}
 use Rattle.record.proofs.Names.{name-sizes, name-of-padded}
 use Rattle.record.proofs.Steps.{line-length}
+use Rattle.record.proofs.Bounds.{value-most}
 use Rattle.record.proofs.writing.line_length.Statement.{statement}
 use Rattle.record.proofs.writing.line_length.Tie as tie
 
@@ -19,17 +20,22 @@ value-length-requires c κs = c .before .pre
 -- the parts of the line
 parts : (c : tie.After-value-length) → let a = c .before .before .args in
     (c .before .name-of .result .size ≡ length (name (a .line))) × (length (name (a .line)) ≤ 8) × (c .value-length .result ≡ length (valueText (a .line) (a .entry)))
-    × (c .value-length .result ≤ 512)
+    × (length (valueText (a .line) (a .entry)) ≤ 512)
 parts c =
     let n = c .before .name-of in
-    let line = c .before .before .args .line in
-    (name-of-padded line (n .result) (n .ensures) .0, name-sizes line .1, c .value-length .ensures .0, c .value-length .ensures .1)
+    let s = c .before .before in
+    let line = s .args .line in (
+      name-of-padded line (n .result) (n .ensures) .0,
+      name-sizes line .1,
+      c .value-length .ensures,
+      value-most line (s .pre .1 .0) (s .pre .1 .1) (s .args .entry) (s .pre .0),
+    )
 
 add-result : tie.Need-add-result
-add-result c = let p = parts (c .before) in record { fits = omega (arith, p .0, p .1, p .3) }
+add-result c = let p = parts (c .before) in record { fits = omega (arith, p .0, p .1, p .2, p .3) }
 
 add-result-2 : tie.Need-add-result-2
-add-result-2 c = let p = parts (c .before) in record { fits = omega (arith, p .0, p .1, p .3) }
+add-result-2 c = let p = parts (c .before) in record { fits = omega (arith, p .0, p .1, p .2, p .3) }
 
 returns : tie.Need-returns
 returns c =

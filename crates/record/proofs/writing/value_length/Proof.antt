@@ -7,12 +7,12 @@ use borrow.Author.Needs.{needs}
 use Rattle.digits.specs.Hex.{hexOf}
 use Rattle.digits.specs.Numbers.{places}
 use Rattle.digits.proofs.Spelling.{length-hex}
-use Rattle.digits.proofs.Numerals.{length-numeral, places-least}
+use Rattle.digits.proofs.Numerals.{length-numeral}
 use Rattle.record.specs.declared.field.Field.{Field}
 use Rattle.record.specs.Form.{held, isField, numberAt, fieldAt}
 use Rattle.record.specs.Text.{valueText}
 use Rattle.record.proofs.Fields.{held-length}
-use Rattle.record.proofs.Rules.{rule-number, rule-is-field}
+use Rattle.record.proofs.Rules.{rule-is-field}
 use Rattle.record.proofs.writing.value_length.Statement.{statement}
 use Rattle.record.proofs.writing.value_length.Tie as tie
 
@@ -29,14 +29,9 @@ returns : tie.Need-returns
 unfolding valueText
 returns c =
     let s = c .before .before .before .before in
-    let r = s .args .entry in
     let number = sym (c .before .before .before .is-number .ensures) ∙ c .before .before .if1 .taken in
-    let n = c .before .number-at in
-    let size = c .number-length .ensures ∙ ap places (n .ensures) in
-    let few = rule-number (s .args .line) (s .pre .1 .0) (s .pre .1 .1) number r (s .pre .0) in (
-      rw number (size ∙ sym (length-numeral (numberAt (s .args .line) r))),
-      omega (arith, size, places-least (numberAt (s .args .line) r) 6 (omega (arith, few))),
-    )
+    let size = c .number-length .ensures ∙ ap places (c .before .number-at .ensures) in
+    rw number (size ∙ sym (length-numeral (numberAt (s .args .line) (s .args .entry))))
 
 field-at-requires : tie.Need-field-at-requires
 field-at-requires c κs = search needs
@@ -60,7 +55,7 @@ returns-2 : tie.Need-returns-2
 unfolding valueText
 returns-2 c =
     let number = sym (c .before .before .before .is-number .ensures) ∙ c .before .before .if1 .left in
-    (rw number (sized (c .before) .0), omega (arith, sized (c .before) .1))
+    rw number (sized (c .before) .0)
 
 pub value-length-spec : {M : Type 1} → statement M
 value-length-spec =

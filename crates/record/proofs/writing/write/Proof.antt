@@ -5,7 +5,7 @@ use mathlib.Core.List.{List, [], _++_}
 use Prim.Native.Nat.{ℕ, suc, _+_, _-_, _≤_, _<_}
 use native.Mathlib.Omega.{arith}
 use denote.Ref.{now}
-use lib.ListN.{length, take, drop, length-take, length-drop, length-append}
+use lib.ListN.{length, take, drop, length-append}
 use borrow.Author.Needs.{needs}
 use borrow.Author.Tests.{le-leb, lt-leb, ne-eqb}
 use Rattle.answers.specs.declared.Answer.the-variants.{Done}
@@ -112,30 +112,8 @@ part-put-line-end c = search needs
 put-line-requires : tie.Need-put-line-requires Inv-loop μ-loop
 put-line-requires c κs =
     let l = c .before .before .loop in
-    let a = c .before .before .before .before .before .before .before .before .args in
-    let p = passed (c .before .before .before) in
     let h = c .before .loop-test .taken in
-    let first = l .inv .first in
-    let inside = line-room (a .entry) (now (a .place)) (l .place) (l .at) (l .line) (l .inv) h (p .1) in
-    let place = put-inside _ _ _ _ (l .inv .done) in (
-      sound (c .before .before .before) (l .line) first h,
-      (
-        first,
-        (
-          omega arith,
-          omega (
-            arith,
-            inside,
-            place .0,
-            place .1,
-            l .inv .sized,
-            length-append (textFrom (l .line - 1) 1 (a .entry)) (lineText (l .line) (a .entry)),
-            length-take (length (l .place) - l .at) (drop (l .at) (l .place)),
-            length-drop (l .at) (l .place),
-          ),
-        ),
-      ),
-    )
+    (sound (c .before .before .before) (l .line) (l .inv .first) h, (l .inv .first, omega arith))
 
 add-at : tie.Need-add-at Inv-loop μ-loop
 add-at c =

@@ -1,0 +1,5 @@
+-- Judging records, and the report on them.
+pub mod Tail
+pub mod Verdicts
+pub mod Reports
+pub mod Steps
