@@ -3,3 +3,4 @@ pub mod Tail
 pub mod Verdicts
 pub mod Reports
 pub mod Steps
+pub mod Laws

@@ -6,9 +6,10 @@ use lib.Dec.{leb}
 use lib.ListN.{length, drop}
 use Rattle.answers.specs.declared.Answer.the-variants.{Done, NoRoom}
 use Rattle.digits.specs.Numbers.{numeral}
+use Rattle.digits.specs.Room.{lineOf}
 use Rattle.judge.specs.declared.verdict.Verdict.{Verdict}
 use Rattle.judge.specs.declared.verdict.Verdict.the-variants.{Equal, Rounds, Cipher, Tag, Unread}
-use Rattle.judge.specs.declared.report.Reported.{Reported}
+use Rattle.judge.specs.declared.reporting.Reported.{Reported}
 
 -- `equal`, `differs` or `unread`
 abbrev pub word : Verdict → List ℕ
@@ -18,19 +19,44 @@ word Cipher = 0x64 ∷ 0x69 ∷ 0x66 ∷ 0x66 ∷ 0x65 ∷ 0x72 ∷ 0x73 ∷ []
 word Tag = 0x64 ∷ 0x69 ∷ 0x66 ∷ 0x66 ∷ 0x65 ∷ 0x72 ∷ 0x73 ∷ []
 word (Unread line) = 0x75 ∷ 0x6e ∷ 0x72 ∷ 0x65 ∷ 0x61 ∷ 0x64 ∷ []
 
--- `none`, the first differing field `rounds`, `cipher` or `tag`, or the number of the broken line
-abbrev pub field : Verdict → List ℕ
-field Equal = 0x6e ∷ 0x6f ∷ 0x6e ∷ 0x65 ∷ []
-field Rounds = 0x72 ∷ 0x6f ∷ 0x75 ∷ 0x6e ∷ 0x64 ∷ 0x73 ∷ []
-field Cipher = 0x63 ∷ 0x69 ∷ 0x70 ∷ 0x68 ∷ 0x65 ∷ 0x72 ∷ []
-field Tag = 0x74 ∷ 0x61 ∷ 0x67 ∷ []
-field (Unread line) = numeral line
+-- `none`; the first differing field, `rounds`, `cipher` or `tag`; the number of the broken line
+abbrev pub part : Verdict → List ℕ
+part Equal = 0x6e ∷ 0x6f ∷ 0x6e ∷ 0x65 ∷ []
+part Rounds = 0x72 ∷ 0x6f ∷ 0x75 ∷ 0x6e ∷ 0x64 ∷ 0x73 ∷ []
+part Cipher = 0x63 ∷ 0x69 ∷ 0x70 ∷ 0x68 ∷ 0x65 ∷ 0x72 ∷ []
+part Tag = 0x74 ∷ 0x61 ∷ 0x67 ∷ []
+part (Unread line) = numeral line
 
--- `record=` and the record's number, `verdict=` and the word, `field=` and the field, each ended by a line feed
+-- `record=` and the record's number
+unfoldable pub recordLine : ℕ → List ℕ
+recordLine number = lineOf (0x72 ∷ 0x65 ∷ 0x63 ∷ 0x6f ∷ 0x72 ∷ 0x64 ∷ 0x3d ∷ []) (numeral number)
+
+-- `verdict=` and the word
+unfoldable pub verdictLine : Verdict → List ℕ
+verdictLine verdict = lineOf (0x76 ∷ 0x65 ∷ 0x72 ∷ 0x64 ∷ 0x69 ∷ 0x63 ∷ 0x74 ∷ 0x3d ∷ []) (word verdict)
+
+-- `field=` and the field or the line
+unfoldable pub fieldLine : Verdict → List ℕ
+fieldLine verdict = lineOf (0x66 ∷ 0x69 ∷ 0x65 ∷ 0x6c ∷ 0x64 ∷ 0x3d ∷ []) (part verdict)
+
+-- the report on a record
 unfoldable pub reportText : ℕ → Verdict → List ℕ
-reportText number verdict =
-    (((((0x72 ∷ 0x65 ∷ 0x63 ∷ 0x6f ∷ 0x72 ∷ 0x64 ∷ 0x3d ∷ []) ++ numeral number)
-    ++ 0x0a ∷ 0x76 ∷ 0x65 ∷ 0x72 ∷ 0x64 ∷ 0x69 ∷ 0x63 ∷ 0x74 ∷ 0x3d ∷ [])
-    ++ word verdict)
-    ++ (0x0a ∷ 0x66 ∷ 0x69 ∷ 0x65 ∷ 0x6c ∷ 0x64 ∷ 0x3d ∷ []) ++ field verdict)
-    ++ 0x0a ∷ []
+reportText number verdict = recordLine number ++ (verdictLine verdict ++ fieldLine verdict)
+
+-- ---- into lent room
+
+-- an answer, and what the place of the report then holds
+pub record ReportLeaves : Type 0 where
+  pub outcome : Reported
+  pub place : List ℕ
+
+abbrev pub reportLeaves : Reported → List ℕ → ReportLeaves
+reportLeaves outcome place = record { outcome = outcome; place = place }
+
+-- the whole report, or 6, which changes nothing
+unfoldable pub reportCall : ℕ → Verdict → List ℕ → ReportLeaves
+reportCall number verdict place =
+    let text = reportText number verdict in
+    cond (leb (length text) (length place))
+    (reportLeaves (record { answer = Done; written = length text }) (text ++ drop (length text) place))
+    (reportLeaves (record { answer = NoRoom; written = 0 }) place)

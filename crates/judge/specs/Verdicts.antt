@@ -34,5 +34,13 @@ unfoldable pub verdictOn : Record → Verdict
 verdictOn r = cond (eqb (broken r) 0) (compared r) (Unread (broken r))
 
 -- ---- inside: our sealing in the code's struct
+
+-- of a set, key, nonce, data and text
+unfoldable pub oursBy : ℕ → List ℕ → List ℕ → List ℕ → List ℕ → Ours
+oursBy set K N A P =
+    let message = sealed (rowOf set) K N A P in
+    record { rounds = messageRounds (rowOf set) (length A) (length P); cipher = fieldOf (message .cipher); tag = fieldOf (message .tag) }
+
+-- of a record
 unfoldable pub oursOf : Record → Ours
-oursOf r = record { rounds = rounds r; cipher = fieldOf (sealing r .cipher); tag = fieldOf (sealing r .tag) }
+oursOf r = oursBy (r .set) (held (r .key)) (held (r .nonce)) (held (r .ad)) (held (r .text))

@@ -3,3 +3,4 @@ pub mod Tests
 pub mod Whole
 pub mod Bounds
 pub mod Demands
+pub mod Promise

@@ -57,7 +57,7 @@ held-field x = take-append-seam x (zeros (256 - length x))
 -- ---- a field in form
 
 -- a field in form has at most 256 bytes
-field-most : (f : Field) → isField f ≡ true → f .size ≤ 256
+pub field-most : (f : Field) → isField f ≡ true → f .size ≤ 256
 unfolding isField
 field-most f e = leb-true (f .size) 256 (and-both (leb (f .size) 256) _ e .0)
 

@@ -6,16 +6,17 @@ use mathlib.Core.Option.{some}
 use Prim.Native.Nat.{ℕ, suc, _-_, _≤_}
 use native.Mathlib.Omega.{arith}
 use lib.Dec.{eqb, leb}
-use lib.ListN.{length, take, drop}
+use lib.ListN.{length, take, drop, length-append}
 use lib.Seq.{take-append-seam}
 use borrow.Author.Tests.{leb-true, eqb-true, le-leb}
 use Rattle.answers.specs.declared.Answer.the-variants.{Done, NoRoom, BrokenRecord}
 use Rattle.record.specs.declared.lines.Record.{Record}
 use Rattle.record.specs.Form.{withNumber, withField, broken}
-use Rattle.record.specs.Text.{textFrom, textOf}
+use Rattle.record.specs.Text.{lineText, textFrom, textOf}
 use Rattle.record.specs.Calls.{Line, refusedAt, readCall, writeLeaves, writeCall}
 use Rattle.record.specs.Laws.{Typed, Begun, ReadsAndWrites}
 use Rattle.record.proofs.Rules.{copiedLine}
+use Rattle.record.proofs.Steps.{line-length}
 use Rattle.record.proofs.Chains.{Sound, rule-broken, broken-rule}
 use Rattle.record.proofs.Reach.{reach, read-whole, read-stopped, Outcome, whole, stopped, outcome}
 use Rattle.record.proofs.Forward.{copied, reach-copied}
@@ -33,6 +34,15 @@ all-read text d = go (outcome text)
     go : Outcome text → (s : Line) × (reach 8 text ≡ some s)
     go (whole s e) = (s, e)
     go (stopped n s h e f) = let z : _≡_ {A = ℕ} 0 1 = cc (read-stopped n text s h e f) in absurd (omega arith)
+
+-- a record that is read has a byte or more, and no more than its text
+pub taken-inside : (text : List ℕ) → readCall text .answer ≡ Done → (1 ≤ readCall text .taken) × (readCall text .taken ≤ length text)
+taken-inside text d =
+    let s = all-read text d in
+    let f : Far 8 text (s .0) = reach-far 8 (omega arith) text (s .0) (s .1) in
+    let all = ap length (f .there) ∙ length-append (textFrom 8 1 (s .0 .next)) (drop (s .0 .size) text) in
+    let first = length-append (lineText 1 (s .0 .next)) (textFrom 7 2 (s .0 .next)) in
+    rw (read-whole text (s .0) (s .1)) (omega (arith, f .size, line-length 1 (s .0 .next)), omega (arith, f .size))
 
 -- ---- writing
 

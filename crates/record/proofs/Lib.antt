@@ -11,6 +11,7 @@ pub mod Chains
 pub mod Reach
 pub mod Forward
 pub mod Backward
+pub mod InForm
 pub mod Bounds
 pub mod Windows
 pub mod Laws

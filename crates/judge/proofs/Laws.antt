@@ -1,0 +1,18 @@
+-- What the verdicts and the steps promise. Assumes nothing.
+use Rattle.judge.specs.Laws.{Judges}
+use Rattle.judge.proofs.Tails.{tail-is-part}
+use Rattle.judge.proofs.Verdicts.{equal-agrees, agrees-equal}
+use Rattle.judge.proofs.Windows.{final-window}
+use Rattle.judge.proofs.Outputs.{no-output, goes-on, stops}
+
+-- judging promises it all
+pub judges : Judges
+judges =
+    record {
+      equal = λ r. (equal-agrees r, agrees-equal r);
+      tail-is-part = tail-is-part;
+      window = final-window;
+      nothing = no-output;
+      goes-on = goes-on;
+      stops = stops;
+    }

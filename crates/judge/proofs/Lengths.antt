@@ -1,0 +1,19 @@
+-- How long reports are. Assumes nothing.
+use mathlib.Core.Path.{_≡_}
+use Prim.Native.Nat.{ℕ, _+_, _≤_, _<_, _^_}
+use native.Mathlib.Omega.{arith}
+use lib.ListN.{length, length-append}
+use Rattle.digits.specs.Numbers.{numeral}
+use Rattle.digits.proofs.Numerals.{length-numeral, places-least}
+use Rattle.digits.proofs.Room.{length-line}
+use Rattle.judge.specs.declared.verdict.Verdict.{Verdict}
+use Rattle.judge.specs.Reports.{word, part, recordLine, verdictLine, fieldLine, reportText}
+
+-- a number of 64 bits has at most 20 digits
+pub numeral-most : (n : ℕ) → n < 2 ^ 64 → length (numeral n) ≤ 20
+numeral-most n h = omega (arith, length-numeral n, places-least n 19 (omega arith))
+
+-- a report has 24 bytes, its number's, its word's and its field's
+pub length-report : (number : ℕ) (verdict : Verdict) → length (reportText number verdict) ≡ 24 + length (numeral number) + (length (word verdict) + length (part verdict))
+unfolding reportText recordLine verdictLine fieldLine
+length-report number verdict = simp (length-append, length-line) (omega arith)

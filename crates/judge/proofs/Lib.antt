@@ -1,0 +1,7 @@
+-- Laws of judging.
+pub mod Lengths
+pub mod Tails
+pub mod Verdicts
+pub mod Windows
+pub mod Outputs
+pub mod Laws

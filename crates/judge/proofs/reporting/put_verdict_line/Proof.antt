@@ -1,0 +1,139 @@
+-- `judge::reporting::put_verdict_line` meets its contract. Assumes nothing.
+use mathlib.Core.Path.{_≡_, sym, ap, _∙_}
+use denote.Ref.{now}
+use borrow.Author.Needs.{needs}
+use Rattle.digits.specs.Room.{put}
+use Rattle.judge.specs.declared.verdict.Verdict.{Verdict}
+use Rattle.judge.specs.Reports.{verdictLine}
+use Rattle.judge.proofs.reporting.put_verdict_line.Statement.{statement}
+use Rattle.judge.proofs.reporting.put_verdict_line.Tie as tie
+
+enum-told : tie.Need-enum-told
+enum-told c = search needs
+
+slice-aggregate-put-line : tie.Need-slice-aggregate-put-line
+slice-aggregate-put-line c = search needs
+
+slice-aggregate-put-line-2 : tie.Need-slice-aggregate-put-line-2
+slice-aggregate-put-line-2 c = search needs
+
+put-line-requires : tie.Need-put-line-requires
+put-line-requires c κs = search needs
+
+enum-told-2 : tie.Need-enum-told-2
+enum-told-2 c = search needs
+
+slice-aggregate-put-line-3 : tie.Need-slice-aggregate-put-line-3
+slice-aggregate-put-line-3 c = search needs
+
+slice-aggregate-put-line-4 : tie.Need-slice-aggregate-put-line-4
+slice-aggregate-put-line-4 c = search needs
+
+put-line-requires-2 : tie.Need-put-line-requires-2
+put-line-requires-2 c κs = search needs
+
+enum-told-3 : tie.Need-enum-told-3
+enum-told-3 c = search needs
+
+slice-aggregate-put-line-5 : tie.Need-slice-aggregate-put-line-5
+slice-aggregate-put-line-5 c = search needs
+
+slice-aggregate-put-line-6 : tie.Need-slice-aggregate-put-line-6
+slice-aggregate-put-line-6 c = search needs
+
+put-line-requires-3 : tie.Need-put-line-requires-3
+put-line-requires-3 c κs = search needs
+
+enum-told-4 : tie.Need-enum-told-4
+enum-told-4 c = search needs
+
+slice-aggregate-put-line-7 : tie.Need-slice-aggregate-put-line-7
+slice-aggregate-put-line-7 c = search needs
+
+slice-aggregate-put-line-8 : tie.Need-slice-aggregate-put-line-8
+slice-aggregate-put-line-8 c = search needs
+
+put-line-requires-4 : tie.Need-put-line-requires-4
+put-line-requires-4 c κs = search needs
+
+enum-told-5 : tie.Need-enum-told-5
+enum-told-5 c = search needs
+
+slice-aggregate-put-line-9 : tie.Need-slice-aggregate-put-line-9
+slice-aggregate-put-line-9 c = search needs
+
+slice-aggregate-put-line-10 : tie.Need-slice-aggregate-put-line-10
+slice-aggregate-put-line-10 c = search needs
+
+put-line-requires-5 : tie.Need-put-line-requires-5
+put-line-requires-5 c κs = search needs
+
+same-length : tie.Need-same-length
+same-length c = search needs
+
+returns : tie.Need-returns
+unfolding verdictLine
+returns c = c .before .before .put-line .ensures ∙ ap (λ (v : Verdict). put (verdictLine v) (now (c .before .before .before .before .before .before .before .before .before .args .place))) (sym (c .before .before .before .before .before .before .enum-told .given .1))
+
+same-length-2 : tie.Need-same-length-2
+same-length-2 c = search needs
+
+returns-2 : tie.Need-returns-2
+unfolding verdictLine
+returns-2 c = c .before .before .put-line2 .ensures ∙ ap (λ (v : Verdict). put (verdictLine v) (now (c .before .before .before .before .before .before .before .before .before .args .place))) (sym (c .before .before .before .before .before .before .enum-told2 .given .1))
+
+same-length-3 : tie.Need-same-length-3
+same-length-3 c = search needs
+
+returns-3 : tie.Need-returns-3
+unfolding verdictLine
+returns-3 c = c .before .before .put-line3 .ensures ∙ ap (λ (v : Verdict). put (verdictLine v) (now (c .before .before .before .before .before .before .before .before .before .args .place))) (sym (c .before .before .before .before .before .before .enum-told3 .given .1))
+
+same-length-4 : tie.Need-same-length-4
+same-length-4 c = search needs
+
+returns-4 : tie.Need-returns-4
+unfolding verdictLine
+returns-4 c = c .before .before .put-line4 .ensures ∙ ap (λ (v : Verdict). put (verdictLine v) (now (c .before .before .before .before .before .before .before .before .before .args .place))) (sym (c .before .before .before .before .before .before .enum-told4 .given .1))
+
+same-length-5 : tie.Need-same-length-5
+same-length-5 c = search needs
+
+returns-5 : tie.Need-returns-5
+unfolding verdictLine
+returns-5 c = c .before .before .put-line5 .ensures ∙ ap (λ (v : Verdict). put (verdictLine v) (now (c .before .before .before .before .before .before .before .before .before .args .place))) (sym (c .before .before .before .before .before .before .enum-told5 .given .1))
+
+pub put-verdict-line-spec : {M : Type 1} → statement M
+put-verdict-line-spec =
+    tie.close
+    (tie.spec
+    enum-told
+    slice-aggregate-put-line
+    slice-aggregate-put-line-2
+    put-line-requires
+    enum-told-2
+    slice-aggregate-put-line-3
+    slice-aggregate-put-line-4
+    put-line-requires-2
+    enum-told-3
+    slice-aggregate-put-line-5
+    slice-aggregate-put-line-6
+    put-line-requires-3
+    enum-told-4
+    slice-aggregate-put-line-7
+    slice-aggregate-put-line-8
+    put-line-requires-4
+    enum-told-5
+    slice-aggregate-put-line-9
+    slice-aggregate-put-line-10
+    put-line-requires-5
+    same-length
+    returns
+    same-length-2
+    returns-2
+    same-length-3
+    returns-3
+    same-length-4
+    returns-4
+    same-length-5
+    returns-5)

@@ -1,0 +1,67 @@
+-- One step of the program: from a window of the input to a report, and the whole output of an input.
+use mathlib.Core.Bool.{Bool, cond, _||_}
+use mathlib.Core.List.{List, [], _++_}
+use Prim.Native.Nat.{ℕ, zero, suc, _+_}
+use lib.Dec.{eqb, leb}
+use lib.ListN.{length, drop}
+use Rattle.answers.specs.declared.Answer.{Answer}
+use Rattle.answers.specs.Numbers.{isDone}
+use Rattle.record.specs.declared.reading.Reading.{Reading}
+use Rattle.record.specs.Calls.{readCall}
+use Rattle.judge.specs.declared.verdict.Verdict.{Verdict}
+use Rattle.judge.specs.declared.verdict.Verdict.the-variants.{Unread}
+use Rattle.judge.specs.declared.stepping.Step.{Step}
+use Rattle.judge.specs.declared.stepping.Step.the-variants.{Judged, Stopped, Wait, End, Short}
+use Rattle.judge.specs.Verdicts.{verdictOn}
+use Rattle.judge.specs.Reports.{reportText, ReportLeaves, reportCall}
+
+-- the verdict on what was read
+unfoldable pub verdictRead : Reading → Verdict
+verdictRead reading = cond (isDone (reading .answer)) (verdictOn (reading .content)) (Unread (reading .line))
+
+-- ---- one step
+
+-- what a window tells is final: a whole record stands in it, or the input has ended, or the window has the most bytes of a record
+unfoldable pub isFinal : List ℕ → Bool → Bool
+isFinal window ended = isDone (readCall window .answer) || (ended || leb 1_688 (length window))
+
+-- a step, and what the place of the report then holds
+pub record StepLeaves : Type 0 where
+  pub step : Step
+  pub place : List ℕ
+
+abbrev pub stepLeaves : Step → List ℕ → StepLeaves
+stepLeaves step place = record { step = step; place = place }
+
+-- what a report makes of a step: a record was judged, or what stands there can not be read, or the place has no room
+unfoldable pub stepBy : Reading → ReportLeaves → StepLeaves
+stepBy reading report =
+    stepLeaves
+    (cond (isDone (report .outcome .answer))
+    (cond (isDone (reading .answer)) (Judged (reading .taken) (report .outcome .written)) (Stopped (report .outcome .written)))
+    Short)
+    (report .place)
+
+-- the report on what was read
+unfoldable pub reported : Reading → ℕ → List ℕ → StepLeaves
+reported reading number place = stepBy reading (reportCall number (verdictRead reading) place)
+
+-- an empty window is the end of the input, or wants more of it; another gives a report where it is final, and else wants more
+unfoldable pub stepCall : List ℕ → Bool → ℕ → List ℕ → StepLeaves
+stepCall window ended number place =
+    cond (eqb (length window) 0) (stepLeaves (cond ended End Wait) place)
+    (cond (isFinal window ended) (reported (readCall window) number place) (stepLeaves Wait place))
+
+-- ---- the whole output
+
+-- the reports on an input's records, in so many steps, numbered from one on: the first that can not be read is the last
+abbrev pub outputIn : ℕ → ℕ → List ℕ → List ℕ
+outputIn zero number text = []
+outputIn (suc steps) number text =
+    cond (eqb (length text) 0) []
+    (reportText number (verdictRead (readCall text))
+    ++ cond (isDone (readCall text .answer)) (outputIn steps (number + 1) (drop (readCall text .taken) text)) [])
+
+-- the output of the program: no more steps than bytes
+unfoldable pub outputFrom : ℕ → List ℕ → List ℕ
+outputFrom number text = outputIn (length text) number text

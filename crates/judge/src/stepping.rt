@@ -1,0 +1,80 @@
+// One step of the program: from a window of the input to a report.
+ghost use mathlib.Core.Path.{_≡_};
+ghost use Rattle.judge.specs.Steps.{verdictRead, stepLeaves, stepCall, reported};
+use crate::reporting;
+use crate::verdict;
+use crate::verdict::Verdict;
+use answers::Answer;
+use record::Reading;
+
+// What a step does.
+pub enum Step {
+    // A record was judged: how many bytes of the window it took, and how many its report has.
+    Judged { taken: usize, written: usize },
+    // What stands in the window can't be read: how many bytes its report has, which is the last.
+    Stopped { written: usize },
+    // More of the input is wanted.
+    Wait,
+    // The input ended where a record would start.
+    End,
+    // The place has no room for the report.
+    Short,
+}
+
+// The verdict on what was read.
+fn verdict_on(reading: Reading) -> Verdict
+    ensures { λ r. ⌜ r ≡ verdictRead reading ⌝ }
+{
+    let answer = reading.answer;
+    let content = reading.content;
+    if answers::is_done(answer) {
+        return verdict::judge(content);
+    }
+    Verdict::Unread(reading.line)
+}
+
+// The report on what was read.
+fn report_on(reading: Reading, number: u64, place: &mut [u8]) -> Step
+    ensures { λ r. ⌜ stepLeaves r (now (place .exit)) ≡ reported reading number (now (place .entry)) ⌝ }
+{
+    let done = reporting::report(number, verdict_on(reading), place);
+    let answer = done.answer;
+    if !answers::is_done(answer) {
+        return Step::Short;
+    }
+    let answer = reading.answer;
+    if answers::is_done(answer) {
+        return Step::Judged {
+            taken: reading.taken,
+            written: done.written,
+        };
+    }
+    Step::Stopped {
+        written: done.written,
+    }
+}
+
+// Judges the record that a window of the input begins with, where the window tells enough, and puts the report at the beginning of a place. `ended` says that the
+// window is all that is left of the input.
+pub fn judge_window(window: &[u8], ended: bool, number: u64, place: &mut [u8]) -> Step
+    ensures { λ r. ⌜ stepLeaves r (now (place .exit)) ≡ stepCall (now (window .entry)) ended number (now (place .entry)) ⌝ }
+{
+    if window.len() == 0 {
+        if ended {
+            return Step::End;
+        }
+        return Step::Wait;
+    }
+    let reading = record::read(window);
+    let answer = reading.answer;
+    if answers::is_done(answer) {
+        return report_on(reading, number, place);
+    }
+    if ended {
+        return report_on(reading, number, place);
+    }
+    if 1688 <= window.len() {
+        return report_on(reading, number, place);
+    }
+    Step::Wait
+}
