@@ -3,6 +3,7 @@ use Rattle.judge.specs.Laws.{Judges}
 use Rattle.judge.proofs.Tails.{tail-is-part}
 use Rattle.judge.proofs.Verdicts.{equal-agrees, agrees-equal}
 use Rattle.judge.proofs.Windows.{final-window}
+use Rattle.judge.proofs.Sizes.{step-inside, step-waits}
 use Rattle.judge.proofs.Outputs.{no-output, goes-on, stops}
 
 -- judging promises it all
@@ -12,6 +13,8 @@ judges =
       equal = λ r. (equal-agrees r, agrees-equal r);
       tail-is-part = tail-is-part;
       window = final-window;
+      inside = step-inside;
+      waits = step-waits;
       nothing = no-output;
       goes-on = goes-on;
       stops = stops;

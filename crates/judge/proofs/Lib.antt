@@ -3,5 +3,6 @@ pub mod Lengths
 pub mod Tails
 pub mod Verdicts
 pub mod Windows
+pub mod Sizes
 pub mod Outputs
 pub mod Laws

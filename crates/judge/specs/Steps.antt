@@ -52,6 +52,22 @@ stepCall window ended number place =
     cond (eqb (length window) 0) (stepLeaves (cond ended End Wait) place)
     (cond (isFinal window ended) (reported (readCall window) number place) (stepLeaves Wait place))
 
+-- how many bytes of the window a step takes
+abbrev pub takenBy : Step → ℕ
+takenBy (Judged taken written) = taken
+takenBy (Stopped written) = 0
+takenBy Wait = 0
+takenBy End = 0
+takenBy Short = 0
+
+-- how many bytes of the place its report has
+abbrev pub writtenBy : Step → ℕ
+writtenBy (Judged taken written) = written
+writtenBy (Stopped written) = written
+writtenBy Wait = 0
+writtenBy End = 0
+writtenBy Short = 0
+
 -- ---- the whole output
 
 -- the reports on an input's records, in so many steps, numbered from one on: the first that can not be read is the last

@@ -1,0 +1,2 @@
+-- The program's window.
+pub mod Windows
