@@ -1,10 +1,27 @@
--- The window lies in the buffer, which has the most bytes of a record and more.
+-- How far the program is.
+use mathlib.Core.Bool.{Bool, true, false, cond, not}
 use mathlib.Core.List.{List}
-use Prim.Native.Nat.{ℕ, _≤_, _<_}
+use Prim.Native.Nat.{ℕ, _+_, _≤_, _<_}
+use lib.Dec.{eqb}
 use lib.ListN.{length}
 use Rattle.bench.specs.declared.Progress.{Progress}
 
+-- the window lies in the buffer, which has room for more than the most bytes of a record
 pub record Within (p : Progress) (buffer : List ℕ) : Type 0 where
   pub begins : p .start ≤ p .filled
   pub inside : p .filled ≤ length buffer
   pub enough : 1_688 < length buffer
+
+-- nothing is read, and the first record has the number 1
+abbrev pub begun : Progress
+begun = record { start = 0; filled = 0; ended = false; number = 1; over = false }
+
+-- nothing is left to do
+abbrev pub stopped : Progress → Progress
+stopped p = record { start = p .start; filled = p .filled; ended = p .ended; number = p .number; over = true }
+
+-- behind a record that took so many bytes: the next number, unless there is none; over where the report was not written
+unfoldable pub behind : Progress → ℕ → Bool → Progress
+behind p taken written =
+    cond (eqb (p .number) 18_446_744_073_709_551_615) (stopped p)
+    (record { start = p .start + taken; filled = p .filled; ended = p .ended; number = p .number + 1; over = not written })

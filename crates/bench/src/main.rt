@@ -3,7 +3,7 @@
 ghost use mathlib.Core.Path.{_≡_};
 ghost use Prim.Native.Nat.{_-_, _≤_, _<_};
 ghost use lib.ListN.{length, take, drop};
-ghost use Rattle.bench.specs.Windows.{Within};
+ghost use Rattle.bench.specs.Windows.{Within, begun, stopped, behind};
 use judge::Step;
 use libc::STDIN_FILENO;
 use libc::STDOUT_FILENO;
@@ -34,7 +34,7 @@ fn give_up(what: &[u8]) {
 
 // The end of the program.
 fn end(p: Progress) -> Progress
-    ensures { λ r. ⌜ (r .start ≡ p .start) × (r .filled ≡ p .filled) ⌝ }
+    ensures { λ r. ⌜ r ≡ stopped p ⌝ }
 {
     Progress {
         start: p.start,
@@ -45,11 +45,24 @@ fn end(p: Progress) -> Progress
     }
 }
 
+// Where the program begins: nothing is read, and the first record has the number 1.
+fn begin() -> Progress
+    ensures { λ r. ⌜ r ≡ begun ⌝ }
+{
+    Progress {
+        start: 0,
+        filled: 0,
+        ended: false,
+        number: 1,
+        over: false,
+    }
+}
+
 // The next record, behind one that took so many bytes, where its report was written.
 fn next_record(p: Progress, taken: usize, written: bool) -> Progress
     requires { ⌜ taken ≤ p .filled - p .start ⌝ }
     requires { ⌜ p .start ≤ p .filled ⌝ }
-    ensures { λ r. ⌜ (r .start ≤ r .filled) × (r .filled ≡ p .filled) ⌝ }
+    ensures { λ r. ⌜ r ≡ behind p taken written ⌝ }
 {
     if p.number == u64::MAX {
         give_up(b"bench: too many records\n");
@@ -147,13 +160,7 @@ fn turn(buffer: &mut [u8], p: Progress) -> Progress
 fn main() {
     let mut space = io::large_buffer();
     let buffer: &mut [u8] = &mut space;
-    let mut p = Progress {
-        start: 0,
-        filled: 0,
-        ended: false,
-        number: 1,
-        over: false,
-    };
+    let mut p = begin();
     let mut turns = u64::MAX;
     while 0 < turns {
         if p.over {

@@ -1,7 +1,8 @@
 -- `bench::main` ends. The loop's invariant: the window lies in the buffer. The measure is the number of turns left. Assumes nothing.
-use mathlib.Core.Path.{refl}
+use mathlib.Core.Path.{refl, sym, subst}
 use native.Mathlib.Omega.{arith}
 use borrow.Author.Needs.{needs}
+use Rattle.bench.specs.declared.Progress.{Progress}
 use Rattle.bench.specs.Windows.{Within}
 use Rattle.bench.proofs.main.Statement.{statement}
 use Rattle.bench.proofs.main.Tie as tie
@@ -18,8 +19,14 @@ large-buffer-requires c κs = search needs
 slice-aggregate-buffer : tie.Need-slice-aggregate-buffer Inv-loop μ-loop
 slice-aggregate-buffer c = search needs
 
+begin-requires : tie.Need-begin-requires Inv-loop μ-loop
+begin-requires c κs = search needs
+
 loop-holds : tie.Need-loop-holds Inv-loop μ-loop
-loop-holds c = search needs
+loop-holds c =
+    let first = c .begin .ensures in
+    subst (λ (p : Progress). Within p (c .before .before .large-buffer .result)) (sym first)
+    (record { begins = omega arith; inside = omega arith; enough = omega (arith, c .before .before .large-buffer .ensures) })
 
 returns : tie.Need-returns Inv-loop μ-loop
 returns c = search needs
@@ -53,6 +60,7 @@ main-spec =
     μ-loop
     large-buffer-requires
     slice-aggregate-buffer
+    begin-requires
     loop-holds
     returns
     turn-requires

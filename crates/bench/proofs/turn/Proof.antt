@@ -9,6 +9,7 @@ use borrow.Author.Needs.{needs}
 use Rattle.judge.specs.declared.stepping.Step.{Step}
 use Rattle.judge.specs.Steps.{StepLeaves, takenBy, writtenBy}
 use Rattle.judge.proofs.Laws.{judges}
+use Rattle.bench.proofs.Windows.{within-stopped, within-behind}
 use Rattle.bench.proofs.turn.Statement.{statement}
 use Rattle.bench.proofs.turn.Tie as tie
 
@@ -56,9 +57,12 @@ slice-aggregate-say c = sym (length-take-le _ _ (judged-written (c .before .befo
 say-requires : tie.Need-say-requires
 say-requires c κs = search needs
 
+-- what it took
+taken-inside : (c : tie.After-step) → let p = c .before .before .before .before .before .before .before .before .args .p in c .step .given .0 .0 ≤ p .filled - p .start
+taken-inside c = omega (arith, inside (c .before .before .before) .0, ap takenBy (c .step .given .1))
+
 next-record-requires : tie.Need-next-record-requires
-next-record-requires c κs =
-    (omega (arith, inside (c .before .before .before .before .before .before) .0, ap takenBy (c .before .before .before .step .given .1)), c .before .before .before .before .before .before .before .before .before .before .before .pre .begins)
+next-record-requires c κs = (taken-inside (c .before .before .before), c .before .before .before .before .before .before .before .before .before .before .before .pre .begins)
 
 enum-known-step-2 : tie.Need-enum-known-step-2
 enum-known-step-2 c = search needs
@@ -113,13 +117,15 @@ same-length : tie.Need-same-length
 same-length c = search needs
 
 returns : tie.Need-returns
-returns c = search needs
+returns c =
+    let s = c .before .before .before .before .before .before .before .before .before .before .before .before in
+    within-behind (s .args .p) _ _ _ _ (c .next-record .ensures) (taken-inside (c .before .before .before .before)) (s .pre)
 
 same-length-2 : tie.Need-same-length-2
 same-length-2 c = search needs
 
 returns-2 : tie.Need-returns-2
-returns-2 c = search needs
+returns-2 c = let s = c .before .before .before .before .before .before .before .before .before .before .before .before in within-stopped (s .args .p) _ _ (c .end .ensures) (s .pre)
 
 same-length-3 : tie.Need-same-length-3
 same-length-3 c = search needs
@@ -131,13 +137,13 @@ same-length-4 : tie.Need-same-length-4
 same-length-4 c = search needs
 
 returns-4 : tie.Need-returns-4
-returns-4 c = search needs
+returns-4 c = let s = c .before .before .before .before .before .before .before .before .before in within-stopped (s .args .p) _ _ (c .end2 .ensures) (s .pre)
 
 same-length-5 : tie.Need-same-length-5
 same-length-5 c = search needs
 
 returns-5 : tie.Need-returns-5
-returns-5 c = search needs
+returns-5 c = let s = c .before .before .before .before .before .before .before .before .before .before .before in within-stopped (s .args .p) _ _ (c .end3 .ensures) (s .pre)
 
 pub turn-spec : {M : Type 1} → statement M
 turn-spec =

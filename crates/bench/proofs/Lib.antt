@@ -1,0 +1,2 @@
+-- Laws of the window.
+pub mod Windows
