@@ -1,0 +1,75 @@
+//! Hex values with digits that are none, and with half a byte too few or too many.
+
+use crate::input::Input;
+use crate::lines::Lines;
+
+/// The lines that hold bytes.
+const LINES: std::ops::RangeInclusive<usize> = 2..=7;
+
+/// Where a wrong digit is put.
+#[derive(Clone, Copy)]
+enum Place {
+    First,
+    Middle,
+    Last,
+}
+
+use Place::*;
+
+/// The wrong digits; some are neighbours of right ones, or right ones with the high bit.
+const WRONG: [(&str, Place, u8); 15] = [
+    ("upper-case A first", First, b'A'),
+    ("upper-case B in the middle", Middle, b'B'),
+    ("upper-case F last", Last, b'F'),
+    ("g first", First, b'g'),
+    ("g in the middle", Middle, b'g'),
+    ("g last", Last, b'g'),
+    ("slash in the middle", Middle, b'/'),
+    ("colon last", Last, b':'),
+    ("backquote first", First, b'`'),
+    ("at sign in the middle", Middle, b'@'),
+    ("upper-case G last", Last, b'G'),
+    ("minus first", First, b'-'),
+    ("zero byte in the middle", Middle, 0),
+    ("0 with the high bit first", First, b'0' | 0x80),
+    ("a with the high bit in the middle", Middle, b'a' | 0x80),
+];
+
+/// Gives each line with each wrong digit.
+pub fn wrong() -> Vec<Input> {
+    let mut inputs = Vec::new();
+    for line in LINES {
+        for (number, (what, place, digit)) in WRONG.into_iter().enumerate() {
+            let lines = Lines::short(line + number);
+            let mut value = lines.value(line).to_vec();
+            let place = match place {
+                First => 0,
+                Middle => value.len() / 2,
+                Last => value.len() - 1,
+            };
+            value[place] = digit;
+            let what = format!("line {line} {what}");
+            inputs.push(Input::unread(what, lines.with_value(line, value), line));
+        }
+    }
+    inputs
+}
+
+/// Gives each line with a digit fewer, a digit more, a digit alone, and a sign of hex in front.
+pub fn odd() -> Vec<Input> {
+    let mut inputs = Vec::new();
+    for line in LINES {
+        let lines = Lines::short(line);
+        let right = lines.value(line);
+        for (what, value) in [
+            ("one digit fewer", right[1..].to_vec()),
+            ("one digit more", [right, b"0"].concat()),
+            ("one digit alone", b"0".to_vec()),
+            ("0x in front", [b"0x", right].concat()),
+        ] {
+            let what = format!("line {line} {what}");
+            inputs.push(Input::unread(what, lines.with_value(line, value), line));
+        }
+    }
+    inputs
+}

@@ -1,0 +1,51 @@
+//! Records that meet the ends of likely buffers.
+
+use crate::input::Input;
+use crate::lines::Lines;
+use second::cipher::SETS;
+
+/// The lengths of likely buffers.
+const BUFFERS: [usize; 6] = [2_048, 4_096, 8_192, 16_384, 32_768, 65_536];
+
+/// Gives rows in which a record ends, the input ends, is cut or is damaged at a buffer's end or beside it.
+pub fn around() -> Vec<Input> {
+    let pair = [0, 1].map(|number| Lines::short(number).bytes()).concat();
+    let mut inputs = Vec::new();
+    for buffer in BUFFERS {
+        for place in [buffer - 1, buffer, buffer + 1] {
+            let up_to = row(place);
+            let across = [&row(place - 100), &pair[..]].concat();
+            let mut damaged = across.clone();
+            damaged[place] = b'g';
+            for (what, bytes) in [
+                ("a record ends", [&up_to, &pair[..]].concat()),
+                ("the input ends", up_to),
+                ("a record is cut", across[..place].to_vec()),
+                ("a record is damaged", damaged),
+            ] {
+                inputs.push(Input::told(format!("{what} at {place}"), bytes));
+            }
+        }
+    }
+    inputs
+}
+
+/// Gives records in form with exactly as many bytes in all.
+fn row(length: usize) -> Vec<u8> {
+    let record = Lines::right(&SETS[0], 50, 60).bytes();
+    let count = length / record.len() - 1;
+    let mut bytes = record.repeat(count);
+    bytes.extend(record_of_length(length - bytes.len()));
+    bytes
+}
+
+/// Gives a record in form of exactly this length, with rounds that no message takes.
+fn record_of_length(length: usize) -> Vec<u8> {
+    let empty = Lines::right(&SETS[0], 0, 0).with_value(8, "1").bytes();
+    let spare = length - empty.len();
+    let (ad, cipher) = ((spare / 2).min(256), (spare / 2).saturating_sub(256));
+    Lines::right(&SETS[0], ad, 0)
+        .with_value(6, "5a".repeat(cipher))
+        .with_value(8, if spare.is_multiple_of(2) { "1" } else { "10" })
+        .bytes()
+}

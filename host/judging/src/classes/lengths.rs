@@ -1,0 +1,85 @@
+//! Fields and lines of other lengths than the rules give them.
+
+use crate::input::Input;
+use crate::lines::Lines;
+use second::cipher::SETS;
+use second::record::LABELS;
+
+/// Gives keys, nonces and tags of lengths that are not the set's.
+pub fn exact() -> Vec<Input> {
+    let mut inputs = Vec::new();
+    for (set, other) in [(&SETS[0], &SETS[1]), (&SETS[1], &SETS[0])] {
+        let lines = Lines::right(set, 3, 5);
+        for line in [2, 3, 7] {
+            for (what, length) in [
+                ("one byte fewer", set.key - 1),
+                ("one byte more", set.key + 1),
+                ("no byte", 0),
+                ("twice as many", 2 * set.key),
+                ("the other set's length", other.key),
+            ] {
+                let what = format!("set {} line {line} {what}", set.number);
+                let lines = lines.with_value(line, "a5".repeat(length));
+                inputs.push(Input::unread(what, lines, line));
+            }
+        }
+        let what = format!("set {} called the other", set.number);
+        let renamed = lines.with_value(1, other.number.to_string());
+        inputs.push(Input::unread(what, renamed, 2));
+    }
+    inputs
+}
+
+/// Gives data, text and ciphers of none, of up to 256 bytes, and of more.
+pub fn up_to_256() -> Vec<Input> {
+    let mut inputs = Vec::new();
+    for set in &SETS {
+        for (ad, text) in [(0, 0), (0, 256), (256, 0), (255, 255), (256, 256)] {
+            let what = format!("set {} ad {ad} text {text}", set.number);
+            inputs.push(Input::equal(what, Lines::right(set, ad, text)));
+        }
+    }
+    for line in [4, 5, 6] {
+        for (what, digits) in [
+            ("257 bytes", 514),
+            ("258 bytes", 516),
+            ("512 bytes", 1_024),
+            ("256 bytes and a digit", 513),
+            ("255 bytes and a digit", 511),
+        ] {
+            let what = format!("line {line} {what}");
+            let lines = Lines::short(line).with_value(line, "c".repeat(digits));
+            inputs.push(Input::unread(what, lines, line));
+        }
+    }
+    let all = (4..=6).fold(Lines::short(0), |lines, line| {
+        lines.with_value(line, "c".repeat(514))
+    });
+    inputs.push(Input::unread("257 bytes in all three", all, 4));
+    inputs
+}
+
+/// Gives each line far longer than a record: its digits, digits to the end, a long name, many empty lines.
+pub fn far_too_long() -> Vec<Input> {
+    let mut inputs = Vec::new();
+    for line in 1..=8 {
+        let lines = Lines::short(line);
+        let digits = |count| [LABELS[line - 1], &b"1".repeat(count)].concat();
+        let ended = |count| [digits(count), b"\n".to_vec()].concat();
+        let long_name = [&b"a".repeat(100_000), lines.line(line)].concat();
+        for (what, there) in [
+            ("2000 digits", ended(2_000)),
+            ("100000 digits", ended(100_000)),
+            ("name of 100000 letters", long_name),
+            ("100000 line feeds", b"\n".repeat(100_000)),
+        ] {
+            let what = format!("line {line} {what}");
+            inputs.push(Input::unread(what, lines.with_line(line, there), line));
+        }
+        let before: Vec<&[u8]> = (1..line).map(|line| lines.line(line)).collect();
+        let endless = [before.concat(), digits(100_000)].concat();
+        let what = format!("line {line} digits to the end");
+        inputs.push(Input::unread(what, endless, line));
+    }
+    inputs
+}

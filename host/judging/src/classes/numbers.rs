@@ -1,0 +1,120 @@
+//! Values of the set line and the rounds line.
+
+use crate::input::Input;
+use crate::lines::Lines;
+use second::cipher::SETS;
+
+/// Gives set lines that name neither set, and the two that name one.
+pub fn sets() -> Vec<Input> {
+    let values: [(&str, &[u8]); 24] = [
+        ("empty", b""),
+        ("0", b"0"),
+        ("3", b"3"),
+        ("4", b"4"),
+        ("9", b"9"),
+        ("01", b"01"),
+        ("02", b"02"),
+        ("001", b"001"),
+        ("10", b"10"),
+        ("11", b"11"),
+        ("12", b"12"),
+        ("21", b"21"),
+        ("257", b"257"),
+        ("4294967297", b"4294967297"),
+        ("plus 1", b"+1"),
+        ("minus 1", b"-1"),
+        ("1 and a point", b"1."),
+        ("1 and a blank", b"1 "),
+        ("a blank and 2", b" 2"),
+        ("1 and a zero byte", b"1\0"),
+        ("the byte 1", b"\x01"),
+        ("the letter l", b"l"),
+        ("1 with the high bit", b"\xb1"),
+        ("one", b"one"),
+    ];
+    let mut inputs = Vec::new();
+    for (number, (what, value)) in values.into_iter().enumerate() {
+        let lines = Lines::short(number).with_value(1, value);
+        inputs.push(Input::unread(what, lines, 1));
+    }
+    inputs.push(Input::equal("1", Lines::right(&SETS[0], 3, 5)));
+    inputs.push(Input::equal("2", Lines::right(&SETS[1], 3, 5)));
+    inputs
+}
+
+/// Gives rounds that have no right form; many would be the right number if read less strictly.
+pub fn rounds_broken() -> Vec<Input> {
+    let mut inputs = Vec::new();
+    for set in &SETS {
+        let lines = Lines::right(set, 9, 20);
+        let right = rounds_of(&lines);
+        for (what, value) in [
+            ("empty", String::new()),
+            ("00", "00".to_string()),
+            ("0000000", "0000000".to_string()),
+            ("a zero in front", format!("0{right}")),
+            ("zeros up to seven digits", format!("{right:07}")),
+            ("zeros up to eight digits", format!("{right:08}")),
+            ("10000000", "10000000".to_string()),
+            ("99999999", "99999999".to_string()),
+            ("23 digits", "12345678901234567890123".to_string()),
+            ("more by 2 to the 24", (right + (1 << 24)).to_string()),
+            ("more by 2 to the 32", (right + (1 << 32)).to_string()),
+            (
+                "more by 2 to the 64",
+                (u128::from(right) + (1 << 64)).to_string(),
+            ),
+            ("plus", format!("+{right}")),
+            ("minus", format!("-{right}")),
+            ("a blank before", format!(" {right}")),
+            ("a blank after", format!("{right} ")),
+            ("a blank inside", "4 8".to_string()),
+            ("a tab before", format!("\t{right}")),
+            ("a point after", format!("{right}.")),
+            ("hex letters", "ff".to_string()),
+            ("a letter after", format!("{right}a")),
+            ("a letter before", format!("a{right}")),
+            ("hex with its sign", format!("{right:#x}")),
+            ("a colon", "4:".to_string()),
+            ("a slash", "4/".to_string()),
+            ("a zero byte after", format!("{right}\0")),
+            ("digits of another script", "\u{664}\u{668}".to_string()),
+        ] {
+            let what = format!("set {} {what}", set.number);
+            inputs.push(Input::unread(what, lines.with_value(8, value), 8));
+        }
+    }
+    inputs
+}
+
+/// Gives rounds that are in form and not ours; some are ours in fewer bits.
+pub fn rounds_in_form() -> Vec<Input> {
+    let mut inputs = Vec::new();
+    for set in &SETS {
+        let lines = Lines::right(set, 9, 20);
+        let right = rounds_of(&lines);
+        for (what, value) in [
+            ("0", 0),
+            ("1", 1),
+            ("1000000", 1_000_000),
+            ("9999999", 9_999_999),
+            ("one fewer", right - 1),
+            ("one more", right + 1),
+            ("a zero behind", 10 * right),
+            ("a digit fewer", right / 10),
+            ("more by 2 to the 8", right + (1 << 8)),
+            ("more by 2 to the 16", right + (1 << 16)),
+        ] {
+            let what = format!("set {} {what}", set.number);
+            let lines = lines.with_value(8, value.to_string());
+            inputs.push(Input::differs(what, lines, "rounds"));
+        }
+    }
+    inputs
+}
+
+/// Gives the number in the rounds line.
+fn rounds_of(lines: &Lines) -> u64 {
+    let digits = std::str::from_utf8(lines.value(8)).expect("decimal digits");
+    digits.parse().expect("a number")
+}

@@ -1,0 +1,111 @@
+//! Records in form, right ones and ones that differ.
+
+use crate::input::{Input, Said};
+use crate::lines::Lines;
+use second::cipher::{Set, SETS};
+
+/// The lines whose fields are compared, in the order of comparison.
+const COMPARED: [(usize, &str); 3] = [(8, "rounds"), (6, "cipher"), (7, "tag")];
+
+/// Gives records that differ in one field or several, or in what they were sealed from.
+pub fn differing() -> Vec<Input> {
+    let mut inputs = Vec::new();
+    for set in &SETS {
+        inputs.extend((0..8).map(|choice| differing_in(set, choice)));
+        let lines = Lines::right(set, 3, 2 * set.block + 3);
+        let mut add = |what: String, lines: Lines, field| {
+            let what = format!("set {} {what}", set.number);
+            inputs.push(Input::differs(what, lines, field));
+        };
+        for (line, field) in [(6, "cipher"), (7, "tag")] {
+            let digits = lines.value(line).len();
+            for place in [0, 1, digits / 2, digits - 2, digits - 1] {
+                let what = format!("{field} from digit {place}");
+                add(what, lines.with_other_digit(line, place), field);
+            }
+            let zeros = lines.with_value(line, "0".repeat(digits));
+            add(format!("{field} of zeros"), zeros, field);
+        }
+        let second_block = lines.with_other_digit(6, 2 * set.block);
+        add("cipher from a block on".to_string(), second_block, "cipher");
+        for (line, field) in [(2, "key"), (3, "nonce"), (4, "ad"), (5, "text")] {
+            let other = lines.with_other_digit(line, lines.value(line).len() - 1);
+            add(format!("another {field}"), other, "cipher");
+        }
+        let textless = Lines::right(set, 3, 0);
+        for (line, field) in [(2, "key"), (3, "nonce"), (4, "ad")] {
+            let other = textless.with_other_digit(line, 0);
+            add(format!("another {field} without text"), other, "tag");
+        }
+    }
+    inputs
+}
+
+/// Gives a record that differs in those compared fields that are bits of the choice.
+fn differing_in(set: &Set, choice: usize) -> Input {
+    let mut lines = Lines::right(set, 9, 9);
+    let mut fields = Vec::new();
+    for (bit, (line, field)) in COMPARED.into_iter().enumerate() {
+        if choice >> bit & 1 == 1 {
+            lines = lines.with_other_digit(line, 1);
+            fields.push(field);
+        }
+    }
+    let what = format!("set {} choice {choice} {}", set.number, fields.join(" "));
+    match fields[..] {
+        [] => Input::equal(what, lines),
+        [first, ..] => Input::differs(what, lines, first),
+    }
+}
+
+/// Gives records whose cipher is shorter or longer than their text.
+pub fn other_lengths() -> Vec<Input> {
+    let mut inputs = Vec::new();
+    for set in &SETS {
+        let short = Lines::right(set, 3, 5);
+        let cut = |digits: usize| short.with_value(6, &short.value(6)[..digits]);
+        let grown = |bytes| short.with_value(6, [short.value(6), &b"5a".repeat(bytes)].concat());
+        let long = Lines::right(set, 0, 256);
+        let none = Lines::right(set, 0, 0);
+        for (what, lines) in [
+            ("none of 5", cut(0)),
+            ("1 of 5", cut(2)),
+            ("4 of 5", cut(8)),
+            ("6 of 5", grown(1)),
+            ("256 of 5", grown(251)),
+            ("1 of 256", long.with_value(6, &long.value(6)[..2])),
+            ("1 of none", none.with_value(6, "00")),
+            ("256 of none", none.with_value(6, "5a".repeat(256))),
+        ] {
+            inputs.push(Input::equal(format!("set {} {what}", set.number), lines));
+        }
+        for (what, lines, line, place, field) in [
+            ("4 of 5 and the last differs", cut(8), 6, 7, "cipher"),
+            ("14 of 5 and the first differs", grown(9), 6, 0, "cipher"),
+            ("14 of 5 and the fifth differs", grown(9), 6, 9, "cipher"),
+            ("2 of 5 and another tag", cut(4), 7, 9, "tag"),
+            ("9 of 5 and another tag", grown(4), 7, 9, "tag"),
+            ("2 of 5 and other rounds", cut(4), 8, 1, "rounds"),
+        ] {
+            let what = format!("set {} {what}", set.number);
+            let other = lines.with_other_digit(line, place);
+            inputs.push(Input::differs(what, other, field));
+        }
+    }
+    inputs
+}
+
+/// Gives right records of each data length below, with each of the lengths as text in turn.
+pub fn right() -> Vec<Input> {
+    const LENGTHS: [usize; 13] = [0, 1, 7, 8, 9, 15, 16, 17, 31, 32, 33, 255, 256];
+    let mut inputs = Vec::new();
+    for set in &SETS {
+        for ad in LENGTHS {
+            let records = LENGTHS.map(|text| Lines::right(set, ad, text).bytes());
+            let what = format!("set {} ad {ad}", set.number);
+            let said = [Said::Equal; LENGTHS.len()];
+            inputs.push(Input::of(what, records.concat(), &said));
+        }
+    }
+    inputs
+}

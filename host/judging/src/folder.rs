@@ -1,0 +1,59 @@
+//! The folder of inputs: a folder for each class, a file for each input.
+
+use crate::classes::CLASSES;
+use second::judge::judge_all;
+use std::fs::{self, File};
+use std::io::Write;
+use std::path::{Path, PathBuf};
+
+/// A file of the folder, and the name of its class.
+pub struct Case {
+    pub class: &'static str,
+    pub path: PathBuf,
+}
+
+/// Writes every class anew; panics when one has another number of inputs than was set out, or when
+/// the second program doesn't say of an input what it was made for.
+pub fn write(folder: &Path) {
+    if folder.exists() {
+        fs::remove_dir_all(folder).expect("the last run's folder can be removed");
+    }
+    for class in &CLASSES {
+        let inputs = (class.make)();
+        assert_eq!(inputs.len(), class.inputs, "inputs of: {}", class.name);
+        let room = folder.join(file_name(class.name));
+        fs::create_dir_all(&room).expect("a folder for the class");
+        for input in inputs {
+            let told = judge_all(&input.bytes);
+            if let Some(output) = input.output {
+                assert_eq!(String::from_utf8_lossy(&told), output, "{}", input.name);
+            }
+            let file = File::create_new(room.join(file_name(&input.name)));
+            file.and_then(|mut file| file.write_all(&input.bytes))
+                .unwrap_or_else(|error| panic!("{}: {error}", input.name));
+        }
+    }
+}
+
+/// Gives every file that the folder has, in the order of the classes.
+pub fn cases(folder: &Path) -> Vec<Case> {
+    let mut cases = Vec::new();
+    for class in &CLASSES {
+        let room = folder.join(file_name(class.name));
+        let mut paths: Vec<PathBuf> = fs::read_dir(room)
+            .expect("the class has a folder")
+            .map(|entry| entry.expect("the folder can be read").path())
+            .collect();
+        paths.sort();
+        cases.extend(paths.into_iter().map(|path| Case {
+            class: class.name,
+            path,
+        }));
+    }
+    cases
+}
+
+/// Gives a name in which no blank is left.
+fn file_name(name: &str) -> String {
+    name.replace(' ', "-")
+}

@@ -1,0 +1,68 @@
+//! One input of the program, and the output that it was made for.
+
+/// What is said of one record, written down when an input is made.
+#[derive(Clone, Copy)]
+pub enum Said {
+    Equal,
+    Differs(&'static str),
+    Unread(usize),
+}
+
+use Said::*;
+
+/// An input: its name, its bytes and, where no program has to be asked, its whole output.
+pub struct Input {
+    pub name: String,
+    pub bytes: Vec<u8>,
+    pub output: Option<String>,
+}
+
+impl Input {
+    /// Gives an input of which exactly this is said, record by record.
+    pub fn of(name: impl Into<String>, bytes: impl Into<Vec<u8>>, said: &[Said]) -> Input {
+        let reports = (1..).zip(said).map(|(number, said)| report(number, *said));
+        Input {
+            name: name.into(),
+            bytes: bytes.into(),
+            output: Some(reports.collect()),
+        }
+    }
+
+    /// Gives an input that is one right record.
+    pub fn equal(name: impl Into<String>, bytes: impl Into<Vec<u8>>) -> Input {
+        Input::of(name, bytes, &[Equal])
+    }
+
+    /// Gives an input that is one record, which differs in this field.
+    pub fn differs(
+        name: impl Into<String>,
+        bytes: impl Into<Vec<u8>>,
+        field: &'static str,
+    ) -> Input {
+        Input::of(name, bytes, &[Differs(field)])
+    }
+
+    /// Gives an input whose first record is broken in this line.
+    pub fn unread(name: impl Into<String>, bytes: impl Into<Vec<u8>>, line: usize) -> Input {
+        Input::of(name, bytes, &[Unread(line)])
+    }
+
+    /// Gives an input whose output only the second program tells.
+    pub fn told(name: impl Into<String>, bytes: impl Into<Vec<u8>>) -> Input {
+        Input {
+            name: name.into(),
+            bytes: bytes.into(),
+            output: None,
+        }
+    }
+}
+
+/// Gives the three lines on the record of the given number.
+fn report(number: usize, said: Said) -> String {
+    let rest = match said {
+        Equal => "equal\nfield=none".to_string(),
+        Differs(field) => format!("differs\nfield={field}"),
+        Unread(line) => format!("unread\nfield={line}"),
+    };
+    format!("record={number}\nverdict={rest}\n")
+}

@@ -1,0 +1,12 @@
+//! Inputs for the bench program, and ways to run it on them. What it has to print comes from the
+//! second program and, where a case says it by itself, from the case.
+//!
+//! The program is what `host/run bench` runs; the variable `KVISTMAUR_BENCH` names another
+//! executable in its place, by a whole path.
+
+pub mod classes;
+pub mod folder;
+pub mod input;
+pub mod lines;
+pub mod program;
+pub mod session;

@@ -1,0 +1,103 @@
+//! The program at a pipe that stalls: what is there is reported at once, and no pause is taken for an end.
+
+use judging::lines::Lines;
+use judging::program::program;
+use judging::session::Session;
+use second::cipher::SETS;
+use std::thread::sleep;
+use std::time::Duration;
+
+/// Long enough for the program to print whatever it would print.
+const PAUSE: Duration = Duration::from_millis(150);
+
+/// Says that a record which comes in halves is reported when it is whole, before more is sent.
+#[test]
+fn halves() {
+    let right = SETS.each_ref().map(|set| Lines::right(set, 9, 20));
+    let cases = [
+        (&right[0], "verdict=equal\nfield=none"),
+        (
+            &right[1].with_other_digit(7, 3),
+            "verdict=differs\nfield=tag",
+        ),
+        (
+            &right[0].with_other_digit(6, 3),
+            "verdict=differs\nfield=cipher",
+        ),
+        (&right[1], "verdict=equal\nfield=none"),
+    ];
+    let mut session = Session::start(program());
+    let mut wanted = String::new();
+    for (number, (lines, said)) in (1..).zip(cases) {
+        let bytes = lines.bytes();
+        let (first, second) = bytes.split_at(bytes.len() / 2);
+        session.feed(first);
+        assert_eq!(session.after(PAUSE), wanted, "half of record {number}");
+        session.feed(second);
+        wanted += &format!("record={number}\n{said}\n");
+        assert_eq!(session.printed(wanted.len()), wanted, "record {number}");
+    }
+    assert_eq!(session.after(PAUSE), wanted);
+    assert_eq!(session.close(), wanted);
+}
+
+/// Says that two records and a half that come at once are reported, and the half when it is whole.
+#[test]
+fn two_and_a_half() {
+    let bytes = Lines::right(&SETS[0], 3, 4).bytes().repeat(3);
+    let (first, second) = bytes.split_at(bytes.len() / 6 * 5);
+    let equal = |number| format!("record={number}\nverdict=equal\nfield=none\n");
+    let mut session = Session::start(program());
+    session.feed(first);
+    let wanted = equal(1) + &equal(2);
+    assert_eq!(session.printed(wanted.len()), wanted);
+    assert_eq!(session.after(PAUSE), wanted);
+    session.feed(second);
+    let wanted = wanted + &equal(3);
+    assert_eq!(session.printed(wanted.len()), wanted);
+    assert_eq!(session.close(), wanted);
+}
+
+/// Says that records which come byte by byte are reported with their last byte.
+#[test]
+fn byte_by_byte() {
+    let mut session = Session::start(program());
+    let mut wanted = String::new();
+    for (number, set) in (1..).zip(&SETS) {
+        let bytes = Lines::right(set, 2, 3).bytes();
+        let (last, others) = bytes.split_last().expect("a record has bytes");
+        for byte in others {
+            session.feed(&[*byte]);
+            sleep(Duration::from_millis(1));
+        }
+        assert_eq!(
+            session.after(PAUSE),
+            wanted,
+            "all but a byte of record {number}"
+        );
+        session.feed(&[*last]);
+        wanted += &format!("record={number}\nverdict=equal\nfield=none\n");
+        assert_eq!(session.printed(wanted.len()), wanted, "record {number}");
+    }
+    assert_eq!(session.close(), wanted);
+}
+
+/// Says that a record which stops in a line, pauses and ends there is unread in that line.
+#[test]
+fn a_pause_and_the_end() {
+    let mut ran = 0;
+    for line in 1..=8 {
+        let lines = Lines::right(&SETS[line % 2], 5, 6);
+        let before: usize = (1..line).map(|line| lines.line(line).len()).sum();
+        let mut session = Session::start(program());
+        session.feed(&lines.bytes());
+        let equal = "record=1\nverdict=equal\nfield=none\n";
+        assert_eq!(session.printed(equal.len()), equal);
+        session.feed(&lines.bytes()[..before + lines.line(line).len() / 2]);
+        assert_eq!(session.after(PAUSE), equal, "line {line}");
+        let wanted = format!("{equal}record=2\nverdict=unread\nfield={line}\n");
+        assert_eq!(session.close(), wanted, "line {line}");
+        ran += 1;
+    }
+    assert_eq!(ran, 8);
+}
