@@ -6,11 +6,11 @@ use Prim.Native.Nat.{ℕ, zero, suc, _+_, _-_, _*_, _/_, _%_, _≤_, _<_}
 use native.Mathlib.Nat.{not-suc-le-zero, le-of-suc-le-suc, mod-lt, div-add-mod', suc-mul, zero-add, one-mul}
 use native.Mathlib.Omega.{arith}
 use lib.Bits.{bitXor}
-use lib.ListN.{length, getD, set, take, drop, length-append, length-take, length-drop, length-set, length-replicate, take-append-drop}
+use lib.ListN.{length, getD, set, take, drop, length-append, length-drop, length-replicate, take-append-drop}
 use lib.Seq.{getD-append-seam, set-append-seam, append-snoc, take-append-le, drop-append-le, length-take-le, take-all, take-add, take-take, drop-drop, take-at, drop-at}
 use borrow.Author.Tests.{ne-eqb, eq-eqb}
 use Rattle.ascon.specs.Mode.{_⊕_, zeros, blocks, count, pad, padData, absorb, encrypt, decrypt, Processed, _then_}
-use Rattle.ascon.specs.Bytewise.{At, at, gone, sealing, opening, closed, turned, step, steps, outs}
+use Rattle.ascon.specs.Bytewise.{At, at, sealing, opening, closed, turned, step, steps, outs}
 use Rattle.ascon.proofs.Strings.{length-xor, xor-append, xor-zeros, xor-short}
 use Rattle.ascon.proofs.Bytewise.{steps-append, outs-append}
 

@@ -10,11 +10,10 @@ use borrow.Author.Tests.{leb-true, leb-false, eqb-true}
 use Rattle.answers.specs.declared.Answer.the-variants.{Done, NoRoom}
 use Rattle.answers.specs.Numbers.{isDone}
 use Rattle.answers.proofs.Numbers.{done-is}
-use Rattle.record.specs.declared.reading.Reading.{Reading}
 use Rattle.record.specs.Calls.{readCall}
 use Rattle.record.proofs.Laws.{taken-inside}
 use Rattle.judge.specs.declared.stepping.Step.the-variants.{Judged, Stopped, Wait, End, Short}
-use Rattle.judge.specs.Reports.{reportText, ReportLeaves, reportLeaves, reportCall}
+use Rattle.judge.specs.Reports.{reportText, reportLeaves, reportCall}
 use Rattle.judge.specs.Steps.{verdictRead, isFinal, StepLeaves, stepLeaves, stepBy, reported, stepCall, takenBy, writtenBy}
 
 -- a step in its window and its place

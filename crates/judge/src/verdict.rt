@@ -2,7 +2,6 @@
 ghost use mathlib.Core.Path.{_≡_};
 ghost use mathlib.Core.Bool.{true};
 ghost use Prim.Native.Nat.{_≤_};
-ghost use lib.ListN.{length};
 ghost use Rattle.ascon.specs.Sets.{isSet, rowOf};
 ghost use Rattle.record.specs.Form.{held, broken};
 ghost use Rattle.judge.specs.Tail.{agree};

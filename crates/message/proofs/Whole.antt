@@ -2,13 +2,12 @@
 use mathlib.Core.Path.{_≡_, sym, ap, ap₂, _∙_}
 use mathlib.Core.List.{List, [], _++_}
 use Prim.Native.Nat.{ℕ, _-_, _≤_}
-use lib.ListN.{length, take, drop}
+use lib.ListN.{length, drop}
 use lib.Seq.{take-at}
 use borrow.Author.Tests.{le-leb}
 use Rattle.permutation.specs.Strings.{Bytes, wordsOfString}
 use Rattle.ascon.specs.Sets.{ParameterSet}
 use Rattle.ascon.specs.Mode.{zeros, p, Processed, initialise, beforeText, finalise}
-use Rattle.ascon.specs.Bytewise.{at}
 use Rattle.ascon.proofs.Views.{streamed}
 use Rattle.ascon.proofs.Sealing.{Fits, encrypted-view, decrypted-view}
 use Rattle.sponge.specs.declared.Way.{Way}

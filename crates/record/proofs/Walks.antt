@@ -1,9 +1,9 @@
 -- A line that is read where it stands: its name, the walk over its digits, its line feed. Assumes nothing.
-use mathlib.Core.Path.{_≡_, refl, sym, ap, ap₂, _∙_}
-use mathlib.Core.Bool.{Bool, true, false, cond, _&&_, false≢true}
+use mathlib.Core.Path.{_≡_, refl, sym, ap, _∙_}
+use mathlib.Core.Bool.{Bool, true, false, cond, false≢true}
 use mathlib.Core.List.{List, [], _∷_}
 use mathlib.Core.Option.{Option, some, none}
-use Prim.Native.Nat.{ℕ, zero, suc, _+_, _-_, _≤_, _<_}
+use Prim.Native.Nat.{ℕ, suc, _+_, _-_, _≤_, _<_}
 use native.Mathlib.Numerals.{add-one}
 use native.Mathlib.Omega.{arith}
 use lib.Dec.{eqb, leb}
@@ -13,10 +13,9 @@ use borrow.Author.Tests.{leb-true, leb-false}
 use Rattle.ascon.proofs.Strings.{same-eq}
 use Rattle.digits.specs.Hex.{digitOf, isValue}
 use Rattle.record.specs.declared.lines.Record.{Record}
-use Rattle.record.specs.declared.reading.Reading.{Reading}
 use Rattle.record.specs.declared.reading.Taken.{Taken}
 use Rattle.record.specs.Text.{name}
-use Rattle.record.specs.Calls.{begins, run, valueRead, sized, Line, lineRead, orRefused, readFrom, takenAs, nameTaken}
+use Rattle.record.specs.Calls.{begins, run, valueRead, sized, lineRead, orRefused, readFrom, takenAs, nameTaken}
 use Rattle.record.proofs.Names.{name-sizes}
 
 -- ---- the walk

@@ -6,7 +6,6 @@ use Prim.Native.Nat.{ℕ, zero, suc, _+_, _-_}
 use lib.Dec.{eqb, leb}
 use lib.ListN.{length, getD, take, drop}
 use Rattle.answers.specs.declared.Answer.the-variants.{Done, NoRoom, BrokenRecord}
-use Rattle.digits.specs.declared.hex.Digit.{Digit}
 use Rattle.digits.specs.declared.numbers.Numeral.{Numeral}
 use Rattle.digits.specs.declared.numbers.Numeral.the-variants.{Number, NoNumber}
 use Rattle.digits.specs.Hex.{digitOf, isValue, bytesOf}

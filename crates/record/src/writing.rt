@@ -1,9 +1,8 @@
 // Writing a record: line by line, each straight after the one before.
 ghost use mathlib.Core.Path.{_≡_};
 ghost use mathlib.Core.Bool.{true};
-ghost use mathlib.Core.List.{_++_};
 ghost use Prim.Native.Nat.{_≤_};
-ghost use lib.ListN.{length, drop};
+ghost use lib.ListN.{length};
 ghost use Rattle.digits.specs.Room.{laid, put};
 ghost use Rattle.record.specs.Form.{keeps, broken};
 ghost use Rattle.record.specs.Text.{valueText, lineText, textOf};

@@ -1,13 +1,12 @@
 -- Where a stream stands after some bytes, and what more bytes, the end of the data and the end of the text make of it. Assumes nothing.
-use mathlib.Core.Path.{_≡_, refl, sym, ap, ap₂, _∙_}
+use mathlib.Core.Path.{_≡_, sym, ap, _∙_}
 use mathlib.Core.List.{List, [], _∷_, _++_}
 use Prim.Native.Nat.{ℕ, suc, _+_, _%_, _^_, _≤_, _<_}
 use native.Mathlib.Nat.{zero-add}
 use native.Mathlib.Omega.{arith}
-use lib.Dec.{eqb}
 use lib.ListN.{length, take}
 use borrow.Author.Tests.{ne-eqb}
-use Rattle.permutation.specs.Strings.{Bytes, stringOfWords, wordsOfString}
+use Rattle.permutation.specs.Strings.{Bytes, wordsOfString}
 use Rattle.ascon.specs.Sets.{ParameterSet}
 use Rattle.ascon.specs.Mode.{p, initialise, separate, beforeText, encrypted, decrypted, finalise, Processed}
 use Rattle.ascon.specs.Bytewise.{At, at, sealing, opening, closed, steps, outs}

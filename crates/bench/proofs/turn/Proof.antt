@@ -1,12 +1,11 @@
 -- `bench::turn` meets its contract: a step takes no more than its window, writes no more than its place, and waits only where there is room. Assumes nothing.
-use mathlib.Core.Path.{_≡_, sym, ap, _∙_}
-use Prim.Native.Nat.{ℕ, _-_, _≤_, _<_}
+use mathlib.Core.Path.{sym, ap, _∙_}
+use Prim.Native.Nat.{_-_, _≤_}
 use native.Mathlib.Omega.{arith}
 use denote.Ref.{now}
 use lib.ListN.{length, take, drop, length-take, length-drop, replicate}
 use lib.Seq.{length-take-le}
 use borrow.Author.Needs.{needs}
-use Rattle.judge.specs.declared.stepping.Step.{Step}
 use Rattle.judge.specs.Steps.{StepLeaves, takenBy, writtenBy}
 use Rattle.judge.proofs.Laws.{judges}
 use Rattle.bench.proofs.Windows.{within-stopped, within-behind}

@@ -1,6 +1,6 @@
 -- `sponge::masked_end` meets its contract. The loop's invariant: the first i bytes are the masked end's, and zeros follow. The measure is the number of
 -- bytes left. Assumes nothing.
-use mathlib.Core.Path.{_≡_, refl, sym, ap, ap₂, _∙_}
+use mathlib.Core.Path.{_≡_, refl, ap, ap₂, _∙_}
 use mathlib.Core.List.{List, _++_}
 use Prim.Native.Nat.{ℕ, suc, _+_, _-_, _≤_}
 use native.Mathlib.Omega.{arith}

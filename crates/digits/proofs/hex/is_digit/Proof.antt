@@ -1,7 +1,5 @@
 -- `digits::hex::is_digit` meets its contract. Assumes nothing.
-use mathlib.Core.Path.{sym, ap}
 use borrow.Author.Needs.{needs}
-use Rattle.digits.specs.Hex.{isValue}
 use Rattle.digits.proofs.hex.is_digit.Statement.{statement}
 use Rattle.digits.proofs.hex.is_digit.Tie as tie
 

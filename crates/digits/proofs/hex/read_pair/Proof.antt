@@ -1,9 +1,8 @@
 -- `digits::hex::read_pair` meets its contract. Assumes nothing.
-use mathlib.Core.Path.{_≡_, sym, _∙_}
+use mathlib.Core.Path.{sym, _∙_}
 use Prim.Native.Nat.{_<_}
 use native.Mathlib.Omega.{arith}
 use borrow.Author.Needs.{needs}
-use Rattle.digits.specs.Hex.{pairOf}
 use Rattle.digits.proofs.Spelling.{digit-spells}
 use Rattle.digits.proofs.hex.read_pair.Statement.{statement}
 use Rattle.digits.proofs.hex.read_pair.Tie as tie

@@ -1,7 +1,7 @@
 -- `digits::numbers::read_number` meets its contract. The loop's invariant: what is left decides, and the digits read say less than their power of ten. The
 -- measure is the number of digits left. Assumes nothing.
 use mathlib.Core.Path.{_≡_, refl, sym, ap, _∙_}
-use mathlib.Core.Bool.{true, false, _&&_}
+use mathlib.Core.Bool.{false, _&&_}
 use mathlib.Core.List.{List, []}
 use Prim.Native.Nat.{ℕ, _+_, _-_, _*_, _^_, _≤_, _<_}
 use native.Mathlib.Nat.{pow-le-pow-right}

@@ -1,10 +1,9 @@
 -- `judge::reporting::put_number_line` meets its contract. Assumes nothing.
 use mathlib.Core.Path.{_≡_, sym, ap, ap₂, _∙_}
 use mathlib.Core.List.{List}
-use Prim.Native.Nat.{ℕ, _≤_}
-use native.Mathlib.Omega.{arith}
+use Prim.Native.Nat.{ℕ}
 use denote.Ref.{now}
-use lib.ListN.{length, take}
+use lib.ListN.{take}
 use lib.Seq.{length-take-le, take-append-seam}
 use borrow.Author.Needs.{needs}
 use Rattle.digits.specs.Numbers.{numeral}

@@ -5,7 +5,7 @@ use borrow.Author.Needs.{needs}
 use borrow.Author.Tests.{not-true, not-false}
 use Rattle.judge.specs.declared.verdict.Verdict.{Verdict}
 use Rattle.judge.specs.Reports.{reportLeaves, reportCall}
-use Rattle.judge.specs.Steps.{verdictRead, stepBy, reported}
+use Rattle.judge.specs.Steps.{stepBy, reported}
 use Rattle.judge.proofs.stepping.report_on.Statement.{statement}
 use Rattle.judge.proofs.stepping.report_on.Tie as tie
 

@@ -1,5 +1,5 @@
 -- `judge::stepping::verdict_on` meets its contract. Assumes nothing.
-use mathlib.Core.Path.{_≡_, sym, _∙_}
+use mathlib.Core.Path.{sym, _∙_}
 use borrow.Author.Needs.{needs}
 use Rattle.judge.specs.Steps.{verdictRead}
 use Rattle.judge.proofs.stepping.verdict_on.Statement.{statement}

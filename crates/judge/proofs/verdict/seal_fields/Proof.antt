@@ -4,12 +4,11 @@ use mathlib.Core.Bool.{true}
 use mathlib.Core.List.{List, _++_, map}
 use Prim.Native.Nat.{ℕ, _-_, _≤_}
 use native.Mathlib.Omega.{arith}
-use lib.ListN.{length, take, drop, length-map, length-take}
+use lib.ListN.{length, take, drop, length-map}
 use lib.Seq.{length-take-le}
 use borrow.Author.Needs.{needs}
 use Rattle.ascon.specs.Sets.{isSet, rowOf}
 use Rattle.ascon.specs.Mode.{zeros, sealed}
-use Rattle.ascon.specs.Rounds.{messageRounds}
 use Rattle.ascon.proofs.Strings.{drop-zeros}
 use Rattle.sets.proofs.Rows.{row-sizes}
 use Rattle.message.specs.declared.Outcome.{Outcome}
@@ -17,7 +16,6 @@ use Rattle.message.specs.Message.{SealLeaves, sealLeaves, sealCall}
 use Rattle.message.proofs.Promise.{length-cipher, length-sealed-tag, seal-done}
 use Rattle.record.specs.declared.field.Field.{Field}
 use Rattle.record.specs.Form.{fieldOf, held}
-use Rattle.judge.specs.declared.verdict.Ours.{Ours}
 use Rattle.judge.specs.Verdicts.{oursBy}
 use Rattle.judge.proofs.verdict.seal_fields.Statement.{statement}
 use Rattle.judge.proofs.verdict.seal_fields.Tie as tie

@@ -1,7 +1,6 @@
 -- `record::field::no_spelling` meets its contract. Assumes nothing.
 use mathlib.Core.Bool.{false}
 use borrow.Author.Needs.{needs}
-use Rattle.record.specs.declared.field.Spelled.{Spelled}
 use Rattle.record.proofs.field.no_spelling.Statement.{statement}
 use Rattle.record.proofs.field.no_spelling.Tie as tie
 

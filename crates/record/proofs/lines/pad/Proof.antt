@@ -1,15 +1,13 @@
 -- `record::lines::pad` meets its contract. Assumes nothing.
-use mathlib.Core.Path.{_≡_, sym, ap, _∙_}
-use mathlib.Core.List.{List, _++_}
-use Prim.Native.Nat.{ℕ, _-_}
+use mathlib.Core.Path.{_∙_}
+use mathlib.Core.List.{_++_}
+use Prim.Native.Nat.{_-_}
 use denote.Ref.{now}
-use lib.ListN.{length, take, drop}
+use lib.ListN.{length}
 use lib.Seq.{take-length}
 use borrow.Author.Needs.{needs}
 use borrow.Author.Tests.{le-leb, lt-leb}
-use Rattle.ascon.specs.Mode.{zeros}
 use Rattle.ascon.proofs.Strings.{drop-zeros}
-use Rattle.record.specs.declared.lines.Name.{Name}
 use Rattle.record.specs.Calls.{padded}
 use Rattle.record.proofs.lines.pad.Statement.{statement}
 use Rattle.record.proofs.lines.pad.Tie as tie

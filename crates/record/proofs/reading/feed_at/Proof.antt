@@ -1,5 +1,4 @@
 -- `record::reading::feed_at` meets its contract. Assumes nothing.
-use mathlib.Core.Path.{_≡_}
 use denote.Ref.{now}
 use lib.ListN.{List·getD-eq-default}
 use borrow.Author.Needs.{needs}

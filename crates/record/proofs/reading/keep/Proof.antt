@@ -1,5 +1,5 @@
 -- `record::reading::keep` meets its contract. Assumes nothing.
-use mathlib.Core.Path.{_≡_, sym, _∙_}
+use mathlib.Core.Path.{sym, _∙_}
 use borrow.Author.Needs.{needs}
 use Rattle.record.proofs.reading.keep.Statement.{statement}
 use Rattle.record.proofs.reading.keep.Tie as tie

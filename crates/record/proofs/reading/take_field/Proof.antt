@@ -1,8 +1,7 @@
 -- `record::reading::take_field` meets its contract. Assumes nothing.
 use mathlib.Core.Path.{_≡_, refl, sym, ap, _∙_}
-use mathlib.Core.Bool.{Bool, true, false, false≢true}
+use mathlib.Core.Bool.{true, false, false≢true}
 use mathlib.Core.Option.{Option, some, none}
-use Prim.Native.Nat.{ℕ}
 use denote.Ref.{now}
 use borrow.Author.Needs.{needs}
 use borrow.Author.Tests.{not-true, not-false}
@@ -10,8 +9,7 @@ use Rattle.digits.specs.Hex.{bytesOf}
 use Rattle.record.specs.declared.field.Field.{Field}
 use Rattle.record.specs.declared.field.Spelled.{Spelled}
 use Rattle.record.specs.declared.lines.Record.{Record}
-use Rattle.record.specs.Form.{withField}
-use Rattle.record.specs.Calls.{fitted, spelledAs, filled, takenAs, kept}
+use Rattle.record.specs.Calls.{fitted, spelledAs, takenAs, kept}
 use Rattle.record.proofs.reading.take_field.Statement.{statement}
 use Rattle.record.proofs.reading.take_field.Tie as tie
 

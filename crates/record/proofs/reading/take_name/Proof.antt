@@ -1,13 +1,10 @@
 -- `record::reading::take_name` meets its contract. Assumes nothing.
 use mathlib.Core.Path.{_≡_, sym, ap, _∙_}
 use mathlib.Core.List.{List}
-use Prim.Native.Nat.{ℕ, _≤_}
-use native.Mathlib.Omega.{arith}
+use Prim.Native.Nat.{ℕ}
 use denote.Ref.{now}
-use lib.ListN.{length, take, length-append}
 use lib.Seq.{length-take-le}
 use borrow.Author.Needs.{needs}
-use Rattle.record.specs.declared.lines.Name.{Name}
 use Rattle.record.specs.Text.{name}
 use Rattle.record.specs.Calls.{begins, nameTaken}
 use Rattle.record.proofs.Names.{name-in-places, name-of-padded}

@@ -1,5 +1,5 @@
 -- `record::reading::take_value` meets its contract. Assumes nothing.
-use mathlib.Core.Path.{_≡_, sym, _∙_}
+use mathlib.Core.Path.{sym, _∙_}
 use borrow.Author.Needs.{needs}
 use Rattle.record.specs.Calls.{valueRead}
 use Rattle.record.proofs.reading.take_value.Statement.{statement}

@@ -1,5 +1,5 @@
 -- `record::writing::put_line` meets its contract. Assumes nothing.
-use mathlib.Core.Path.{_≡_, sym, ap, ap₂, _∙_}
+use mathlib.Core.Path.{_≡_, sym, ap₂, _∙_}
 use mathlib.Core.List.{List}
 use Prim.Native.Nat.{ℕ, _≤_}
 use denote.Ref.{now}
@@ -8,7 +8,7 @@ use lib.Seq.{length-take-le, take-append-seam}
 use borrow.Author.Needs.{needs}
 use Rattle.digits.specs.Room.{lineOf, put}
 use Rattle.digits.proofs.Room.{put-inside, put-count}
-use Rattle.record.specs.Text.{name, valueText, lineText}
+use Rattle.record.specs.Text.{valueText, lineText}
 use Rattle.record.proofs.Names.{name-in-places, name-of-padded}
 use Rattle.record.proofs.Bounds.{value-most}
 use Rattle.record.proofs.writing.put_line.Statement.{statement}

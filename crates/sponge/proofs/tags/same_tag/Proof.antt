@@ -1,8 +1,8 @@
 -- `sponge::tags::same_tag` meets its contract. The loop's invariant: what was found and what is left decide. The measure is the number of bytes left. Assumes
 -- nothing.
 use mathlib.Core.Path.{_≡_, refl, sym, ap, ap₂, _∙_}
-use mathlib.Core.Bool.{Bool, true, _&&_}
-use mathlib.Core.List.{List, []}
+use mathlib.Core.Bool.{Bool, _&&_}
+use mathlib.Core.List.{List}
 use Prim.Native.Nat.{ℕ, _+_, _-_, _≤_, _<_}
 use native.Mathlib.Omega.{arith}
 use denote.Ref.{now}
