@@ -1,9 +1,10 @@
 -- How far the program is.
 use mathlib.Core.Bool.{Bool, true, false, cond, not}
 use mathlib.Core.List.{List}
-use Prim.Native.Nat.{ℕ, _+_, _≤_, _<_}
+use mathlib.Core.Path.{_≡_}
+use Prim.Native.Nat.{ℕ, _+_, _-_, _≤_, _<_}
 use lib.Dec.{eqb}
-use lib.ListN.{length}
+use lib.ListN.{length, take, drop}
 use Rattle.bench.specs.declared.Progress.{Progress}
 
 -- the window lies in the buffer, which has room for more than the most bytes of a record
@@ -11,6 +12,13 @@ pub record Within (p : Progress) (buffer : List ℕ) : Type 0 where
   pub begins : p .start ≤ p .filled
   pub inside : p .filled ≤ length buffer
   pub enough : 1_688 < length buffer
+
+-- after more was read: the window stands at the front as it was, and what came stands behind it; the record's number stays
+pub record More (p : Progress) (before : List ℕ) (q : Progress) (after : List ℕ) : Type 0 where
+  pub front : q .start ≡ 0
+  pub kept : take (p .filled - p .start) after ≡ take (p .filled - p .start) (drop (p .start) before)
+  pub grown : p .filled - p .start ≤ q .filled
+  pub same-number : q .number ≡ p .number
 
 -- nothing is read, and the first record has the number 1
 abbrev pub begun : Progress

@@ -1,9 +1,10 @@
 // The bench: judges the records that stand one after another on standard input, and writes three lines on each to standard output. A read or a write that fails
-// is said on standard error, and ends it; a record that was not wholly read gets no report.
+// is said on standard error, and ends it; a record that a failed read cut off gets no report.
 ghost use mathlib.Core.Path.{_≡_};
+ghost use mathlib.Core.Bool.{false};
 ghost use Prim.Native.Nat.{_-_, _≤_, _<_};
 ghost use lib.ListN.{length, take, drop};
-ghost use Rattle.bench.specs.Windows.{Within, begun, stopped, behind};
+ghost use Rattle.bench.specs.Windows.{Within, More, begun, stopped, behind};
 use judge::Step;
 use libc::STDIN_FILENO;
 use libc::STDOUT_FILENO;
@@ -27,7 +28,7 @@ fn say(report: &[u8]) -> bool {
     written
 }
 
-// Says what can't happen in a lifetime.
+// Says on standard error why the program stops, where it has no more numbers or no room.
 fn give_up(what: &[u8]) {
     io::write_all(libc::STDERR_FILENO, what);
 }
@@ -91,9 +92,10 @@ fn move_to_front(buffer: &mut [u8], start: usize, filled: usize)
     }
 }
 
-// The window of so many bytes at the front of the buffer, after a read that failed: once more where a signal broke it off, and else the end.
+// The window of so many bytes at the front of the buffer, after a read that failed, which is not the end of the input: one that a signal broke off is tried
+// again, any other is said, and nothing is left to do.
 fn failed_read(p: Progress, size: usize) -> Progress
-    ensures { λ r. ⌜ (r .start ≡ 0) × (r .filled ≡ size) ⌝ }
+    ensures { λ r. ⌜ (r .start ≡ 0) × (r .filled ≡ size) × (r .ended ≡ false) × (r .number ≡ p .number) ⌝ }
 {
     let again = os::errno() == libc::EINTR;
     if !again {
@@ -113,6 +115,7 @@ fn read_more(buffer: &mut [u8], p: Progress) -> Progress
     requires { ⌜ Within p (now buffer) ⌝ }
     requires { ⌜ p .filled - p .start < length (now buffer) ⌝ }
     ensures { λ r. ⌜ Within r (now (buffer .exit)) ⌝ }
+    ensures { λ r. ⌜ More p (now (buffer .entry)) r (now (buffer .exit)) ⌝ }
 {
     let start = p.start;
     let filled = p.filled;
@@ -126,7 +129,7 @@ fn read_more(buffer: &mut [u8], p: Progress) -> Progress
     Progress {
         start: 0,
         filled: size + more,
-        ended: more == 0,
+        ended: got == 0,
         number: p.number,
         over: false,
     }

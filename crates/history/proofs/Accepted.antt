@@ -1,24 +1,22 @@
 -- The other half of the history law: what fits is never refused. Assumes nothing.
-use mathlib.Core.Path.{_≡_, refl, sym, ap, ap₂, _∙_}
-use mathlib.Core.Bool.{Bool, true, false, _&&_}
-use mathlib.Core.List.{List, [], _++_}
+use mathlib.Core.Path.{_≡_, refl, sym, ap, _∙_}
+use mathlib.Core.Bool.{Bool, true, false}
+use mathlib.Core.List.{List, []}
 use Prim.Native.Nat.{ℕ, zero, suc, _+_, _-_, _%_, _≤_}
-use lib.Dec.{leb}
-use lib.ListN.{length, drop}
+use lib.ListN.{length}
 use lib.Seq.{drop-at}
 use borrow.Author.Tests.{le-leb, eq-eqb}
 use Rattle.answers.specs.Numbers.{isDone}
 use Rattle.permutation.specs.Strings.{Bytes}
-use Rattle.ascon.specs.Sets.{isSet, rowOf, dataLimit, textLimit}
+use Rattle.ascon.specs.Sets.{rowOf, dataLimit, textLimit}
 use Rattle.ascon.specs.Mode.{zeros}
 use Rattle.stream.specs.declared.Direction.{Direction}
-use Rattle.stream.specs.declared.Phase.{Phase}
-use Rattle.stream.specs.declared.Phase.the-variants.{Data, Text, Ended}
+use Rattle.stream.specs.declared.Phase.the-variants.{Data, Text}
 use Rattle.stream.specs.declared.Stream.{Stream}
-use Rattle.stream.specs.State.{allZero, isData, isOpen, isSoundOpen, isSound}
+use Rattle.stream.specs.State.{allZero, isOpen, isSoundOpen, isSound}
 use Rattle.stream.specs.Calls.{startCall, pieceTest, finishTest}
 use Rattle.history.specs.History.{History, stateAt}
-use Rattle.history.proofs.History.{Bounded, Reached, Reached.in-data, Reached.in-text, Reached.over, key, passed}
+use Rattle.history.proofs.History.{Reached, key, passed}
 
 zero-zeros : (n : ℕ) → allZero (zeros n) ≡ true
 zero-zeros zero = refl

@@ -1,12 +1,12 @@
 -- Cutting a message does not matter: the demand, from the history law and its other half. Assumes nothing.
 use mathlib.Core.Path.{_≡_, refl, sym, ap, ap₂, _∙_, subst}
-use mathlib.Core.Bool.{Bool, true, false, cond, _&&_, false≢true}
-use mathlib.Core.List.{List, [], _∷_, _++_, append-nil, append-assoc}
-use mathlib.Core.Option.{Option, some, none}
+use mathlib.Core.Bool.{Bool, true, false, cond, _&&_}
+use mathlib.Core.List.{List, [], _++_, append-nil, append-assoc}
+use mathlib.Core.Option.{some, none}
 use Prim.Native.Nat.{ℕ, _+_, _-_, _≤_}
 use native.Mathlib.Omega.{arith}
 use lib.Dec.{leb}
-use lib.ListN.{length, take, length-append}
+use lib.ListN.{length, length-append}
 use lib.Seq.{take-at}
 use borrow.Author.Tests.{le-leb}
 use Rattle.answers.specs.declared.Answer.{Answer}
@@ -19,20 +19,18 @@ use Rattle.ascon.specs.Mode.{zeros, beforeText, encrypted, decrypted, Sealed, s
 use Rattle.ascon.specs.Bytewise.{closed}
 use Rattle.ascon.specs.Rounds.{messageRounds}
 use Rattle.ascon.proofs.Sealing.{open-sealed, seal-opened}
-use Rattle.sponge.specs.declared.Way.{Way}
-use Rattle.sponge.specs.declared.Way.the-variants.{Seal, Open}
 use Rattle.sponge.specs.Sponge.{absorbed, tagOf}
 use Rattle.sets.proofs.Rows.{row-sizes}
 use Rattle.stream.specs.declared.Direction.{Direction}
 use Rattle.stream.specs.declared.Direction.the-variants.{Sealing, Checking}
 use Rattle.stream.specs.declared.Phase.{Phase}
-use Rattle.stream.specs.declared.Phase.the-variants.{Data, Text, Ended}
+use Rattle.stream.specs.declared.Phase.the-variants.{Data, Text}
 use Rattle.stream.specs.declared.Stream.{Stream}
 use Rattle.stream.specs.declared.Outcome.{Outcome}
 use Rattle.stream.specs.State.{isData, isOpen, isSealing, isChecking, isSound}
-use Rattle.stream.specs.Calls.{pieceTest, finishTest, startCall, tookData, textWords, tookText, closingRounds, Called, ownTag, finishSealingCall, finishCheckingCall}
-use Rattle.history.specs.History.{Call, giveAd, giveText, giveCipher, textCall, endSealing, endChecking, reply, History, begun, next, after, BytesIn, wayOf, stateAt, roundsAt, Told, Fitting, Fitting.ad-fits, Fitting.text-fits, NeverRefused}
-use Rattle.history.specs.Cuts.{Refused, TextCut, TextCut.text-end, TextCut.text-refusal, TextCut.text-piece, Cut, Cut.data-end, Cut.data-refusal, Cut.data-piece, Message, SealedWhole, CheckedWhole, CuttingDoesNotMatter}
+use Rattle.stream.specs.Calls.{pieceTest, finishTest, startCall, tookData, textWords, tookText, closingRounds, Called, ownTag, finishCheckingCall}
+use Rattle.history.specs.History.{Call, giveAd, giveText, giveCipher, textCall, endSealing, endChecking, reply, History, begun, next, after, BytesIn, wayOf, stateAt, roundsAt, NeverRefused}
+use Rattle.history.specs.Cuts.{Refused, TextCut, Cut, Message, SealedWhole, CheckedWhole, CuttingDoesNotMatter}
 use Rattle.sponge.proofs.Fronts.{stood, tag-is, l₁, b₁, sealed-end, checked-end}
 use Rattle.history.proofs.Rounds.{rounds-whole}
 use Rattle.history.proofs.Replies.{next-is, next-refused, data-refused, data-done, seal-refused, seal-short, seal-done, check-refused, check-done, finish-sealing-refused, finish-sealing-done, finish-checking-refused, finish-checking-done}

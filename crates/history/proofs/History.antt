@@ -1,12 +1,12 @@
 -- The history law: while a stream is not ended, its state is a function of the start, the phase, the joined data and the joined text; the joined output is the
 -- published ciphertext; the rounds add up. Assumes nothing.
 use mathlib.Core.Path.{_≡_, refl, sym, ap, ap₂, _∙_, subst}
-use mathlib.Core.Bool.{Bool, true, false, cond, _&&_, false≢true, true≢false}
+use mathlib.Core.Bool.{Bool, true, false, cond, _&&_, false≢true}
 use mathlib.Core.List.{List, [], _∷_, _++_, append-nil}
-use Prim.Native.Nat.{ℕ, _+_, _-_, _*_, _/_, _%_, _≤_, _<_}
-use native.Mathlib.Nat.{add-zero, zero-add, mod-eq-of-lt, zero-div, mul-zero}
+use Prim.Native.Nat.{ℕ, _+_, _-_, _*_, _/_, _%_, _≤_}
+use native.Mathlib.Nat.{add-zero, mod-eq-of-lt, zero-div, mul-zero}
 use native.Mathlib.Omega.{arith}
-use lib.Dec.{eqb, leb}
+use lib.Dec.{leb}
 use lib.ListN.{length, length-append}
 use Rattle.answers.specs.declared.Answer.{Answer}
 use Rattle.answers.specs.declared.Answer.the-variants.{Done, NoRoom, TagDiffers}
@@ -14,27 +14,26 @@ use Rattle.answers.specs.Numbers.{isDone}
 use Rattle.permutation.specs.Runs.{roundsOf}
 use Rattle.permutation.specs.Strings.{Bytes, wordsOfString}
 use Rattle.permutation.proofs.Strings.{bytes-append, bytes-none}
-use Rattle.ascon.specs.Sets.{ParameterSet, isSet, rowOf, dataLimit, textLimit}
-use Rattle.ascon.specs.Mode.{zeros, p, initialise, beforeText, encrypted, sealed, same}
-use Rattle.ascon.specs.Bytewise.{At, at, sealing, steps, outs}
+use Rattle.ascon.specs.Sets.{ParameterSet, rowOf, dataLimit, textLimit}
+use Rattle.ascon.specs.Mode.{zeros, p, initialise, beforeText, sealed, same}
+use Rattle.ascon.specs.Bytewise.{at, sealing, outs}
 use Rattle.ascon.proofs.Sealing.{Fits}
 use Rattle.sponge.specs.declared.Way.{Way}
 use Rattle.sponge.specs.declared.Way.the-variants.{Seal, Open}
-use Rattle.sponge.specs.Sponge.{keepOf, absorbed, given, dataClosed}
-use Rattle.sets.proofs.Rows.{row-sizes, row-fits}
+use Rattle.sponge.specs.Sponge.{absorbed, given}
+use Rattle.sets.proofs.Rows.{row-fits}
 use Rattle.stream.specs.declared.Direction.{Direction}
 use Rattle.stream.specs.declared.Direction.the-variants.{Sealing, Checking}
 use Rattle.stream.specs.declared.Phase.{Phase}
-use Rattle.stream.specs.declared.Phase.the-variants.{Data, Text, Ended}
+use Rattle.stream.specs.declared.Phase.the-variants.{Data, Text}
 use Rattle.stream.specs.declared.Stream.{Stream}
-use Rattle.stream.specs.declared.Outcome.{Outcome}
-use Rattle.stream.specs.State.{isData, isOpen, isSealing, isChecking, ended, isSound}
+use Rattle.stream.specs.State.{isData, isOpen, isSealing, isChecking}
 use Rattle.stream.specs.Calls.{refused, filledRounds, closingRounds, startTest, pieceTest, finishTest, startCall, tookData, textWords, tookText, Called, ownTag, finishedWith}
-use Rattle.stream.proofs.Tests.{StartPassed, start-passed, PiecePassed, piece-passed}
+use Rattle.stream.proofs.Tests.{StartPassed, start-passed, piece-passed}
 use Rattle.history.specs.History.{Call, giveAd, giveText, giveCipher, endSealing, endChecking, reply, adOf, textOf, outOf, History, begun, next, after, BytesIn, wayOf, stateAt, roundsAt, Told, HistoryLaw}
 use Rattle.sponge.proofs.Fronts.{stood, absorbed-more, given-more, l₀, b₀, closed-is, l₁, b₁, sealed-out}
 use Rattle.history.proofs.Rounds.{rounds-data, rounds-text}
-use Rattle.history.proofs.Replies.{next-is, next-refused, unfit-piece, unfit-finish, shut-data, data-refused, data-done, seal-refused, seal-short, seal-done, check-refused, check-done, finish-sealing-refused, finish-sealing-done, finish-checking-refused, finish-checking-done, out-given}
+use Rattle.history.proofs.Replies.{next-is, next-refused, unfit-piece, shut-data, data-refused, data-done, seal-refused, seal-short, seal-done, check-refused, check-done, finish-sealing-refused, finish-sealing-done, finish-checking-refused, finish-checking-done, out-given}
 
 -- a start that answers done passed its tests
 start-tested : (direction : Direction) (set : ℕ) (K N : List ℕ) → isDone (startCall direction set K N .answer) ≡ true

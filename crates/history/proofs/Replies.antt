@@ -1,8 +1,8 @@
 -- What a call answers where its tests passed, and where they did not. Assumes nothing.
-use mathlib.Core.Path.{_≡_, refl, sym, ap, _∙_}
-use mathlib.Core.Bool.{Bool, true, false, cond, _&&_, false≢true, true≢false}
-use mathlib.Core.List.{List, [], _∷_, _++_, append-nil}
-use Prim.Native.Nat.{ℕ, _+_, _≤_}
+use mathlib.Core.Path.{_≡_, refl, ap, _∙_}
+use mathlib.Core.Bool.{Bool, true, false, cond, _&&_, true≢false}
+use mathlib.Core.List.{List, [], _++_, append-nil}
+use Prim.Native.Nat.{ℕ, _+_}
 use native.Mathlib.Nat.{add-zero}
 use lib.Dec.{leb}
 use lib.ListN.{length, take, drop}
@@ -19,9 +19,9 @@ use Rattle.stream.specs.declared.Phase.{Phase}
 use Rattle.stream.specs.declared.Phase.the-variants.{Data, Text, Ended}
 use Rattle.stream.specs.declared.Stream.{Stream}
 use Rattle.stream.specs.declared.Outcome.{Outcome}
-use Rattle.stream.specs.State.{isData, isOpen, isSealing, isChecking, ended, isSound}
-use Rattle.stream.specs.Calls.{refused, filledRounds, pieceTest, finishTest, dataCall, tookData, textWords, tookText, called, sealCall, checkCall, ownTag, finishedWith, finishSealingCall, finishCheckingCall}
-use Rattle.history.specs.History.{Call, giveAd, giveText, giveCipher, endSealing, endChecking, reply, adOf, textOf, outOf, History, next}
+use Rattle.stream.specs.State.{isData, isOpen, isSealing, isChecking, isSound}
+use Rattle.stream.specs.Calls.{refused, pieceTest, finishTest, dataCall, tookData, textWords, tookText, called, sealCall, checkCall, ownTag, finishedWith, finishSealingCall, finishCheckingCall}
+use Rattle.history.specs.History.{Call, giveText, reply, adOf, textOf, outOf, History, next}
 
 -- ---- one call more
 

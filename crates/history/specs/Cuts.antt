@@ -5,7 +5,7 @@ use mathlib.Core.Logic.{_↔_}
 use mathlib.Core.Path.{_≡_}
 use Prim.Native.Nat.{ℕ, _+_, _≤_}
 use lib.ListN.{length}
-use Rattle.answers.specs.declared.Answer.the-variants.{Done, TagDiffers}
+use Rattle.answers.specs.declared.Answer.the-variants.{Done}
 use Rattle.answers.specs.Numbers.{numberOf, isDone}
 use Rattle.permutation.specs.Strings.{Bytes}
 use Rattle.ascon.specs.Sets.{rowOf, dataLimit, textLimit}

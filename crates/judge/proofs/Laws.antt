@@ -1,8 +1,8 @@
 -- What the verdicts and the steps promise. Assumes nothing.
 use Rattle.judge.specs.Laws.{Judges}
-use Rattle.judge.proofs.Tails.{tail-is-part}
+use Rattle.judge.proofs.Tails.{tail-begins}
 use Rattle.judge.proofs.Verdicts.{equal-agrees, agrees-equal}
-use Rattle.judge.proofs.Windows.{final-window}
+use Rattle.judge.proofs.Windows.{final-window, final-step}
 use Rattle.judge.proofs.Sizes.{step-inside, step-waits}
 use Rattle.judge.proofs.Outputs.{no-output, goes-on, stops}
 
@@ -11,8 +11,9 @@ pub judges : Judges
 judges =
     record {
       equal = λ r. (equal-agrees r, agrees-equal r);
-      tail-is-part = tail-is-part;
+      tail = tail-begins;
       window = final-window;
+      step = final-step;
       inside = step-inside;
       waits = step-waits;
       nothing = no-output;

@@ -11,6 +11,7 @@ use Rattle.answers.specs.declared.Answer.the-variants.{Done, NoRoom}
 use Rattle.answers.specs.Numbers.{isDone}
 use Rattle.answers.proofs.Numbers.{done-is}
 use Rattle.record.specs.Calls.{readCall}
+use Rattle.record.specs.Text.{mostBytes}
 use Rattle.record.proofs.Laws.{taken-inside}
 use Rattle.judge.specs.declared.stepping.Step.the-variants.{Judged, Stopped, Wait, End, Short}
 use Rattle.judge.specs.Reports.{reportText, reportLeaves, reportCall}
@@ -68,17 +69,17 @@ reported-goes window number place = go (isDone (reportCall number (verdictRead (
 
 -- a step that waits has less than the most bytes of a record, and the input has not ended
 pub step-waits : (window : List ℕ) (ended : Bool) (number : ℕ) (place : List ℕ) → stepCall window ended number place .step ≡ Wait
-    → (length window < 1_688) × (ended ≡ false)
+    → (length window < mostBytes) × (ended ≡ false)
 unfolding stepCall isFinal
 step-waits window ended number place =
-    go (eqb (length window) 0) ended (isDone (readCall window .answer)) (leb 1_688 (length window)) refl refl (reported-goes window number place)
+    go (eqb (length window) 0) ended (isDone (readCall window .answer)) (leb mostBytes (length window)) refl refl (reported-goes window number place)
   where
-    go : (e s d m : Bool) → eqb (length window) 0 ≡ e → leb 1_688 (length window) ≡ m → (reported (readCall window) number place .step ≡ Wait → ⊥)
+    go : (e s d m : Bool) → eqb (length window) 0 ≡ e → leb mostBytes (length window) ≡ m → (reported (readCall window) number place .step ≡ Wait → ⊥)
         → cond e (stepLeaves (cond s End Wait) place) (cond (d || (s || m)) (reported (readCall window) number place) (stepLeaves Wait place)) .step ≡ Wait
-        → (length window < 1_688) × (s ≡ false)
+        → (length window < mostBytes) × (s ≡ false)
     go true true d m f g h w = let z : _≡_ {A = ℕ} 0 1 = cc in absurd (omega arith)
     go true false d m f g h w = (omega (arith, eqb-true (length window) 0 f), refl)
     go false s true m f g h w = absurd (h w)
     go false true false m f g h w = absurd (h w)
     go false false false true f g h w = absurd (h w)
-    go false false false false f g h w = (leb-false 1_688 (length window) g, refl)
+    go false false false false f g h w = (leb-false mostBytes (length window) g, refl)

@@ -1,24 +1,39 @@
--- The difference tail: a part of the found text, and when it is called empty. Assumes nothing.
+-- The difference tail: where it begins, and when it is called empty. Assumes nothing.
 use mathlib.Core.Path.{_≡_, refl, sym}
-use mathlib.Core.Bool.{Bool, true, false, cond}
+use mathlib.Core.Bool.{Bool, true, false}
 use mathlib.Core.List.{List, [], _∷_}
-use Prim.Native.Nat.{ℕ, suc}
+use mathlib.Core.Logic.{inl, inr, ⊎-elim}
+use Prim.Native.Nat.{ℕ, zero, suc, _<_}
 use native.Mathlib.Omega.{arith}
 use lib.Dec.{eqb}
-use lib.ListN.{length, drop}
+use lib.ListN.{length, getD, drop}
 use lib.Seq.{drop-length}
-use borrow.Author.Tests.{eqb-true}
+use borrow.Author.Tests.{eqb-true, eqb-false}
 use Rattle.judge.specs.Tail.{tailOf, agree}
+use Rattle.judge.specs.Laws.{Begins}
 
--- the tail is what is left of the found text from some place on
-pub tail-is-part : (wanted found : List ℕ) → (i : ℕ) × (tailOf wanted found ≡ drop i found)
-tail-is-part [] found = (length found, sym (drop-length found))
-tail-is-part (a ∷ wanted) [] = (0, refl)
-tail-is-part (a ∷ wanted) (b ∷ found) = go (eqb a b) (tail-is-part wanted found)
+-- the tail begins at the first difference
+pub tail-begins : (wanted found : List ℕ) → Begins wanted found
+tail-begins [] found =
+    record { place = length found; rest = sym (drop-length found); agrees = λ i h k l. absurd (omega arith); differs = inl refl }
+tail-begins (a ∷ wanted) [] = record { place = 0; rest = refl; agrees = λ i h k l. absurd (omega arith); differs = inl refl }
+tail-begins (a ∷ wanted) (b ∷ found) = go (eqb a b) refl (tail-begins wanted found)
   where
-    go : (t : Bool) → (i : ℕ) × (tailOf wanted found ≡ drop i found) → (i : ℕ) × (cond t (tailOf wanted found) (b ∷ found) ≡ drop i (b ∷ found))
-    go true p = (suc (p .0), p .1)
-    go false p = (0, refl)
+    later : a ≡ b → (p : Begins wanted found) → (i : ℕ) → i < suc (p .place) → i < suc (length wanted) → i < suc (length found)
+        → getD (a ∷ wanted) i 0 ≡ getD (b ∷ found) i 0
+    later e p zero h k l = e
+    later e p (suc i) h k l = p .agrees i (omega arith) (omega arith) (omega arith)
+
+    go : (t : Bool) → eqb a b ≡ t → Begins wanted found → Begins (a ∷ wanted) (b ∷ found)
+    go true e p =
+        record {
+          place = suc (p .place);
+          rest = rw e (p .rest);
+          agrees = later (eqb-true a b e) p;
+          differs = ⊎-elim (λ n. inl (rw e n)) (λ d. inr (omega (arith, d .0), omega (arith, d .1), d .2)) (p .differs);
+        }
+    go false e p =
+        record { place = 0; rest = rw e; agrees = λ i h k l. absurd (omega arith); differs = inr (omega arith, omega arith, eqb-false a b e) }
 
 -- texts that are called equal have no tail
 pub agree-no-tail : (wanted found : List ℕ) → agree wanted found ≡ true → tailOf wanted found ≡ []

@@ -1,30 +1,49 @@
 -- A final window tells what the whole input tells. Assumes nothing.
 use mathlib.Core.Path.{_≡_, refl, sym, ap, _∙_}
-use mathlib.Core.Bool.{Bool, true, false, _||_, false≢true}
-use mathlib.Core.List.{List}
+use mathlib.Core.Bool.{Bool, true, false, cond, _||_, false≢true}
+use mathlib.Core.List.{List, _++_}
 use Prim.Native.Nat.{ℕ, _≤_}
 use native.Mathlib.Omega.{arith}
 use lib.Dec.{leb}
 use lib.ListN.{length, take, drop, take-append-drop, length-take}
 use lib.Seq.{take-all, take-take}
-use borrow.Author.Tests.{leb-true}
+use borrow.Author.Tests.{leb-true, le-leb, ne-eqb}
 use Rattle.answers.specs.Numbers.{isDone}
 use Rattle.answers.proofs.Numbers.{done-is}
 use Rattle.record.specs.Calls.{readCall}
+use Rattle.record.specs.Text.{mostBytes}
 use Rattle.record.proofs.Laws.{reads-and-writes}
-use Rattle.judge.specs.Steps.{isFinal}
+use Rattle.judge.specs.declared.stepping.Step.the-variants.{Judged, Stopped}
+use Rattle.judge.specs.Reports.{reportText, reportCall}
+use Rattle.judge.specs.Steps.{verdictRead, isFinal, stepLeaves, stepBy, reported, stepCall}
 
 -- a beginning of the input that is a final window is read as the input is
 pub final-window : (text : List ℕ) (size : ℕ) (ended : Bool) → (ended ≡ true → length text ≤ size) → isFinal (take size text) ended ≡ true
     → readCall (take size text) ≡ readCall text
 unfolding isFinal
-final-window text size ended = go (isDone (readCall (take size text) .answer)) ended (leb 1_688 (length (take size text))) refl refl
+final-window text size ended = go (isDone (readCall (take size text) .answer)) ended (leb mostBytes (length (take size text))) refl refl
   where
-    go : (t s u : Bool) → isDone (readCall (take size text) .answer) ≡ t → leb 1_688 (length (take size text)) ≡ u
+    go : (t s u : Bool) → isDone (readCall (take size text) .answer) ≡ t → leb mostBytes (length (take size text)) ≡ u
         → (s ≡ true → length text ≤ size) → (t || (s || u)) ≡ true → readCall (take size text) ≡ readCall text
     go true s u f g h e = sym (reads-and-writes .behind (take size text) (drop size text) (done-is _ f)) ∙ ap readCall (take-append-drop size text)
     go false true u f g h e = ap readCall (take-all size text (h refl))
     go false false true f g h e =
-        let m : 1_688 ≤ size = omega (arith, leb-true 1_688 (length (take size text)) g, length-take size text) in
-        sym (reads-and-writes .window (take size text)) ∙ ap readCall (take-take 1_688 size text m) ∙ reads-and-writes .window text
+        let m : mostBytes ≤ size = omega (arith, leb-true mostBytes (length (take size text)) g, length-take size text) in
+        sym (reads-and-writes .window (take size text)) ∙ ap readCall (take-take mostBytes size text m) ∙ reads-and-writes .window text
     go false false false f g h e = absurd (false≢true e)
+
+-- a step on a final window gives the report on what the whole input begins with
+pub final-step : (text : List ℕ) (size : ℕ) (ended : Bool) (number : ℕ) (place : List ℕ) → (ended ≡ true → length text ≤ size) → 1 ≤ length (take size text)
+    → isFinal (take size text) ended ≡ true
+    → let report = reportText number (verdictRead (readCall text)) in
+    length report ≤ length place
+    → stepCall (take size text) ended number place
+    ≡ stepLeaves (cond (isDone (readCall text .answer)) (Judged (readCall text .taken) (length report)) (Stopped (length report))) (report ++ drop (length report) place)
+unfolding stepCall reported stepBy reportCall
+final-step text size ended number place all some final room =
+    rw (
+      ne-eqb (length (take size text)) 0 (omega arith),
+      final,
+      final-window text size ended all final,
+      le-leb (length (reportText number (verdictRead (readCall text)))) (length place) room,
+    )

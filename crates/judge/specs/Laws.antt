@@ -1,20 +1,22 @@
 -- What the verdicts and the steps promise.
-use mathlib.Core.Bool.{Bool, true, false}
+use mathlib.Core.Bool.{Bool, true, false, cond}
 use mathlib.Core.List.{List, [], _++_}
-use mathlib.Core.Logic.{_↔_}
+use mathlib.Core.Logic.{_↔_, _⊎_}
 use mathlib.Core.Path.{_≡_}
 use Prim.Native.Nat.{ℕ, _+_, _≤_, _<_}
-use lib.ListN.{length, take, drop}
+use lib.ListN.{length, getD, take, drop}
 use Rattle.answers.specs.declared.Answer.the-variants.{Done, BrokenRecord}
+use Rattle.answers.specs.Numbers.{isDone}
 use Rattle.record.specs.declared.lines.Record.{Record}
 use Rattle.record.specs.Form.{held, broken}
 use Rattle.record.specs.Calls.{readCall}
+use Rattle.record.specs.Text.{mostBytes}
 use Rattle.judge.specs.declared.verdict.Verdict.the-variants.{Equal}
-use Rattle.judge.specs.declared.stepping.Step.the-variants.{Wait}
+use Rattle.judge.specs.declared.stepping.Step.the-variants.{Judged, Stopped, Wait}
 use Rattle.judge.specs.Tail.{tailOf}
 use Rattle.judge.specs.Verdicts.{sealing, rounds, verdictOn}
 use Rattle.judge.specs.Reports.{reportText}
-use Rattle.judge.specs.Steps.{verdictRead, isFinal, stepCall, takenBy, writtenBy, outputFrom}
+use Rattle.judge.specs.Steps.{verdictRead, isFinal, stepLeaves, stepCall, takenBy, writtenBy, outputFrom}
 
 -- a record's rounds, cipher and tag agree with our own sealing, by the rules' meaning of equal
 pub record Agrees (r : Record) : Type 0 where
@@ -23,20 +25,34 @@ pub record Agrees (r : Record) : Type 0 where
   pub cipher-agrees : tailOf (sealing r .cipher) (held (r .cipher)) ≡ []
   pub tag-agrees : tailOf (sealing r .tag) (held (r .tag)) ≡ []
 
+-- where a difference tail begins: before it the bytes that both texts have agree, and there both have a byte and the bytes differ, or the tail is empty
+pub record Begins (wanted found : List ℕ) : Type 0 where
+  pub place : ℕ
+  pub rest : tailOf wanted found ≡ drop place found
+  pub agrees : (i : ℕ) → i < place → i < length wanted → i < length found → getD wanted i 0 ≡ getD found i 0
+  pub differs : (tailOf wanted found ≡ []) ⊎ ((place < length wanted) × (place < length found) × (getD wanted place 0 ≡ getD found place 0 → ⊥))
+
 pub record Judges : Type 0 where
   -- the verdict is equal exactly where all three agree
   pub equal : (r : Record) → (verdictOn r ≡ Equal) ↔ Agrees r
-  -- a part of the found text: what is left of it from some place on
-  pub tail-is-part : (wanted found : List ℕ) → (i : ℕ) × (tailOf wanted found ≡ drop i found)
+  -- the tail is what is left of the found text from the first difference on
+  pub tail : (wanted found : List ℕ) → Begins wanted found
   -- a final window tells what the whole input tells, where it is the input's beginning, and all of it if the input has ended
   pub window : (text : List ℕ) (size : ℕ) (ended : Bool) → (ended ≡ true → length text ≤ size) → isFinal (take size text) ended ≡ true
       → readCall (take size text) ≡ readCall text
+  -- and a step on it gives the report on the record that the whole input begins with
+  pub step : (text : List ℕ) (size : ℕ) (ended : Bool) (number : ℕ) (place : List ℕ) → (ended ≡ true → length text ≤ size) → 1 ≤ length (take size text)
+      → isFinal (take size text) ended ≡ true
+      → let report = reportText number (verdictRead (readCall text)) in
+      length report ≤ length place
+      → stepCall (take size text) ended number place
+      ≡ stepLeaves (cond (isDone (readCall text .answer)) (Judged (readCall text .taken) (length report)) (Stopped (length report))) (report ++ drop (length report) place)
   -- a step takes no more than its window, writes no more than its place, and the place keeps its length
   pub inside : (window : List ℕ) (ended : Bool) (number : ℕ) (place : List ℕ) → let leaves = stepCall window ended number place in
       (takenBy (leaves .step) ≤ length window) × (writtenBy (leaves .step) ≤ length place) × (length (leaves .place) ≡ length place)
   -- a step waits only for an input that has not ended, in a window that has less than the most bytes of a record
   pub waits : (window : List ℕ) (ended : Bool) (number : ℕ) (place : List ℕ) → stepCall window ended number place .step ≡ Wait
-      → (length window < 1_688) × (ended ≡ false)
+      → (length window < mostBytes) × (ended ≡ false)
   -- the output of no input is nothing
   pub nothing : (number : ℕ) → outputFrom number [] ≡ []
   -- a record that is read gives its report, and then what is left gives its own

@@ -7,6 +7,7 @@ use lib.ListN.{length, drop}
 use Rattle.answers.specs.Numbers.{isDone}
 use Rattle.record.specs.declared.reading.Reading.{Reading}
 use Rattle.record.specs.Calls.{readCall}
+use Rattle.record.specs.Text.{mostBytes}
 use Rattle.judge.specs.declared.verdict.Verdict.{Verdict}
 use Rattle.judge.specs.declared.verdict.Verdict.the-variants.{Unread}
 use Rattle.judge.specs.declared.stepping.Step.{Step}
@@ -22,7 +23,7 @@ verdictRead reading = cond (isDone (reading .answer)) (verdictOn (reading .conte
 
 -- what a window tells is final: a whole record stands in it, or the input has ended, or the window has the most bytes of a record
 unfoldable pub isFinal : List ℕ → Bool → Bool
-isFinal window ended = isDone (readCall window .answer) || (ended || leb 1_688 (length window))
+isFinal window ended = isDone (readCall window .answer) || (ended || leb mostBytes (length window))
 
 -- a step, and what the place of the report then holds
 pub record StepLeaves : Type 0 where

@@ -63,7 +63,7 @@ fn words_length(verdict: Verdict) -> usize
     }
 }
 
-// How many bytes a report has: three names of 21 bytes and three line feeds, the number, the words.
+// How many bytes a report has: names of 21 bytes together, three line feeds, the number, the words.
 fn report_length(number: u64, verdict: Verdict) -> usize
     ensures { λ r. ⌜ r ≡ length (reportText number verdict) ⌝ }
 {

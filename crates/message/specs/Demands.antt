@@ -13,7 +13,7 @@ use Rattle.answers.specs.Numbers.{isDone}
 use Rattle.ascon.specs.Sets.{isSet, rowOf, dataLimit, textLimit}
 use Rattle.ascon.specs.Mode.{zeros, sealed, opened}
 use Rattle.ascon.specs.Rounds.{messageRounds}
-use Rattle.message.specs.Message.{messageTest, SealLeaves, sealLeaves, sealCall, OpenLeaves, openLeaves, openCall}
+use Rattle.message.specs.Message.{sealLeaves, sealCall, openLeaves, openCall}
 
 -- ---- an answer to anything
 

@@ -9,7 +9,7 @@ use lib.Bits.{bitXor, xor-shr, xor-mod, xor-zero-r}
 use lib.Dec.{lit<}
 use lib.ListN.{length, getD, set, take, drop, length-drop, take-append-drop}
 use lib.Pow.{pow-add, pow-mono, mod-pow-add, mod-mod-pow, field, high, low, shl-lt, shl-shr}
-use lib.Seq.{length-take-le, take-all, drop-drop, getD-take, getD-drop}
+use lib.Seq.{length-take-le, take-all, drop-drop, getD-drop}
 use Rattle.permutation.specs.declared.State.{State}
 use Rattle.permutation.specs.Strings.{Bytes, bytesOf, numberOf, stringOf, stateOf}
 use Rattle.permutation.proofs.Words.{Words}

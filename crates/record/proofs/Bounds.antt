@@ -16,7 +16,7 @@ use Rattle.sets.proofs.Rows.{row-sizes}
 use Rattle.record.specs.declared.field.Field.{Field}
 use Rattle.record.specs.declared.lines.Record.{Record}
 use Rattle.record.specs.Form.{held, isField, isNumber, numberAt, fieldAt, keeps}
-use Rattle.record.specs.Text.{names, name, valueText, lineText, textFrom}
+use Rattle.record.specs.Text.{names, name, valueText, lineText, textFrom, mostBytes}
 use Rattle.record.proofs.Fields.{held-most}
 use Rattle.record.proofs.Places.{each-line}
 use Rattle.record.proofs.Rules.{set-most, rule-is-field, rule-number}
@@ -79,11 +79,11 @@ text-room (suc k) line h m r e =
     ))
 
 -- no lines that keep their rules have more than 1,688 bytes
-pub text-most : (k : ℕ) → k ≤ 8 → (r : Record) → Sound k 1 r → length (textFrom k 1 r) ≤ 1_688
+pub text-most : (k : ℕ) → k ≤ 8 → (r : Record) → Sound k 1 r → length (textFrom k 1 r) ≤ mostBytes
 text-most zero h r e = omega arith
 text-most (suc k) h r e =
     omega (
       arith,
       text-room (suc k) 1 (omega arith) (omega arith) r e,
-      each-line (λ (n : ℕ). room n 1 ≤ 1_688) (lit≤ tt) (lit≤ tt) (lit≤ tt) (lit≤ tt) (lit≤ tt) (lit≤ tt) (lit≤ tt) (lit≤ tt) (suc k) (omega arith) h,
+      each-line (λ (n : ℕ). room n 1 ≤ mostBytes) (lit≤ tt) (lit≤ tt) (lit≤ tt) (lit≤ tt) (lit≤ tt) (lit≤ tt) (lit≤ tt) (lit≤ tt) (suc k) (omega arith) h,
     )

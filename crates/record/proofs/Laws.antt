@@ -2,17 +2,19 @@
 use mathlib.Core.Path.{_≡_, refl, sym, ap, _∙_}
 use mathlib.Core.Bool.{Bool, true, false, cond}
 use mathlib.Core.List.{List, _++_}
+use mathlib.Core.Logic.{_⊎_, inl, inr}
 use mathlib.Core.Option.{some}
 use Prim.Native.Nat.{ℕ, suc, _-_, _≤_}
 use native.Mathlib.Omega.{arith}
 use lib.Dec.{eqb, leb}
 use lib.ListN.{length, take, drop, length-append}
-use lib.Seq.{take-append-seam}
+use lib.Seq.{take-append-seam, take-at}
 use borrow.Author.Tests.{leb-true, eqb-true, le-leb}
 use Rattle.answers.specs.declared.Answer.the-variants.{Done, NoRoom, BrokenRecord}
 use Rattle.record.specs.declared.lines.Record.{Record}
+use Rattle.record.specs.declared.reading.Reading.{Reading}
 use Rattle.record.specs.Form.{withNumber, withField, broken}
-use Rattle.record.specs.Text.{lineText, textFrom, textOf}
+use Rattle.record.specs.Text.{lineText, textFrom, textOf, mostBytes}
 use Rattle.record.specs.Calls.{Line, refusedAt, readCall, writeLeaves, writeCall}
 use Rattle.record.specs.Laws.{Typed, Begun, ReadsAndWrites}
 use Rattle.record.proofs.Rules.{copiedLine}
@@ -43,6 +45,26 @@ taken-inside text d =
     let all = ap length (f .there) ∙ length-append (textFrom 8 1 (s .0 .next)) (drop (s .0 .size) text) in
     let first = length-append (lineText 1 (s .0 .next)) (textFrom 7 2 (s .0 .next)) in
     rw (read-whole text (s .0) (s .1)) (omega (arith, f .size, line-length 1 (s .0 .next)), omega (arith, f .size))
+
+-- a text is read, or refused at a line
+answered : (text : List ℕ) → (readCall text .answer ≡ Done) ⊎ (readCall text ≡ refusedAt (readCall text .line))
+unfolding refusedAt
+answered text = go (outcome text)
+  where
+    go : Outcome text → (readCall text .answer ≡ Done) ⊎ (readCall text ≡ refusedAt (readCall text .line))
+    go (whole s e) = inl (ap (λ (r : Reading). r .answer) (read-whole text s e))
+    go (stopped n s h e f) =
+        let r = read-stopped n text s h e f in
+        inr (r ∙ ap refusedAt (sym (ap (λ (x : Reading). x .line) r)))
+
+-- the bytes taken are the record's text
+spelled : (text : List ℕ) → readCall text .answer ≡ Done → take (readCall text .taken) text ≡ textOf (readCall text .content)
+unfolding textOf
+spelled text d =
+    let s = all-read text d in
+    let f : Far 8 text (s .0) = reach-far 8 (omega arith) text (s .0) (s .1) in
+    rw (read-whole text (s .0) (s .1))
+    (ap (take (s .0 .size)) (f .there) ∙ take-at (textFrom 8 1 (s .0 .next)) (drop (s .0 .size) text) (s .0 .size) (sym (f .size)))
 
 -- ---- writing
 
@@ -138,24 +160,24 @@ first-line text d = go (outcome text)
 -- ---- what does not matter
 
 -- no record has more than 1,688 bytes
-longest : (text : List ℕ) → readCall text .taken ≤ 1_688
+longest : (text : List ℕ) → readCall text .taken ≤ mostBytes
 unfolding refusedAt
 longest text = go (outcome text)
   where
-    go : Outcome text → readCall text .taken ≤ 1_688
+    go : Outcome text → readCall text .taken ≤ mostBytes
     go (whole s e) =
         let f : Far 8 text s = reach-far 8 (omega arith) text s e in
         rw (read-whole text s e) (omega (arith, f .size, text-most 8 (omega arith) (s .next) (f .rule)))
     go (stopped n s h e f) = rw (read-stopped n text s h e f) (omega arith)
 
 -- no byte behind them matters
-window : (text : List ℕ) → readCall (take 1_688 text) ≡ readCall text
+window : (text : List ℕ) → readCall (take mostBytes text) ≡ readCall text
 window text = go (outcome text)
   where
-    go : Outcome text → readCall (take 1_688 text) ≡ readCall text
-    go (whole s e) = read-whole (take 1_688 text) s (reach-take 8 (omega arith) 1_688 (omega arith) text ∙ e) ∙ sym (read-whole text s e)
+    go : Outcome text → readCall (take mostBytes text) ≡ readCall text
+    go (whole s e) = read-whole (take mostBytes text) s (reach-take 8 (omega arith) mostBytes (omega arith) text ∙ e) ∙ sym (read-whole text s e)
     go (stopped n s h e f) =
-        read-stopped n (take 1_688 text) s h (reach-take n (omega arith) 1_688 (omega arith) text ∙ e) (reach-take (suc n) h 1_688 (omega arith) text ∙ f)
+        read-stopped n (take mostBytes text) s h (reach-take n (omega arith) mostBytes (omega arith) text ∙ e) (reach-take (suc n) h mostBytes (omega arith) text ∙ f)
         ∙ sym (read-stopped n text s h e f)
 
 -- bytes behind a record do not matter
@@ -168,6 +190,8 @@ behind text more d =
 pub reads-and-writes : ReadsAndWrites
 reads-and-writes =
     record {
+      answered = answered;
+      spelled = spelled;
       write-read = write-read;
       read-write = read-write;
       read-in-form = read-in-form;

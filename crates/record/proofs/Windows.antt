@@ -8,7 +8,7 @@ use native.Mathlib.Omega.{arith}
 use lib.ListN.{length, take, drop, take-append-drop}
 use Rattle.record.specs.declared.lines.Record.{Record}
 use Rattle.record.specs.Form.{brokenFrom}
-use Rattle.record.specs.Text.{textFrom}
+use Rattle.record.specs.Text.{textFrom, mostBytes}
 use Rattle.record.specs.Calls.{begins, Line}
 use Rattle.record.specs.Laws.{Typed, Begun}
 use Rattle.record.proofs.Runs.{begins-append, begins-split, begins-more, begins-take}
@@ -46,7 +46,7 @@ reach-append k h x y s e =
     reach-same k h x (x ++ y) b (begins-more (textFrom k 1 (b .entry)) x y (b .there)) ∙ e
 
 -- nothing past 1,688 bytes is read
-pub reach-take : (k : ℕ) → k ≤ 8 → (n : ℕ) → 1_688 ≤ n → (text : List ℕ) → reach k (take n text) ≡ reach k text
+pub reach-take : (k : ℕ) → k ≤ 8 → (n : ℕ) → mostBytes ≤ n → (text : List ℕ) → reach k (take n text) ≡ reach k text
 reach-take k h n w text = go (reach k text) refl
   where
     other : (o : Option Line) → reach k text ≡ none → reach k (take n text) ≡ o → o ≡ none
@@ -59,6 +59,6 @@ reach-take k h n w text = go (reach k text) refl
     go : (o : Option Line) → reach k text ≡ o → reach k (take n text) ≡ o
     go (some s) e =
         let b : Begun k text = reach-begun k h text s e in
-        let m : length (textFrom k 1 (b .entry)) ≤ 1_688 = text-most k h (b .entry) (broken-rule k 1 (b .entry) (omega arith) (b .in-form)) in
+        let m : length (textFrom k 1 (b .entry)) ≤ mostBytes = text-most k h (b .entry) (broken-rule k 1 (b .entry) (omega arith) (b .in-form)) in
         reach-same k h text (take n text) b (begins-take (textFrom k 1 (b .entry)) text n (omega arith) (b .there)) ∙ e
     go none e = other (reach k (take n text)) e refl

@@ -1,6 +1,7 @@
 -- What reading and writing promise of each other.
 use mathlib.Core.Bool.{true}
 use mathlib.Core.List.{List, _++_}
+use mathlib.Core.Logic.{_⊎_}
 use mathlib.Core.Path.{_≡_}
 use Prim.Native.Nat.{ℕ, _-_, _≤_}
 use lib.ListN.{length, take, drop}
@@ -9,8 +10,8 @@ use Rattle.answers.specs.declared.Answer.the-variants.{Done, BrokenRecord}
 use Rattle.record.specs.declared.field.Field.{Field}
 use Rattle.record.specs.declared.lines.Record.{Record}
 use Rattle.record.specs.Form.{brokenFrom, broken}
-use Rattle.record.specs.Text.{textFrom}
-use Rattle.record.specs.Calls.{begins, readCall, writeLeaves, writeCall}
+use Rattle.record.specs.Text.{textFrom, textOf, mostBytes}
+use Rattle.record.specs.Calls.{begins, refusedAt, readCall, writeLeaves, writeCall}
 
 -- what a field's type says: 256 places, that hold bytes
 pub record Whole (f : Field) : Type 0 where
@@ -34,6 +35,10 @@ pub record Begun (count : ℕ) (text : List ℕ) : Type 0 where
   pub there : begins (textFrom count 1 entry) text ≡ true
 
 pub record ReadsAndWrites : Type 0 where
+  -- a text is read, or refused with its line, nothing taken and the record of zeros
+  pub answered : (text : List ℕ) → (readCall text .answer ≡ Done) ⊎ (readCall text ≡ refusedAt (readCall text .line))
+  -- the bytes taken are the record's text
+  pub spelled : (text : List ℕ) → readCall text .answer ≡ Done → take (readCall text .taken) text ≡ textOf (readCall text .content)
   -- what was written is read as the same record, and all of it is taken
   pub write-read : (r : Record) (out : List ℕ) → Typed r → writeCall r out .outcome .answer ≡ Done
       → readCall (writeCall r out .out) ≡ record { answer = Done; line = 0; taken = writeCall r out .outcome .written; content = r }
@@ -47,7 +52,7 @@ pub record ReadsAndWrites : Type 0 where
   pub first-line : (text : List ℕ) → readCall text .answer ≡ BrokenRecord
       → (1 ≤ readCall text .line) × (readCall text .line ≤ 8) × Begun (readCall text .line - 1) text × (Begun (readCall text .line) text → ⊥)
   -- no record has more than 1,688 bytes, and no byte behind them matters
-  pub longest : (text : List ℕ) → readCall text .taken ≤ 1_688
-  pub window : (text : List ℕ) → readCall (take 1_688 text) ≡ readCall text
+  pub longest : (text : List ℕ) → readCall text .taken ≤ mostBytes
+  pub window : (text : List ℕ) → readCall (take mostBytes text) ≡ readCall text
   -- bytes behind a record do not matter
   pub behind : (text more : List ℕ) → readCall text .answer ≡ Done → readCall (text ++ more) ≡ readCall text

@@ -42,3 +42,7 @@ textFrom (suc count) line r = lineText line r ++ textFrom count (line + 1) r
 -- the text of a record
 unfoldable pub textOf : Record → List ℕ
 textOf r = textFrom 8 1 r
+
+-- the most bytes that a record in form can have
+abbrev pub mostBytes : ℕ
+mostBytes = 1_688

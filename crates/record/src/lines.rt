@@ -7,7 +7,7 @@ ghost use Rattle.record.specs.Calls.{padded};
 use crate::field;
 use crate::field::Field;
 
-// A bench record: key, nonce and tag have the set's length, ad, text and cipher at most 256 bytes.
+// A bench record. One in form has a known set, key, nonce and tag of its length, at most 256 bytes in the others, and rounds of at most seven digits.
 pub struct Record {
     pub set: u64,
     pub key: Field,

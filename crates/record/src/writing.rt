@@ -88,7 +88,7 @@ fn text_length(entry: Record) -> usize
     size
 }
 
-// Writes a record in form at the beginning of a place.
+// Writes a record at the beginning of a place; one out of form, or a place too short, is refused.
 pub fn write(entry: Record, place: &mut [u8]) -> Writing
     ensures { λ r. ⌜ writeLeaves r (now (place .exit)) ≡ writeCall entry (now (place .entry)) ⌝ }
 {

@@ -7,7 +7,7 @@ use Rattle.permutation.specs.Runs.{permuteWords}
 use Rattle.permutation.specs.Strings.{_‖_, stringOfWords}
 use Rattle.ascon.specs.Sets.{ParameterSet}
 use Rattle.ascon.specs.Mode.{_⊕_, zeros}
-use Rattle.ascon.specs.Bytewise.{At, at, turned}
+use Rattle.ascon.specs.Bytewise.{At, turned}
 use Rattle.sponge.specs.declared.Way.{Way}
 use Rattle.sponge.specs.declared.Way.the-variants.{Seal, Open}
 

@@ -1,8 +1,8 @@
 -- What the tests say, one byte at a time, and the bound of a round count. Assumes nothing.
-use mathlib.Core.Path.{_≡_, refl, sym, ap, _∙_}
+use mathlib.Core.Path.{_≡_, refl, sym, _∙_}
 use mathlib.Core.Bool.{Bool, true, false, cond, _&&_, false≢true}
 use mathlib.Core.List.{List}
-use Prim.Native.Nat.{ℕ, zero, suc, _+_, _-_, _*_, _/_, _≤_, _<_}
+use Prim.Native.Nat.{ℕ, _+_, _-_, _*_, _/_, _≤_, _<_}
 use native.Mathlib.Nat.{le-trans, le-div-iff-mul-le, div-mul-le-self, mul-le-mul-right, div-le-self}
 use native.Mathlib.Numerals.{add-one}
 use native.Mathlib.Omega.{arith}
@@ -15,7 +15,6 @@ use Rattle.answers.specs.declared.Answer.the-variants.{Done, UnknownSet, KeyLen
 use Rattle.answers.specs.Numbers.{isDone}
 use Rattle.permutation.specs.Runs.{roundsOf}
 use Rattle.ascon.specs.Sets.{ParameterSet, isSet, rowOf}
-use Rattle.ascon.specs.Mode.{zeros}
 use Rattle.sets.proofs.Rows.{Sizes, row-sizes}
 use Rattle.stream.specs.State.{allZero, isData, isSound}
 use Rattle.stream.specs.Calls.{filledRounds, closingRounds, startTest, pieceTest, finishTest}

@@ -1,12 +1,9 @@
 // Sealing and checking streams. A state goes into each call and comes back from it; every call takes any state, any lengths and any order, and answers with
 // its listed number.
 ghost use mathlib.Core.Path.{_≡_};
-ghost use mathlib.Core.Bool.{_&&_};
-ghost use mathlib.Core.List.{_++_};
 ghost use Prim.Native.Nat.{_+_, _-_, _*_, _≤_, _<_};
-ghost use lib.ListN.{length, take, drop};
+ghost use lib.ListN.{take, drop};
 ghost use Rattle.ascon.specs.Sets.{rowOf};
-ghost use Rattle.ascon.specs.Mode.{zeros, same};
 ghost use Rattle.stream.specs.State.{allZero, isData, isOpen, isSealing, isChecking, ended, isSoundOpen, isSoundEnded, isSound};
 ghost use Rattle.stream.specs.Calls.{filledRounds, pieceTest, finishTest, startTest, refused, textWords, closingRounds, startCall, dataCall, tookText, ownTag, called, sealCall, checkCall, finishSealingCall, finishCheckingCall};
 use answers::Answer;

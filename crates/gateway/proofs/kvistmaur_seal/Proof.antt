@@ -1,9 +1,7 @@
 -- `gateway::kvistmaur_seal` meets its contract. Assumes nothing.
-use mathlib.Core.Path.{_≡_, ap, _∙_}
-use Prim.Native.Nat.{_≤_}
+use mathlib.Core.Path.{ap, _∙_}
 use denote.Ref.{now}
 use borrow.Author.Needs.{needs}
-use Rattle.message.specs.declared.Outcome.{Outcome}
 use Rattle.message.specs.Message.{SealLeaves}
 use Rattle.message.proofs.Bounds.{seal-rounds}
 use Rattle.gateway.specs.Word.{wordOf}

@@ -1,12 +1,11 @@
 -- `message::message_rounds` meets its contract. Assumes nothing.
-use mathlib.Core.Path.{_≡_, sym, ap, _∙_}
+use mathlib.Core.Path.{_≡_, ap}
 use Prim.Native.Nat.{ℕ, _+_, _-_, _*_, _/_, _≤_}
 use native.Mathlib.Nat.{div-le-self, mul-le-mul-right}
 use native.Mathlib.Omega.{arith}
 use borrow.Author.Needs.{needs}
 use Rattle.permutation.specs.Runs.{roundsOf, constantsOf, constants}
-use Rattle.ascon.specs.Sets.{rowOf}
-use Rattle.ascon.specs.Rounds.{dataBlocks, textBlocks, messageRounds}
+use Rattle.ascon.specs.Rounds.{textBlocks, messageRounds}
 use Rattle.sets.proofs.Rows.{row-sizes}
 use Rattle.message.proofs.message_rounds.Statement.{statement}
 use Rattle.message.proofs.message_rounds.Tie as tie

@@ -1,19 +1,19 @@
 -- `message::process` meets its contract. Assumes nothing.
-use mathlib.Core.Path.{_≡_, sym, ap, ap₂, _∙_}
+use mathlib.Core.Path.{_≡_, ap, ap₂, _∙_}
 use mathlib.Core.List.{List, _++_}
-use Prim.Native.Nat.{ℕ, _-_, _^_, _<_}
+use Prim.Native.Nat.{ℕ, _-_}
 use native.Mathlib.Omega.{arith}
 use denote.Ref.{now}
-use lib.ListN.{length, getD}
+use lib.ListN.{length}
 use borrow.Author.Needs.{needs}
 use Rattle.permutation.specs.Strings.{Bytes, wordsOfString}
 use Rattle.ascon.specs.Sets.{rowOf}
 use Rattle.ascon.specs.Mode.{zeros, initialise, beforeText}
 use Rattle.sponge.specs.declared.Way.the-variants.{Seal}
-use Rattle.sponge.specs.Sponge.{started, absorbed, dataClosed, cryptedOf, Crypted, tagOf, finished}
+use Rattle.sponge.specs.Sponge.{started, absorbed, dataClosed, cryptedOf, Crypted, finished}
 use Rattle.sets.proofs.Rows.{row-fits, row-sizes}
 use Rattle.sponge.proofs.Compared.{sixteen-is}
-use Rattle.message.proofs.Whole.{started-is, before-is, end, crypted-is, tagged-is}
+use Rattle.message.proofs.Whole.{started-is, before-is, crypted-is, tagged-is}
 use Rattle.message.proofs.process.Statement.{statement}
 use Rattle.message.proofs.process.Tie as tie
 

@@ -7,6 +7,7 @@ use borrow.Author.Tests.{le-leb, lt-leb, eq-eqb, ne-eqb}
 use Rattle.answers.specs.Numbers.{isDone}
 use Rattle.record.specs.declared.reading.Reading.{Reading}
 use Rattle.record.specs.Calls.{readCall}
+use Rattle.record.specs.Text.{mostBytes}
 use Rattle.judge.specs.Steps.{isFinal, reported, stepCall}
 use Rattle.judge.proofs.stepping.judge_window.Statement.{statement}
 use Rattle.judge.proofs.stepping.judge_window.Tie as tie
@@ -65,7 +66,7 @@ returns-5 : tie.Need-returns-5
 unfolding stepCall isFinal
 returns-5 c =
     let a = c .before .before .before .before .before .before .before .before .before .before .before .before .args in
-    rw (ne-eqb (length (now (a .window))) 0 (c .before .before .before .before .before .before .before .before .before .if1 .left), told (c .before .before .before .before .before .before .before) ∙ c .before .before .before .before .before .before .if3 .left, c .before .before .before .before .before .if4 .left, le-leb 1_688 (length (now (a .window))) (c .before .before .before .before .if5 .taken))
+    rw (ne-eqb (length (now (a .window))) 0 (c .before .before .before .before .before .before .before .before .before .if1 .left), told (c .before .before .before .before .before .before .before) ∙ c .before .before .before .before .before .before .if3 .left, c .before .before .before .before .before .if4 .left, le-leb mostBytes (length (now (a .window))) (c .before .before .before .before .if5 .taken))
     (c .before .before .report-on3 .ensures ∙ ap (λ (r : Reading). reported r (a .number) (now (a .place))) (c .before .before .before .before .before .before .before .before .read .ensures))
 
 returns-6 : tie.Need-returns-6
@@ -76,7 +77,7 @@ returns-6 c =
       ne-eqb (length (now (a .window))) 0 (c .before .before .before .before .before .if1 .left),
       told (c .before .before .before) ∙ c .before .before .if3 .left,
       c .before .if4 .left,
-      lt-leb 1_688 (length (now (a .window))) (c .if5 .left),
+      lt-leb mostBytes (length (now (a .window))) (c .if5 .left),
     )
 
 pub judge-window-spec : {M : Type 1} → statement M

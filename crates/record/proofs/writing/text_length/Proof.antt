@@ -7,7 +7,7 @@ use lib.ListN.{length}
 use borrow.Author.Needs.{needs}
 use Rattle.record.specs.declared.lines.Record.{Record}
 use Rattle.record.specs.Form.{broken}
-use Rattle.record.specs.Text.{textFrom, textOf}
+use Rattle.record.specs.Text.{textFrom, textOf, mostBytes}
 use Rattle.record.proofs.Chains.{text-more, Sound, broken-rule}
 use Rattle.record.proofs.Bounds.{text-most}
 use Rattle.record.proofs.writing.text_length.Statement.{statement}
@@ -31,7 +31,7 @@ unfolding broken
 sound c = broken-rule 8 1 (c .args .entry) (omega arith) (c .pre)
 
 -- and have at most 1,688 bytes
-most : (c : tie.Start Inv-loop μ-loop) → length (textOf (c .args .entry)) ≤ 1_688
+most : (c : tie.Start Inv-loop μ-loop) → length (textOf (c .args .entry)) ≤ mostBytes
 unfolding textOf
 most c = text-most 8 (omega arith) (c .args .entry) (sound c)
 

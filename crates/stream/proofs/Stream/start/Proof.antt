@@ -1,6 +1,5 @@
 -- `stream::Stream::start` meets its contract. Assumes nothing.
 use mathlib.Core.Path.{_≡_, sym, ap, ap₂, _∙_}
-use mathlib.Core.Bool.{true, false}
 use mathlib.Core.List.{List, _++_}
 use Prim.Native.Nat.{ℕ, _-_}
 use native.Mathlib.Omega.{arith}
@@ -18,7 +17,7 @@ use Rattle.sponge.specs.Sponge.{started}
 use Rattle.sponge.proofs.Compared.{sixteen-is}
 use Rattle.sets.proofs.Rows.{row-sizes}
 use Rattle.stream.specs.declared.Phase.the-variants.{Data}
-use Rattle.stream.specs.Calls.{startTest, refused, startCall}
+use Rattle.stream.specs.Calls.{refused, startCall}
 use Rattle.stream.proofs.Tests.{StartPassed, start-passed}
 use Rattle.stream.proofs.Stream.start.Statement.{statement}
 use Rattle.stream.proofs.Stream.start.Tie as tie
