@@ -98,7 +98,7 @@ fn take_field(line: usize, entry: Record, text: &[u8]) -> Taken
 }
 
 // A record with a line's digits read.
-fn take_value(line: usize, entry: Record, text: &[u8]) -> Taken
+fn read_line(line: usize, entry: Record, text: &[u8]) -> Taken
     ensures { λ r. ⌜ r ≡ takenAs (valueRead line entry (now (text .entry))) ⌝ }
 {
     if lines::is_number(line) {
@@ -156,7 +156,7 @@ pub fn read(text: &[u8]) -> Reading
         if !feed_at(text, end) {
             break line;
         }
-        let taken = take_value(line, entry, &text[from..end]);
+        let taken = read_line(line, entry, &text[from..end]);
         if !taken.ok {
             break line;
         }

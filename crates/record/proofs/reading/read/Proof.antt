@@ -146,14 +146,14 @@ walked c =
 feed-at-requires : tie.Need-feed-at-requires Inv-digits μ-digits Inv-loop μ-loop
 feed-at-requires c κs = search needs
 
-sub-take-value : tie.Need-sub-take-value Inv-digits μ-digits Inv-loop μ-loop
-sub-take-value c = c .before .before .before .digits .inv .begun
+sub-read-line : tie.Need-sub-read-line Inv-digits μ-digits Inv-loop μ-loop
+sub-read-line c = c .before .before .before .digits .inv .begun
 
-part-take-value-start : tie.Need-part-take-value-start Inv-digits μ-digits Inv-loop μ-loop
-part-take-value-start c = search needs
+part-read-line-start : tie.Need-part-read-line-start Inv-digits μ-digits Inv-loop μ-loop
+part-read-line-start c = search needs
 
-part-take-value-end : tie.Need-part-take-value-end Inv-digits μ-digits Inv-loop μ-loop
-part-take-value-end c = search needs
+part-read-line-end : tie.Need-part-read-line-end Inv-digits μ-digits Inv-loop μ-loop
+part-read-line-end c = search needs
 
 -- the line by its line feed
 line-is : (c : tie.After-feed-at Inv-digits μ-digits Inv-loop μ-loop) → (c .before .before .before .before .take-name .result ≡ 0 → ⊥)
@@ -173,10 +173,10 @@ line-is c h =
     (sym (c .feed-at .ensures))
 
 -- the digits that were read
-value-is : (c : tie.After-take-value Inv-digits μ-digits Inv-loop μ-loop) → let f = c .before .before .before in
+value-is : (c : tie.After-read-line Inv-digits μ-digits Inv-loop μ-loop) → let f = c .before .before .before in
     let t = f .before .before .before .before in
     let l = t .before .before .before .loop in
-    c .take-value .result
+    c .read-line .result
     ≡ takenAs (valueRead (l .line) (l .entry) (run (drop (l .at + t .take-name .result) (now (t .before .before .before .before .before .before .args .text)))))
 value-is c =
     let f = c .before .before .before in
@@ -186,11 +186,11 @@ value-is c =
     let text = now (t .before .before .before .before .before .before .args .text) in
     let from = l .at + t .take-name .result in
     let size : d .end - from ≡ length (run (drop from text)) = omega (arith, walked (f .before)) in
-    c .take-value .ensures
+    c .read-line .ensures
     ∙ ap (λ (x : List ℕ). takenAs (valueRead (l .line) (l .entry) x)) (ap (λ (n : ℕ). take n (drop from text)) size ∙ take-run (drop from text))
 
-take-value-requires : tie.Need-take-value-requires Inv-digits μ-digits Inv-loop μ-loop
-take-value-requires c κs = search needs
+read-line-requires : tie.Need-read-line-requires Inv-digits μ-digits Inv-loop μ-loop
+read-line-requires c κs = search needs
 
 -- the line feed is in the text
 feed-stands : (c : tie.Else4 Inv-digits μ-digits Inv-loop μ-loop) →
@@ -218,8 +218,8 @@ loop-again c =
     let l = t .before .before .before .loop in
     let text = now (t .before .before .before .before .before .before .args .text) in
     let x = valueRead (l .line) (l .entry) (run (drop (l .at + t .take-name .result) text)) in
-    let given : x ≡ some (v .take-value .result .content) = taken-is x (v .take-value .result) (value-is v) (not-false _ (c .before .if5 .left)) in
-    read-on text (l .entry) (v .take-value .result .content) (l .at) (l .line) (f .before .before .digits .end) (l .inv) (t .before .before .if1 .left)
+    let given : x ≡ some (v .read-line .result .content) = taken-is x (v .read-line .result) (value-is v) (not-false _ (c .before .if5 .left)) in
+    read-on text (l .entry) (v .read-line .result .content) (l .at) (l .line) (f .before .before .digits .end) (l .inv) (t .before .before .if1 .left)
     (omega (arith, f .before .before .digits .inv .begun)) (feed-stands e)
     (line-is f (f .before .before .before .if2 .left) ∙ rw (not-false (f .feed-at .result) (e .if4 .left), given))
 
@@ -276,8 +276,8 @@ ended c =
           };
       feed-at = w .6;
     } in
-    let v : tie.After-take-value Inv-digits μ-digits Inv-loop μ-loop =
-    record { before = record { before = record { before = f; if4 = w .7 }; take-value-arg = w .8 }; take-value = w .9 } in
+    let v : tie.After-read-line Inv-digits μ-digits Inv-loop μ-loop =
+    record { before = record { before = record { before = f; if4 = w .7 }; read-line-arg = w .8 }; read-line = w .9 } in
     let x = valueRead (l .line) (l .entry) (run (drop (l .at + w .2 .result) text)) in
     let missing : x ≡ none = not-taken-is x (w .9 .result) (value-is v) (not-true _ (w .11 .taken)) in
     inr (w .12, refused text (l .entry) (l .at) (l .line) (l .inv) (w .0 .left) (line-is f (w .3 .left) ∙ rw (not-false (w .6 .result) (w .7 .left), missing))))))
@@ -320,10 +320,10 @@ read-spec =
     digits-less
     digits-again
     feed-at-requires
-    sub-take-value
-    part-take-value-start
-    part-take-value-end
-    take-value-requires
+    sub-read-line
+    part-read-line-start
+    part-read-line-end
+    read-line-requires
     add-at
     add-line
     loop-less

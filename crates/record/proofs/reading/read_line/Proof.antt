@@ -1,9 +1,9 @@
--- `record::reading::take_value` meets its contract. Assumes nothing.
+-- `record::reading::read_line` meets its contract. Assumes nothing.
 use mathlib.Core.Path.{sym, _∙_}
 use borrow.Author.Needs.{needs}
 use Rattle.record.specs.Calls.{valueRead}
-use Rattle.record.proofs.reading.take_value.Statement.{statement}
-use Rattle.record.proofs.reading.take_value.Tie as tie
+use Rattle.record.proofs.reading.read_line.Statement.{statement}
+use Rattle.record.proofs.reading.read_line.Tie as tie
 
 is-number-requires : tie.Need-is-number-requires
 is-number-requires c κs = search needs
@@ -22,5 +22,5 @@ returns-2 : tie.Need-returns-2
 unfolding valueRead
 returns-2 c = rw (sym (c .before .before .is-number .ensures) ∙ c .before .if1 .left) (c .take-field .ensures)
 
-pub take-value-spec : {M : Type 1} → statement M
-take-value-spec = tie.close (tie.spec is-number-requires take-number-requires returns take-field-requires returns-2)
+pub read-line-spec : {M : Type 1} → statement M
+read-line-spec = tie.close (tie.spec is-number-requires take-number-requires returns take-field-requires returns-2)
