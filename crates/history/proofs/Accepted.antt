@@ -16,7 +16,7 @@ use Rattle.stream.specs.declared.Stream.{Stream}
 use Rattle.stream.specs.State.{allZero, isOpen, isSoundOpen, isSound}
 use Rattle.stream.specs.Calls.{startCall, pieceTest, finishTest}
 use Rattle.history.specs.History.{History, stateAt}
-use Rattle.history.proofs.History.{Reached, key, passed}
+use Rattle.history.proofs.History.{Reached, Reached.in-data, Reached.in-text, Reached.over, key, passed}
 
 zero-zeros : (n : ℕ) → allZero (zeros n) ≡ true
 zero-zeros zero = refl

@@ -29,8 +29,8 @@ use Rattle.stream.specs.declared.Stream.{Stream}
 use Rattle.stream.specs.declared.Outcome.{Outcome}
 use Rattle.stream.specs.State.{isData, isOpen, isSealing, isChecking, isSound}
 use Rattle.stream.specs.Calls.{pieceTest, finishTest, startCall, tookData, textWords, tookText, closingRounds, Called, ownTag, finishCheckingCall}
-use Rattle.history.specs.History.{Call, giveAd, giveText, giveCipher, textCall, endSealing, endChecking, reply, History, begun, next, after, BytesIn, wayOf, stateAt, roundsAt, NeverRefused}
-use Rattle.history.specs.Cuts.{Refused, TextCut, Cut, Message, SealedWhole, CheckedWhole, CuttingDoesNotMatter}
+use Rattle.history.specs.History.{Call, giveAd, giveText, giveCipher, textCall, endSealing, endChecking, reply, History, begun, next, after, BytesIn, wayOf, stateAt, roundsAt, Fitting.ad-fits, Fitting.text-fits, NeverRefused}
+use Rattle.history.specs.Cuts.{Refused, TextCut, TextCut.text-end, TextCut.text-refusal, TextCut.text-piece, Cut, Cut.data-end, Cut.data-refusal, Cut.data-piece, Message, SealedWhole, CheckedWhole, CuttingDoesNotMatter}
 use Rattle.sponge.proofs.Fronts.{stood, tag-is, l₁, b₁, sealed-end, checked-end}
 use Rattle.history.proofs.Rounds.{rounds-whole}
 use Rattle.history.proofs.Replies.{next-is, next-refused, data-refused, data-done, seal-refused, seal-short, seal-done, check-refused, check-done, finish-sealing-refused, finish-sealing-done, finish-checking-refused, finish-checking-done}
