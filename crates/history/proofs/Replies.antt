@@ -8,7 +8,7 @@ use lib.Dec.{leb}
 use lib.ListN.{length, take, drop}
 use lib.Seq.{take-at}
 use Rattle.answers.specs.declared.Answer.{Answer}
-use Rattle.answers.specs.declared.Answer.the-variants.{Done, NoRoom, TagDiffers, PastLimit, OutOfPhase, BrokenState, TagLength}
+use Rattle.answers.specs.declared.Answer.the-variants.{Done, NoRoom, TagDiffers, PastLimit, OutOfPhase, BrokenState}
 use Rattle.answers.specs.Numbers.{isDone}
 use Rattle.ascon.specs.Sets.{rowOf, dataLimit, textLimit}
 use Rattle.ascon.specs.Mode.{p, same}
@@ -50,21 +50,13 @@ next-refused h call answer e f =
       rounds = add-zero (h .rounds) j;
     })
 
--- ---- the tests of a call that does not fit
+-- ---- a call that does not fit
 
 pub unfit-piece : (s : Stream) (fits : Bool) (count n limit : ℕ) → fits ≡ false → isDone (pieceTest s fits count n limit) ≡ false
 unfolding pieceTest
 unfit-piece s fits count n limit e = go (isSound s)
   where
     go : (t : Bool) → isDone (cond t (cond fits (cond (leb (count + n) limit) Done PastLimit) OutOfPhase) BrokenState) ≡ false
-    go true = rw e
-    go false = refl
-
-pub unfit-finish : (s : Stream) (fits : Bool) (n : ℕ) → fits ≡ false → isDone (finishTest s fits n) ≡ false
-unfolding finishTest
-unfit-finish s fits n e = go (isSound s)
-  where
-    go : (t : Bool) → isDone (cond t (cond fits (cond (lib.Dec.eqb n (rowOf (s .set) .key)) Done TagLength) OutOfPhase) BrokenState) ≡ false
     go true = rw e
     go false = refl
 
