@@ -29,7 +29,7 @@ use Rattle.stream.specs.declared.Stream.{Stream}
 use Rattle.stream.specs.declared.Outcome.{Outcome}
 use Rattle.stream.specs.State.{isData, isOpen, isSealing, isChecking, isSound}
 use Rattle.stream.specs.Calls.{pieceTest, finishTest, startCall, tookData, textWords, tookText, closingRounds, Called, ownTag, finishCheckingCall}
-use Rattle.history.specs.History.{Call, giveAd, giveText, giveCipher, textCall, endSealing, endChecking, reply, History, begun, next, after, BytesIn, wayOf, stateAt, roundsAt, Fitting.ad-fits, Fitting.text-fits, NeverRefused}
+use Rattle.history.specs.History.{ours, Call, giveAd, giveText, giveCipher, textCall, endSealing, endChecking, reply, History, begun, next, after, BytesIn, wayOf, stateAt, roundsAt, Fitting.ad-fits, Fitting.text-fits, NeverRefused}
 use Rattle.history.specs.Cuts.{Refused, TextCut, TextCut.text-end, TextCut.text-refusal, TextCut.text-piece, Cut, Cut.data-end, Cut.data-refusal, Cut.data-piece, Message, SealedWhole, CheckedWhole, CuttingDoesNotMatter}
 use Rattle.sponge.proofs.Fronts.{stood, tag-is, l₁, b₁, sealed-end, checked-end}
 use Rattle.history.proofs.Rounds.{rounds-whole}
@@ -40,11 +40,11 @@ use Rattle.history.proofs.Accepted.{fits-piece, fits-finish, reached-so
 -- ---- a refusal with 4 to 8 leaves the history as it was
 
 -- the number of what the call answers
-number-of : (s : Stream) (call : Call) (r : Outcome) → Refused s call → reply s call ≡ r → (4 ≤ numberOf (r .answer)) × (numberOf (r .answer) ≤ 8)
+number-of : (s : Stream) (call : Call) (r : Outcome) → Refused ours s call → reply ours s call ≡ r → (4 ≤ numberOf (r .answer)) × (numberOf (r .answer) ≤ 8)
 number-of s call r f e =
     (subst (λ (x : Outcome). 4 ≤ numberOf (x .answer)) e (f .least), subst (λ (x : Outcome). numberOf (x .answer) ≤ 8) e (f .most))
 
-refused-next : (h : History) (call : Call) → Refused (h .stream) call → next h call ≡ h
+refused-next : (h : History) (call : Call) → Refused ours (h .stream) call → next ours h call ≡ h
 unfolding tookText
 refused-next h (giveAd piece) r = go (isDone test) refl
   where
@@ -54,7 +54,7 @@ refused-next h (giveAd piece) r = go (isDone test) refl
     test : Answer
     test = pieceTest s (isData (s .phase)) (s .ad) (length piece) dataLimit
 
-    go : (t : Bool) → isDone test ≡ t → next h (giveAd piece) ≡ h
+    go : (t : Bool) → isDone test ≡ t → next ours h (giveAd piece) ≡ h
     go true e = absurd (let no : 4 ≤ 0 = number-of s (giveAd piece) _ r (data-done s piece e) .0 in omega arith)
     go false e = next-refused h (giveAd piece) test (data-refused s piece e) e
 refused-next h (giveText piece out) r = go (isDone test) refl (leb (length piece) (length out)) refl
@@ -65,7 +65,7 @@ refused-next h (giveText piece out) r = go (isDone test) refl (leb (length piece
     test : Answer
     test = pieceTest s (isOpen (s .phase) && isSealing (s .direction)) (s .text) (length piece) textLimit
 
-    go : (t : Bool) → isDone test ≡ t → (u : Bool) → leb (length piece) (length out) ≡ u → next h (giveText piece out) ≡ h
+    go : (t : Bool) → isDone test ≡ t → (u : Bool) → leb (length piece) (length out) ≡ u → next ours h (giveText piece out) ≡ h
     go true e true f = absurd (let no : 4 ≤ 0 = number-of s (giveText piece out) _ r (ap (λ (c : Called). c .outcome) (seal-done s piece out e f)) .0 in omega arith)
     go true e false f = next-refused h (giveText piece out) NoRoom (ap (λ (c : Called). c .outcome) (seal-short s piece out e f)) refl
     go false e u f = next-refused h (giveText piece out) test (ap (λ (c : Called). c .outcome) (seal-refused s piece out e)) e
@@ -77,7 +77,7 @@ refused-next h (giveCipher piece) r = go (isDone test) refl
     test : Answer
     test = pieceTest s (isOpen (s .phase) && isChecking (s .direction)) (s .text) (length piece) textLimit
 
-    go : (t : Bool) → isDone test ≡ t → next h (giveCipher piece) ≡ h
+    go : (t : Bool) → isDone test ≡ t → next ours h (giveCipher piece) ≡ h
     go true e = absurd (let no : 4 ≤ 0 = number-of s (giveCipher piece) _ r (check-done s piece e) .0 in omega arith)
     go false e = next-refused h (giveCipher piece) test (check-refused s piece e) e
 refused-next h (endSealing tag) r = go (isDone test) refl
@@ -88,7 +88,7 @@ refused-next h (endSealing tag) r = go (isDone test) refl
     test : Answer
     test = finishTest s (isOpen (s .phase) && isSealing (s .direction)) (length tag)
 
-    go : (t : Bool) → isDone test ≡ t → next h (endSealing tag) ≡ h
+    go : (t : Bool) → isDone test ≡ t → next ours h (endSealing tag) ≡ h
     go true e = absurd (let no : 4 ≤ 0 = number-of s (endSealing tag) _ r (ap (λ (c : Called). c .outcome) (finish-sealing-done s tag e)) .0 in omega arith)
     go false e = next-refused h (endSealing tag) test (ap (λ (c : Called). c .outcome) (finish-sealing-refused s tag e)) e
 refused-next h (endChecking tag) r = go (isDone test) refl (same tag (ownTag s)) refl
@@ -99,7 +99,7 @@ refused-next h (endChecking tag) r = go (isDone test) refl (same tag (ownTag s))
     test : Answer
     test = finishTest s (isOpen (s .phase) && isChecking (s .direction)) (length tag)
 
-    go : (t : Bool) → isDone test ≡ t → (u : Bool) → same tag (ownTag s) ≡ u → next h (endChecking tag) ≡ h
+    go : (t : Bool) → isDone test ≡ t → (u : Bool) → same tag (ownTag s) ≡ u → next ours h (endChecking tag) ≡ h
     go true e true f = absurd (let no : 4 ≤ 0 = rw f at (number-of s (endChecking tag) _ r (finish-checking-done s tag e) .0) in omega arith)
     go true e false f = absurd (let no : 9 ≤ 8 = rw f at (number-of s (endChecking tag) _ r (finish-checking-done s tag e) .1) in omega arith)
     go false e u f = next-refused h (endChecking tag) test (finish-checking-refused s tag e) e
@@ -113,19 +113,19 @@ record Followed (h : History) (A T : List ℕ) : Type 0 where
   text-is : h .text ≡ T
 
 -- the state after a call
-next-stream : (h : History) (call : Call) {s : Stream} → h .stream ≡ s → next h call .stream ≡ reply s call .next
+next-stream : (h : History) (call : Call) {s : Stream} → h .stream ≡ s → next ours h call .stream ≡ reply ours s call .next
 unfolding next
-next-stream h call e = ap (λ (x : Stream). reply x call .next) e
+next-stream h call e = ap (λ (x : Stream). reply ours x call .next) e
 
 -- ---- a piece that fits is taken
 
-data-reply : (s : Stream) (piece : List ℕ) → isSound s ≡ true → s .phase ≡ Data → s .ad + length piece ≤ dataLimit → reply s (giveAd piece) ≡ tookData s piece
+data-reply : (s : Stream) (piece : List ℕ) → isSound s ≡ true → s .phase ≡ Data → s .ad + length piece ≤ dataLimit → reply ours s (giveAd piece) ≡ tookData s piece
 data-reply s piece sound e l = data-done s piece (fits-piece s (isData (s .phase)) (s .ad) (length piece) dataLimit sound (ap isData e) l)
 
 -- the words that it leaves
 text-reply : (d : Direction) (s : Stream) (piece out : List ℕ) → isSound s ≡ true → isOpen (s .phase) ≡ true → s .direction ≡ d
     → s .text + length piece ≤ textLimit → length piece ≤ length out
-    → reply s (textCall d piece out) ≡ tookText s (absorbed (rowOf (s .set)) (wayOf d) (textWords s) (s .text) piece) (length piece)
+    → reply ours s (textCall d piece out) ≡ tookText s (absorbed (rowOf (s .set)) (wayOf d) (textWords s) (s .text) piece) (length piece)
 text-reply Sealing s piece out sound o e l m =
     ap (λ (c : Called). c .outcome)
     (seal-done s piece out (fits-piece s (isOpen (s .phase) && isSealing (s .direction)) (s .text) (length piece) textLimit sound (ap₂ _&&_ o (ap isSealing e)) l)
@@ -139,13 +139,13 @@ record Taken (h g : History) (ad text : List ℕ) (phase : Phase) : Type 0 where
   ad-is : g .ad ≡ h .ad ++ ad
   text-is : g .text ≡ h .text ++ text
 
-data-taken : (h : History) (piece : List ℕ) → isSound (h .stream) ≡ true → h .stream .phase ≡ Data → h .stream .ad + length piece ≤ dataLimit → Taken h (next h (giveAd piece)) piece [] Data
+data-taken : (h : History) (piece : List ℕ) → isSound (h .stream) ≡ true → h .stream .phase ≡ Data → h .stream .ad + length piece ≤ dataLimit → Taken h (next ours h (giveAd piece)) piece [] Data
 data-taken h piece sound e l =
     let to = next-is h (giveAd piece) (tookData (h .stream) piece) true (data-reply (h .stream) piece sound e l) refl in
     record { phase-is = ap (λ (g : History). g .stream .phase) to ∙ e; ad-is = ap (λ (g : History). g .ad) to; text-is = ap (λ (g : History). g .text) to }
 
 text-taken : (d : Direction) (h : History) (piece out : List ℕ) → isSound (h .stream) ≡ true → isOpen (h .stream .phase) ≡ true → h .stream .direction ≡ d
-    → h .stream .text + length piece ≤ textLimit → length piece ≤ length out → Taken h (next h (textCall d piece out)) [] piece Text
+    → h .stream .text + length piece ≤ textLimit → length piece ≤ length out → Taken h (next ours h (textCall d piece out)) [] piece Text
 unfolding tookText
 text-taken Sealing h piece out sound o e l m =
     let to = next-is h (giveText piece out) _ true (text-reply Sealing (h .stream) piece out sound o e l m) refl in
@@ -154,26 +154,26 @@ text-taken Checking h piece out sound o e l m =
     let to = next-is h (giveCipher piece) _ true (text-reply Checking (h .stream) piece out sound o e l m) refl in
     record { phase-is = ap (λ (g : History). g .stream .phase) to; ad-is = ap (λ (g : History). g .ad) to; text-is = ap (λ (g : History). g .text) to }
 
-pub never-refused : NeverRefused
+pub never-refused : NeverRefused ours
 unfolding tookText
 never-refused d set K N done kb calls b o call (ad-fits piece e l) =
-    let h : History = after (begun d set K N) calls in
+    let h : History = after ours (begun ours d set K N) calls in
     let r : Reached d set K N done kb h = reached d set K N done kb calls b in
     let y : Ready d set K N done kb h = ready d set K N done kb h r o in
     ap (λ (x : Outcome). x .answer) (data-reply (h .stream) piece (reached-sound d set K N done kb h r o) e (rw (y .ad-is) l))
 never-refused d set K N done kb calls b o call (text-fits piece out l m) =
-    let h : History = after (begun d set K N) calls in
+    let h : History = after ours (begun ours d set K N) calls in
     let r : Reached d set K N done kb h = reached d set K N done kb calls b in
     let y : Ready d set K N done kb h = ready d set K N done kb h r o in
     ap (λ (x : Outcome). x .answer) (text-reply d (h .stream) piece out (reached-sound d set K N done kb h r o) o (y .direction-is) (rw (y .text-is) l) m)
 
 module _ (d : Direction) (set : ℕ) (K N : List ℕ) (done : isDone (startCall d set K N .answer) ≡ true) (kb : Bytes K) where
-  follow-text : {s : Stream} {T : List ℕ} {calls : List Call} → TextCut d s T calls → (h : History) → h .stream ≡ s → Reached d set K N done kb h
-      → isOpen (h .stream .phase) ≡ true → BytesIn calls → length (h .text) + length T ≤ textLimit → Followed (after h calls) (h .ad) (h .text ++ T)
+  follow-text : {s : Stream} {T : List ℕ} {calls : List Call} → TextCut ours d s T calls → (h : History) → h .stream ≡ s → Reached d set K N done kb h
+      → isOpen (h .stream .phase) ≡ true → BytesIn calls → length (h .text) + length T ≤ textLimit → Followed (after ours h calls) (h .ad) (h .text ++ T)
   follow-text text-end h e r o b l = record { open-still = o; ad-is = refl; text-is = sym (append-nil (h .text)) }
   follow-text (text-refusal {T = T} {calls = calls} call f cut) h e r o b l =
-      let same-h : next h call ≡ h = refused-next h call (subst (λ (x : Stream). Refused x call) (sym e) f) in
-      let g = follow-text cut (next h call) (ap (λ (x : History). x .stream) same-h ∙ e) (advance d set K N done kb h call (b .0) (b .1) r)
+      let same-h : next ours h call ≡ h = refused-next h call (subst (λ (x : Stream). Refused ours x call) (sym e) f) in
+      let g = follow-text cut (next ours h call) (ap (λ (x : History). x .stream) same-h ∙ e) (advance d set K N done kb h call (b .0) (b .1) r)
       (ap (λ (x : History). isOpen (x .stream .phase)) same-h ∙ o) (b .2) (subst (λ (x : History). length (x .text) + length T ≤ textLimit) (sym same-h) l) in
       record {
         open-still = g .open-still;
@@ -185,22 +185,22 @@ module _ (d : Direction) (set : ℕ) (K N : List ℕ) (done : isDone (startCall 
       let y = ready d set K N done kb h r o in
       let lt : length (piece ++ T) ≡ length piece + length T = length-append piece T in
       let t = text-taken d h piece out (reached-sound d set K N done kb h r o) o (y .direction-is) (rw (y .text-is) (omega arith)) m in
-      let lh : length (next h call .text) ≡ length (h .text) + length piece = ap length (t .text-is) ∙ length-append (h .text) piece in
-      let g = follow-text cut (next h call) (next-stream h call e) (advance d set K N done kb h call (b .0) (b .1) r) (ap isOpen (t .phase-is)) (b .2) (omega arith) in
+      let lh : length (next ours h call .text) ≡ length (h .text) + length piece = ap length (t .text-is) ∙ length-append (h .text) piece in
+      let g = follow-text cut (next ours h call) (next-stream h call e) (advance d set K N done kb h call (b .0) (b .1) r) (ap isOpen (t .phase-is)) (b .2) (omega arith) in
       record {
         open-still = g .open-still;
         ad-is = g .ad-is ∙ t .ad-is ∙ append-nil (h .ad);
         text-is = g .text-is ∙ ap (λ (x : List ℕ). x ++ T) (t .text-is) ∙ append-assoc (h .text) piece T;
       }
 
-  follow : {s : Stream} {A T : List ℕ} {calls : List Call} → Cut d s A T calls → (h : History) → h .stream ≡ s → Reached d set K N done kb h
-      → h .stream .phase ≡ Data → h .text ≡ [] → BytesIn calls → length (h .ad) + length A ≤ dataLimit → length T ≤ textLimit → Followed (after h calls) (h .ad ++ A) T
+  follow : {s : Stream} {A T : List ℕ} {calls : List Call} → Cut ours d s A T calls → (h : History) → h .stream ≡ s → Reached d set K N done kb h
+      → h .stream .phase ≡ Data → h .text ≡ [] → BytesIn calls → length (h .ad) + length A ≤ dataLimit → length T ≤ textLimit → Followed (after ours h calls) (h .ad ++ A) T
   follow (data-end {T = T} {calls = calls} cut) h e r o z b l m =
       let g = follow-text cut h e r (ap isOpen o) b (subst (λ (x : List ℕ). length x + length T ≤ textLimit) (sym z) (omega arith)) in
       record { open-still = g .open-still; ad-is = g .ad-is ∙ sym (append-nil (h .ad)); text-is = g .text-is ∙ ap (λ (x : List ℕ). x ++ T) z }
   follow (data-refusal {A = A} {T = T} {calls = calls} call f cut) h e r o z b l m =
-      let same-h : next h call ≡ h = refused-next h call (subst (λ (x : Stream). Refused x call) (sym e) f) in
-      let g = follow cut (next h call) (ap (λ (x : History). x .stream) same-h ∙ e) (advance d set K N done kb h call (b .0) (b .1) r)
+      let same-h : next ours h call ≡ h = refused-next h call (subst (λ (x : Stream). Refused ours x call) (sym e) f) in
+      let g = follow cut (next ours h call) (ap (λ (x : History). x .stream) same-h ∙ e) (advance d set K N done kb h call (b .0) (b .1) r)
       (ap (λ (x : History). x .stream .phase) same-h ∙ o) (ap (λ (x : History). x .text) same-h ∙ z) (b .2)
       (subst (λ (x : History). length (x .ad) + length A ≤ dataLimit) (sym same-h) l) m in
       record { open-still = g .open-still; ad-is = g .ad-is ∙ ap (λ (x : History). x .ad ++ A) same-h; text-is = g .text-is }
@@ -209,8 +209,8 @@ module _ (d : Direction) (set : ℕ) (K N : List ℕ) (done : isDone (startCall 
       let y = ready d set K N done kb h r (ap isOpen o) in
       let lt : length (piece ++ A) ≡ length piece + length A = length-append piece A in
       let t = data-taken h piece (reached-sound d set K N done kb h r (ap isOpen o)) o (rw (y .ad-is) (omega arith)) in
-      let lh : length (next h call .ad) ≡ length (h .ad) + length piece = ap length (t .ad-is) ∙ length-append (h .ad) piece in
-      let g = follow cut (next h call) (next-stream h call e) (advance d set K N done kb h call (b .0) (b .1) r) (t .phase-is) (t .text-is ∙ append-nil (h .text) ∙ z) (b .2) (omega arith) m in
+      let lh : length (next ours h call .ad) ≡ length (h .ad) + length piece = ap length (t .ad-is) ∙ length-append (h .ad) piece in
+      let g = follow cut (next ours h call) (next-stream h call e) (advance d set K N done kb h call (b .0) (b .1) r) (t .phase-is) (t .text-is ∙ append-nil (h .text) ∙ z) (b .2) (omega arith) m in
       record {
         open-still = g .open-still;
         ad-is = g .ad-is ∙ ap (λ (x : List ℕ). x ++ A) (t .ad-is) ∙ append-assoc (h .ad) piece A;
@@ -218,11 +218,11 @@ module _ (d : Direction) (set : ℕ) (K N : List ℕ) (done : isDone (startCall 
       }
 
   -- the whole cutting, from the start
-  followed : (A T : List ℕ) (calls : List Call) → BytesIn calls → length A ≤ dataLimit → length T ≤ textLimit → Cut d (begun d set K N .stream) A T calls
-      → Followed (after (begun d set K N) calls) A T
+  followed : (A T : List ℕ) (calls : List Call) → BytesIn calls → length A ≤ dataLimit → length T ≤ textLimit → Cut ours d (begun ours d set K N .stream) A T calls
+      → Followed (after ours (begun ours d set K N) calls) A T
   unfolding stateAt
   followed A T calls b l m cut =
-      follow cut (begun d set K N) refl (reached d set K N done kb [] tt) (ap (λ (s : Stream). s .phase) (start-state d set K N done kb)) refl b (omega arith) m
+      follow cut (begun ours d set K N) refl (reached d set K N done kb [] tt) (ap (λ (s : Stream). s .phase) (start-state d set K N done kb)) refl b (omega arith) m
 
   -- the stream's own tag, by the published definition
   own-tag : (h : History) → Ready d set K N done kb h
@@ -253,12 +253,12 @@ module _ (d : Direction) (set : ℕ) (K N : List ℕ) (done : isDone (startCall 
 
 -- ---- the demand
 
-seals : (set : ℕ) (K N A P : List ℕ) (calls : List Call) (tag : List ℕ) → Message Sealing set K N A P calls → length tag ≡ rowOf set .key → SealedWhole set K N A P calls tag
+seals : (set : ℕ) (K N A P : List ℕ) (calls : List Call) (tag : List ℕ) → Message ours Sealing set K N A P calls → length tag ≡ rowOf set .key → SealedWhole ours set K N A P calls tag
 unfolding sealed
 seals set K N A P calls tag m e =
     let done = m .started in
     let kb = m .key-bytes in
-    let h : History = after (begun Sealing set K N) calls in
+    let h : History = after ours (begun ours Sealing set K N) calls in
     let f = followed Sealing set K N done kb A P calls (m .bytes) (m .data-within) (m .text-within) (m .cut) in
     let r = reached Sealing set K N done kb calls (m .bytes) in
     let y = ready Sealing set K N done kb h r (f .open-still) in
@@ -298,11 +298,11 @@ yes-same : (t : Bool) → cond t Done TagDiffers ≡ Done → t ≡ true
 yes-same true e = refl
 yes-same false e = absurd (let z : _≡_ {A = ℕ} 0 1 = cc in omega arith)
 
-checks : (set : ℕ) (K N A C : List ℕ) (calls : List Call) (tag : List ℕ) → Message Checking set K N A C calls → length tag ≡ rowOf set .key → CheckedWhole set K N A C calls tag
+checks : (set : ℕ) (K N A C : List ℕ) (calls : List Call) (tag : List ℕ) → Message ours Checking set K N A C calls → length tag ≡ rowOf set .key → CheckedWhole ours set K N A C calls tag
 checks set K N A C calls tag m e =
     let done = m .started in
     let kb = m .key-bytes in
-    let h : History = after (begun Checking set K N) calls in
+    let h : History = after ours (begun ours Checking set K N) calls in
     let f = followed Checking set K N done kb A C calls (m .bytes) (m .data-within) (m .text-within) (m .cut) in
     let r = reached Checking set K N done kb calls (m .bytes) in
     let y = ready Checking set K N done kb h r (f .open-still) in
@@ -335,7 +335,7 @@ checks set K N A C calls tag m e =
           ∙ ap₂ (λ (x z : List ℕ). messageRounds row (length x) (length z)) (f .ad-is) (f .text-is);
     }
 
-pub cutting-does-not-matter : CuttingDoesNotMatter
+pub cutting-does-not-matter : CuttingDoesNotMatter ours
 cutting-does-not-matter =
     record {
       seals = seals;
@@ -344,7 +344,7 @@ cutting-does-not-matter =
           let t = history-law d set K N done kb calls b o in
           let u = history-law d set K N done kb other c (ap isOpen (sym phase) ∙ o) in
           t .state
-          ∙ ap (λ (x : Phase). stateAt d set K N x (after (begun d set K N) calls .ad) (after (begun d set K N) calls .text)) phase
-          ∙ ap₂ (λ (x y : List ℕ). stateAt d set K N (after (begun d set K N) other .stream .phase) x y) ad text
+          ∙ ap (λ (x : Phase). stateAt d set K N x (after ours (begun ours d set K N) calls .ad) (after ours (begun ours d set K N) calls .text)) phase
+          ∙ ap₂ (λ (x y : List ℕ). stateAt d set K N (after ours (begun ours d set K N) other .stream .phase) x y) ad text
           ∙ sym (u .state);
     }

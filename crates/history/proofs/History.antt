@@ -30,7 +30,7 @@ use Rattle.stream.specs.declared.Stream.{Stream}
 use Rattle.stream.specs.State.{isData, isOpen, isSealing, isChecking}
 use Rattle.stream.specs.Calls.{refused, filledRounds, closingRounds, startTest, pieceTest, finishTest, startCall, tookData, textWords, tookText, Called, ownTag, finishedWith}
 use Rattle.stream.proofs.Tests.{StartPassed, start-passed, piece-passed}
-use Rattle.history.specs.History.{Call, giveAd, giveText, giveCipher, endSealing, endChecking, reply, adOf, textOf, outOf, History, begun, next, after, BytesIn, wayOf, stateAt, roundsAt, Told, HistoryLaw}
+use Rattle.history.specs.History.{ours, Call, giveAd, giveText, giveCipher, endSealing, endChecking, reply, adOf, textOf, outOf, History, begun, next, after, BytesIn, wayOf, stateAt, roundsAt, Told, HistoryLaw}
 use Rattle.sponge.proofs.Fronts.{stood, absorbed-more, given-more, l₀, b₀, closed-is, l₁, b₁, sealed-out}
 use Rattle.history.proofs.Rounds.{rounds-data, rounds-text}
 use Rattle.history.proofs.Replies.{next-is, next-refused, unfit-piece, shut-data, data-refused, data-done, seal-refused, seal-short, seal-done, check-refused, check-done, finish-sealing-refused, finish-sealing-done, finish-checking-refused, finish-checking-done, out-given}
@@ -162,8 +162,8 @@ module _ (direction : Direction) (set : ℕ) (K N : List ℕ) (done : isDone (st
   moved h g e r = subst (λ (x : History). Reached x) (sym e) r
 
   -- a refused call
-  refused-stays : (h : History) (call : Call) (answer : Answer) → reply (h .stream) call ≡ refused answer (h .stream) → isDone answer ≡ false → Reached h → Reached (next h call)
-  refused-stays h call answer e f r = moved (next h call) h (next-refused h call answer e f) r
+  refused-stays : (h : History) (call : Call) (answer : Answer) → reply ours (h .stream) call ≡ refused answer (h .stream) → isDone answer ≡ false → Reached h → Reached (next ours h call)
+  refused-stays h call answer e f r = moved (next ours h call) h (next-refused h call answer e f) r
 
   -- ---- a stream that can take text
 
@@ -255,8 +255,8 @@ module _ (direction : Direction) (set : ℕ) (K N : List ℕ) (done : isDone (st
       sum ∙ ap (λ (n : ℕ). roundsAt row Text (length (h .ad)) n) (sym (length-append (h .text) piece))
 
   text-out : (h : History) (call : Call) (piece : List ℕ) → Ready h → isSealing direction ≡ true
-      → outOf (h .stream) call ≡ given (rowOf (h .stream .set)) Seal (textWords (h .stream)) (h .stream .text) piece
-      → h .out ++ outOf (h .stream) call ≡ outs (row .block) (p (row .between)) sealing (at (S₁ (h .ad)) 0) (h .text ++ piece)
+      → outOf ours (h .stream) call ≡ given (rowOf (h .stream .set)) Seal (textWords (h .stream)) (h .stream .text) piece
+      → h .out ++ outOf ours (h .stream) call ≡ outs (row .block) (p (row .between)) sealing (at (S₁ (h .ad)) 0) (h .text ++ piece)
   text-out h call piece o x e =
       let l = l₁ row fit K N key kb (h .ad) in
       let b = b₁ row fit K N key kb (h .ad) in
@@ -270,26 +270,26 @@ module _ (direction : Direction) (set : ℕ) (K N : List ℕ) (done : isDone (st
 
   -- a piece of text that is taken
   takes-text : (h : History) (call : Call) (piece : List ℕ) → Ready h → Bytes piece → h .stream .text + length piece ≤ textLimit → adOf call ≡ [] → textOf call ≡ piece
-      → reply (h .stream) call ≡ tookText (h .stream) (absorbed (rowOf (h .stream .set)) way (textWords (h .stream)) (h .stream .text) piece) (length piece)
-      → (isSealing direction ≡ true → outOf (h .stream) call ≡ given (rowOf (h .stream .set)) Seal (textWords (h .stream)) (h .stream .text) piece)
-      → Reached (next h call)
+      → reply ours (h .stream) call ≡ tookText (h .stream) (absorbed (rowOf (h .stream .set)) way (textWords (h .stream)) (h .stream .text) piece) (length piece)
+      → (isSealing direction ≡ true → outOf ours (h .stream) call ≡ given (rowOf (h .stream .set)) Seal (textWords (h .stream)) (h .stream .text) piece)
+      → Reached (next ours h call)
   unfolding tookText
   takes-text h call piece o pb w ea et er eo =
       let s : Stream = h .stream in
       let A : List ℕ = h .ad in
       let T : List ℕ = h .text in
       let f : ℕ = filledRounds (rowOf (s .set)) (s .text) (length piece) in
-      let g : History = record { stream = stateAt direction set K N Text A (T ++ piece); ad = A; text = T ++ piece; out = h .out ++ outOf s call; rounds = h .rounds + (closingRounds s + f) } in
-      let to : next h call ≡ g =
+      let g : History = record { stream = stateAt direction set K N Text A (T ++ piece); ad = A; text = T ++ piece; out = h .out ++ outOf ours s call; rounds = h .rounds + (closingRounds s + f) } in
+      let to : next ours h call ≡ g =
       next-is h call _ true er refl
       ∙ (λ j. record {
         stream = text-moves s A T piece (o .text-bounded .bytes) (o .set-is) (o .direction-is) (o .key-is) (o .ad-is) (o .text-is) (o .words-is) j;
         ad = (ap (λ (x : List ℕ). A ++ x) ea ∙ append-nil A) j;
         text = T ++ et j;
-        out = h .out ++ outOf s call;
+        out = h .out ++ outOf ours s call;
         rounds = h .rounds + (closingRounds s + f);
       }) in
-      moved (next h call) g to
+      moved (next ours h call) g to
       (in-text refl (λ x. text-out h call piece o x (eo x)) (text-rounds h piece o) (o .ad-bounded) (bounded-more T piece textLimit (o .text-bounded) pb (rw (← o .text-is) w)))
 
   -- ---- one call more
@@ -302,14 +302,14 @@ module _ (direction : Direction) (set : ℕ) (K N : List ℕ) (done : isDone (st
   -- a piece of data in the data phase
   takes-data : (h : History) (piece : List ℕ) → h .stream ≡ stateAt direction set K N Data (h .ad) [] → h .text ≡ [] → h .out ≡ []
       → h .rounds ≡ roundsAt row Data (length (h .ad)) 0 → Bounded (h .ad) dataLimit → Bytes piece
-      → isDone (pieceTest (h .stream) (isData (h .stream .phase)) (h .stream .ad) (length piece) dataLimit) ≡ true → Reached (next h (giveAd piece))
+      → isDone (pieceTest (h .stream) (isData (h .stream .phase)) (h .stream .ad) (length piece) dataLimit) ≡ true → Reached (next ours h (giveAd piece))
   unfolding stateAt
   takes-data h piece es et eo er ab pb t =
       let A : List ℕ = h .ad in
       let f : filledRounds (rowOf (h .stream .set)) (h .stream .ad) (length piece) ≡ filledRounds row (length A) (length piece) =
       ap (λ (s : Stream). filledRounds (rowOf (s .set)) (s .ad) (length piece)) es in
       let g : History = record { stream = stateAt direction set K N Data (A ++ piece) []; ad = A ++ piece; text = []; out = []; rounds = h .rounds + filledRounds row (length A) (length piece) } in
-      let to : next h (giveAd piece) ≡ g =
+      let to : next ours h (giveAd piece) ≡ g =
       next-is h (giveAd piece) (tookData (h .stream) piece) true (data-done (h .stream) piece t) refl
       ∙ (λ j. record {
         stream = (ap (λ (s : Stream). tookData s piece .next) es ∙ data-moves A piece (ab .bytes)) j;
@@ -323,10 +323,10 @@ module _ (direction : Direction) (set : ℕ) (K N : List ℕ) (done : isDone (st
       ∙ ap (λ (n : ℕ). roundsAt row Data n 0) (sym (length-append A piece)) in
       let within : length A + length piece ≤ dataLimit =
       rw (← ap (λ (s : Stream). s .ad) es) (piece-passed (h .stream) (isData (h .stream .phase)) (h .stream .ad) (length piece) dataLimit t .within) in
-      moved (next h (giveAd piece)) g to (in-data refl refl refl rounds (bounded-more A piece dataLimit ab pb within))
+      moved (next ours h (giveAd piece)) g to (in-data refl refl refl rounds (bounded-more A piece dataLimit ab pb within))
 
   -- data after the data phase is refused
-  refuses-data : (h : History) (piece : List ℕ) → isData (h .stream .phase) ≡ false → Reached h → Reached (next h (giveAd piece))
+  refuses-data : (h : History) (piece : List ℕ) → isData (h .stream .phase) ≡ false → Reached h → Reached (next ours h (giveAd piece))
   refuses-data h piece e r =
       let s : Stream = h .stream in
       let no = unfit-piece s (isData (s .phase)) (s .ad) (length piece) dataLimit e in
@@ -337,7 +337,7 @@ module _ (direction : Direction) (set : ℕ) (K N : List ℕ) (done : isDone (st
   not-both Checking x y = false≢true x
 
   -- a piece of text to a sealing
-  takes-sealing : (h : History) (piece out : List ℕ) → Bytes piece → Reached h → Reached (next h (giveText piece out))
+  takes-sealing : (h : History) (piece out : List ℕ) → Bytes piece → Reached h → Reached (next ours h (giveText piece out))
   takes-sealing h piece out pb r = go (isDone test) refl (leb (length piece) (length out)) refl
     where
       s : Stream
@@ -349,7 +349,7 @@ module _ (direction : Direction) (set : ℕ) (K N : List ℕ) (done : isDone (st
       test : Answer
       test = pieceTest s (isOpen (s .phase) && isSealing (s .direction)) (s .text) (length piece) textLimit
 
-      go : (t : Bool) → isDone test ≡ t → (u : Bool) → leb (length piece) (length out) ≡ u → Reached (next h call)
+      go : (t : Bool) → isDone test ≡ t → (u : Bool) → leb (length piece) (length out) ≡ u → Reached (next ours h call)
       go false e u f = refused-stays h call test (ap (λ (c : Called). c .outcome) (seal-refused s piece out e)) e r
       go true e false f = refused-stays h call NoRoom (ap (λ (c : Called). c .outcome) (seal-short s piece out e f)) refl r
       go true e true f =
@@ -363,7 +363,7 @@ module _ (direction : Direction) (set : ℕ) (K N : List ℕ) (done : isDone (st
           (λ y. out-given s piece out e f)
 
   -- a piece of ciphertext to a checking
-  takes-checking : (h : History) (piece : List ℕ) → Bytes piece → Reached h → Reached (next h (giveCipher piece))
+  takes-checking : (h : History) (piece : List ℕ) → Bytes piece → Reached h → Reached (next ours h (giveCipher piece))
   takes-checking h piece pb r = go (isDone test) refl
     where
       s : Stream
@@ -375,7 +375,7 @@ module _ (direction : Direction) (set : ℕ) (K N : List ℕ) (done : isDone (st
       test : Answer
       test = pieceTest s (isOpen (s .phase) && isChecking (s .direction)) (s .text) (length piece) textLimit
 
-      go : (t : Bool) → isDone test ≡ t → Reached (next h call)
+      go : (t : Bool) → isDone test ≡ t → Reached (next ours h call)
       go false e = refused-stays h call test (check-refused s piece e) e r
       go true e =
           let ok = piece-passed s (isOpen (s .phase) && isChecking (s .direction)) (s .text) (length piece) textLimit e in
@@ -388,10 +388,10 @@ module _ (direction : Direction) (set : ℕ) (K N : List ℕ) (done : isDone (st
           (λ y. absurd (not-both direction y x))
 
   -- a call that leaves the ended state
-  ends : (h : History) (call : Call) (answer : Answer) → reply (h .stream) call ≡ finishedWith answer (h .stream) → Reached (next h call)
+  ends : (h : History) (call : Call) (answer : Answer) → reply ours (h .stream) call ≡ finishedWith answer (h .stream) → Reached (next ours h call)
   ends h call answer e = over (ap (λ (g : History). isOpen (g .stream .phase)) (next-is h call (finishedWith answer (h .stream)) (isDone answer) e refl))
 
-  ends-sealing : (h : History) (tag : List ℕ) → Reached h → Reached (next h (endSealing tag))
+  ends-sealing : (h : History) (tag : List ℕ) → Reached h → Reached (next ours h (endSealing tag))
   ends-sealing h tag r = go (isDone test) refl
     where
       s : Stream
@@ -400,11 +400,11 @@ module _ (direction : Direction) (set : ℕ) (K N : List ℕ) (done : isDone (st
       test : Answer
       test = finishTest s (isOpen (s .phase) && isSealing (s .direction)) (length tag)
 
-      go : (t : Bool) → isDone test ≡ t → Reached (next h (endSealing tag))
+      go : (t : Bool) → isDone test ≡ t → Reached (next ours h (endSealing tag))
       go false e = refused-stays h (endSealing tag) test (ap (λ (c : Called). c .outcome) (finish-sealing-refused s tag e)) e r
       go true e = ends h (endSealing tag) Done (ap (λ (c : Called). c .outcome) (finish-sealing-done s tag e))
 
-  ends-checking : (h : History) (tag : List ℕ) → Reached h → Reached (next h (endChecking tag))
+  ends-checking : (h : History) (tag : List ℕ) → Reached h → Reached (next ours h (endChecking tag))
   ends-checking h tag r = go (isDone test) refl
     where
       s : Stream
@@ -413,7 +413,7 @@ module _ (direction : Direction) (set : ℕ) (K N : List ℕ) (done : isDone (st
       test : Answer
       test = finishTest s (isOpen (s .phase) && isChecking (s .direction)) (length tag)
 
-      go : (t : Bool) → isDone test ≡ t → Reached (next h (endChecking tag))
+      go : (t : Bool) → isDone test ≡ t → Reached (next ours h (endChecking tag))
       go false e = refused-stays h (endChecking tag) test (finish-checking-refused s tag e) e r
       go true e = ends h (endChecking tag) (cond (same tag (ownTag s)) Done TagDiffers) (finish-checking-done s tag e)
 
@@ -425,14 +425,14 @@ module _ (direction : Direction) (set : ℕ) (K N : List ℕ) (done : isDone (st
       let none : b * (0 / row .block) ≡ 0 = ap (λ (k : ℕ). b * k) (zero-div (row .block)) ∙ mul-zero b in
       omega arith
 
-  pub advance : (h : History) (call : Call) → Bytes (adOf call) → Bytes (textOf call) → Reached h → Reached (next h call)
+  pub advance : (h : History) (call : Call) → Bytes (adOf call) → Bytes (textOf call) → Reached h → Reached (next ours h call)
   unfolding stateAt
   advance h (giveAd piece) pb tb (in-data es et eo er ab) = go (isDone test) refl
     where
       test : Answer
       test = pieceTest (h .stream) (isData (h .stream .phase)) (h .stream .ad) (length piece) dataLimit
 
-      go : (t : Bool) → isDone test ≡ t → Reached (next h (giveAd piece))
+      go : (t : Bool) → isDone test ≡ t → Reached (next ours h (giveAd piece))
       go true e = takes-data h piece es et eo er ab pb e
       go false e = refused-stays h (giveAd piece) test (data-refused (h .stream) piece e) e (in-data es et eo er ab)
   advance h (giveAd piece) pb tb (in-text es eo er ab tt′) = refuses-data h piece (ap (λ (s : Stream). isData (s .phase)) es) (in-text es eo er ab tt′)
@@ -443,13 +443,13 @@ module _ (direction : Direction) (set : ℕ) (K N : List ℕ) (done : isDone (st
   advance h (endChecking tag) pb tb r = ends-checking h tag r
 
   -- any list of calls
-  reach : (calls : List Call) → BytesIn calls → (h : History) → Reached h → Reached (after h calls)
+  reach : (calls : List Call) → BytesIn calls → (h : History) → Reached h → Reached (after ours h calls)
   reach [] b h r = r
-  reach (call ∷ calls) b h r = reach calls (b .2) (next h call) (advance h call (b .0) (b .1) r)
+  reach (call ∷ calls) b h r = reach calls (b .2) (next ours h call) (advance h call (b .0) (b .1) r)
 
   -- from the start
-  pub reached : (calls : List Call) → BytesIn calls → Reached (after (begun direction set K N) calls)
-  reached calls b = reach calls b (begun direction set K N) (in-data start-state refl refl (start-rounds ∙ rounds-none) (bounded-none dataLimit))
+  pub reached : (calls : List Call) → BytesIn calls → Reached (after ours (begun ours direction set K N) calls)
+  reached calls b = reach calls b (begun ours direction set K N) (in-data start-state refl refl (start-rounds ∙ rounds-none) (bounded-none dataLimit))
 
   -- what is reached is told
   pub told : (h : History) → Reached h → isOpen (h .stream .phase) ≡ true → Told direction set K N h
@@ -472,5 +472,5 @@ module _ (direction : Direction) (set : ℕ) (K N : List ℕ) (done : isDone (st
       }
   told h (over e) o = absurd (false≢true (sym e ∙ o))
 
-pub history-law : HistoryLaw
-history-law direction set K N done kb calls b o = told direction set K N done kb (after (begun direction set K N) calls) (reached direction set K N done kb calls b) o
+pub history-law : HistoryLaw ours
+history-law direction set K N done kb calls b o = told direction set K N done kb (after ours (begun ours direction set K N) calls) (reached direction set K N done kb calls b) o

@@ -21,25 +21,25 @@ use Rattle.stream.specs.declared.Stream.{Stream}
 use Rattle.stream.specs.declared.Outcome.{Outcome}
 use Rattle.stream.specs.State.{isData, isOpen, isSealing, isChecking, isSound}
 use Rattle.stream.specs.Calls.{refused, pieceTest, finishTest, dataCall, tookData, textWords, tookText, called, sealCall, checkCall, ownTag, finishedWith, finishSealingCall, finishCheckingCall}
-use Rattle.history.specs.History.{Call, giveText, reply, adOf, textOf, outOf, History, next}
+use Rattle.history.specs.History.{ours, Call, giveText, reply, adOf, textOf, outOf, History, next}
 
 -- ---- one call more
 
 -- by what it answers
-pub next-is : (h : History) (call : Call) (r : Outcome) (b : Bool) → reply (h .stream) call ≡ r → isDone (r .answer) ≡ b
-    → next h call
+pub next-is : (h : History) (call : Call) (r : Outcome) (b : Bool) → reply ours (h .stream) call ≡ r → isDone (r .answer) ≡ b
+    → next ours h call
     ≡ record {
       stream = r .next;
       ad = h .ad ++ cond b (adOf call) [];
       text = h .text ++ cond b (textOf call) [];
-      out = h .out ++ cond b (outOf (h .stream) call) [];
+      out = h .out ++ cond b (outOf ours (h .stream) call) [];
       rounds = h .rounds + r .rounds;
     }
 unfolding next
 next-is h call r b e f = rw (e, f)
 
 -- a refusal leaves the history as it was
-pub next-refused : (h : History) (call : Call) (answer : Answer) → reply (h .stream) call ≡ refused answer (h .stream) → isDone answer ≡ false → next h call ≡ h
+pub next-refused : (h : History) (call : Call) (answer : Answer) → reply ours (h .stream) call ≡ refused answer (h .stream) → isDone answer ≡ false → next ours h call ≡ h
 next-refused h call answer e f =
     next-is h call (refused answer (h .stream)) false e f
     ∙ (λ j. record {
@@ -133,7 +133,7 @@ module _ (s : Stream) where
 
   -- the output of a done sealing call
   pub out-given : (piece out : List ℕ) → isDone (pieceTest s (sealFits s) (s .text) (length piece) textLimit) ≡ true
-      → leb (length piece) (length out) ≡ true → outOf s (giveText piece out) ≡ given (rowOf (s .set)) Seal (textWords s) (s .text) piece
+      → leb (length piece) (length out) ≡ true → outOf ours s (giveText piece out) ≡ given (rowOf (s .set)) Seal (textWords s) (s .text) piece
   unfolding given
   out-given piece out e f =
       let row = rowOf (s .set) in

@@ -22,7 +22,20 @@ use Rattle.stream.specs.declared.Phase.the-variants.{Data, Text, Ended}
 use Rattle.stream.specs.declared.Stream.{Stream}
 use Rattle.stream.specs.declared.Outcome.{Outcome}
 use Rattle.stream.specs.State.{isOpen, isSealing, ended}
-use Rattle.stream.specs.Calls.{startCall, dataCall, sealCall, checkCall, finishSealingCall, finishCheckingCall}
+use Rattle.stream.specs.Calls.{Called, startCall, dataCall, sealCall, checkCall, finishSealingCall, finishCheckingCall}
+
+-- what the calls of a stream answer, and what they leave in a lent place, on any input
+pub record Streams : Type 0 where
+  pub start : Direction → ℕ → List ℕ → List ℕ → Outcome
+  pub ad : Stream → List ℕ → Outcome
+  pub seal : Stream → List ℕ → List ℕ → Called
+  pub check : Stream → List ℕ → Outcome
+  pub finishSealing : Stream → List ℕ → Called
+  pub finishChecking : Stream → List ℕ → Outcome
+
+-- our own, by the definitions that the contracts cite
+abbrev pub ours : Streams
+ours = record { start = startCall; ad = dataCall; seal = sealCall; check = checkCall; finishSealing = finishSealingCall; finishChecking = finishCheckingCall }
 
 -- a call on a stream, with all that it is handed; a lent place is what it holds before
 pub data Call : Type 0 where
@@ -36,14 +49,6 @@ pub data Call : Type 0 where
 abbrev pub textCall : Direction → List ℕ → List ℕ → Call
 textCall Sealing piece out = giveText piece out
 textCall Checking piece out = giveCipher piece
-
--- what the call answers
-abbrev pub reply : Stream → Call → Outcome
-reply s (giveAd piece) = dataCall s piece
-reply s (giveText piece out) = sealCall s piece out .outcome
-reply s (giveCipher piece) = checkCall s piece
-reply s (endSealing tag) = finishSealingCall s tag .outcome
-reply s (endChecking tag) = finishCheckingCall s tag
 
 -- the associated data that the call hands over
 abbrev pub adOf : Call → List ℕ
@@ -61,14 +66,6 @@ textOf (giveCipher piece) = piece
 textOf (endSealing tag) = []
 textOf (endChecking tag) = []
 
--- the output that it gives where it is done
-abbrev pub outOf : Stream → Call → List ℕ
-outOf s (giveAd piece) = []
-outOf s (giveText piece out) = take (length piece) (sealCall s piece out .lent)
-outOf s (giveCipher piece) = []
-outOf s (endSealing tag) = []
-outOf s (endChecking tag) = []
-
 -- the state, what was taken of the data and of the text so far, joined, what was given out, joined, and the rounds reported, added up
 pub record History : Type 0 where
   pub stream : Stream
@@ -77,29 +74,46 @@ pub record History : Type 0 where
   pub out : List ℕ
   pub rounds : ℕ
 
--- a start, with its rounds
-abbrev pub begun : Direction → ℕ → List ℕ → List ℕ → History
-begun direction set K N =
-    let start = startCall direction set K N in
-    record { stream = start .next; ad = []; text = []; out = []; rounds = start .rounds }
+module _ (m : Streams) where
+  -- what the call answers
+  abbrev pub reply : Stream → Call → Outcome
+  reply s (giveAd piece) = m .ad s piece
+  reply s (giveText piece out) = m .seal s piece out .outcome
+  reply s (giveCipher piece) = m .check s piece
+  reply s (endSealing tag) = m .finishSealing s tag .outcome
+  reply s (endChecking tag) = m .finishChecking s tag
 
--- one call more: what it hands over is taken where it is done
-unfoldable pub next : History → Call → History
-next h call =
-    let r = reply (h .stream) call in
-    let done = isDone (r .answer) in
-    record {
-      stream = r .next;
-      ad = h .ad ++ cond done (adOf call) [];
-      text = h .text ++ cond done (textOf call) [];
-      out = h .out ++ cond done (outOf (h .stream) call) [];
-      rounds = h .rounds + r .rounds;
-    }
+  -- the output that it gives where it is done
+  abbrev pub outOf : Stream → Call → List ℕ
+  outOf s (giveAd piece) = []
+  outOf s (giveText piece out) = take (length piece) (m .seal s piece out .lent)
+  outOf s (giveCipher piece) = []
+  outOf s (endSealing tag) = []
+  outOf s (endChecking tag) = []
 
--- a list of calls
-abbrev pub after : History → List Call → History
-after h [] = h
-after h (call ∷ calls) = after (next h call) calls
+  -- a start, with its rounds
+  abbrev pub begun : Direction → ℕ → List ℕ → List ℕ → History
+  begun direction set K N =
+      let start = m .start direction set K N in
+      record { stream = start .next; ad = []; text = []; out = []; rounds = start .rounds }
+
+  -- one call more: what it hands over is taken where it is done
+  unfoldable pub next : History → Call → History
+  next h call =
+      let r = reply (h .stream) call in
+      let done = isDone (r .answer) in
+      record {
+        stream = r .next;
+        ad = h .ad ++ cond done (adOf call) [];
+        text = h .text ++ cond done (textOf call) [];
+        out = h .out ++ cond done (outOf (h .stream) call) [];
+        rounds = h .rounds + r .rounds;
+      }
+
+  -- a list of calls
+  abbrev pub after : History → List Call → History
+  after h [] = h
+  after h (call ∷ calls) = after (next h call) calls
 
 -- what a call hands over is bytes, as every slice is
 abbrev pub BytesIn : List Call → Type 0
@@ -153,12 +167,12 @@ pub record Told (direction : Direction) (set : ℕ) (K N : List ℕ) (h : Histor
   pub within : (length (h .ad) ≤ dataLimit) × (length (h .text) ≤ textLimit)
 
 -- the history law: any calls at all, in any order, after a done start
-abbrev pub HistoryLaw : Type 0
-HistoryLaw =
-    (direction : Direction) (set : ℕ) (K N : List ℕ) → isDone (startCall direction set K N .answer) ≡ true → Bytes K
+abbrev pub HistoryLaw : Streams → Type 0
+HistoryLaw m =
+    (direction : Direction) (set : ℕ) (K N : List ℕ) → isDone (m .start direction set K N .answer) ≡ true → Bytes K
     → (calls : List Call) → BytesIn calls
-    → isOpen (after (begun direction set K N) calls .stream .phase) ≡ true
-    → Told direction set K N (after (begun direction set K N) calls)
+    → isOpen (after m (begun m direction set K N) calls .stream .phase) ≡ true
+    → Told direction set K N (after m (begun m direction set K N) calls)
 
 -- a piece in its phase and direction, within the limits and with room
 pub data Fitting (direction : Direction) (h : History) : Call → Type 0 where
@@ -166,10 +180,10 @@ pub data Fitting (direction : Direction) (h : History) : Call → Type 0 where
   text-fits : (piece out : List ℕ) → length (h .text) + length piece ≤ textLimit → length piece ≤ length out → Fitting direction h (textCall direction piece out)
 
 -- the other half: such a piece is never refused
-abbrev pub NeverRefused : Type 0
-NeverRefused =
-    (direction : Direction) (set : ℕ) (K N : List ℕ) → isDone (startCall direction set K N .answer) ≡ true → Bytes K
+abbrev pub NeverRefused : Streams → Type 0
+NeverRefused m =
+    (direction : Direction) (set : ℕ) (K N : List ℕ) → isDone (m .start direction set K N .answer) ≡ true → Bytes K
     → (calls : List Call) → BytesIn calls
-    → isOpen (after (begun direction set K N) calls .stream .phase) ≡ true
-    → (call : Call) → Fitting direction (after (begun direction set K N) calls) call
-    → reply (after (begun direction set K N) calls .stream) call .answer ≡ Done
+    → isOpen (after m (begun m direction set K N) calls .stream .phase) ≡ true
+    → (call : Call) → Fitting direction (after m (begun m direction set K N) calls) call
+    → reply m (after m (begun m direction set K N) calls .stream) call .answer ≡ Done
