@@ -18,7 +18,7 @@ use Rattle.ascon.proofs.Sealing.{open-sealed, seal-opened}
 use Rattle.sets.proofs.Rows.{row-fits}
 use Rattle.stream.specs.Calls.{startTest}
 use Rattle.message.specs.Message.{messageTest, SealLeaves, sealLeaves, sealCall, OpenLeaves, openLeaves, judged, openCall}
-use Rattle.message.specs.Demands.{Fault, first, faults, isNone, AnswersAnything, IsPublished}
+use Rattle.message.specs.Demands.{Choice, _when_, first, faults, isNone, AnswersAnything, IsPublished}
 use Rattle.message.proofs.Tests.{message-passed}
 
 -- ---- the tests are the first fault
@@ -29,17 +29,17 @@ chain a b c d e f g =
     let start = cond a (cond b (cond c Done NonceLength) KeyLength) UnknownSet in
     cond (isDone start) (cond d (cond (e && f) (cond g Done NoRoom) PastLimit) TagLength) start
 
-abbrev listed : Bool → Bool → Bool → Bool → Bool → Bool → Bool → List Fault
+abbrev listed : Bool → Bool → Bool → Bool → Bool → Bool → Bool → List (Choice Answer)
 listed a b c d e f g =
-    record { holds = not a; answer = UnknownSet }
-    ∷ record { holds = not b; answer = KeyLength }
-    ∷ record { holds = not c; answer = NonceLength }
-    ∷ record { holds = not d; answer = TagLength }
-    ∷ record { holds = not e || not f; answer = PastLimit }
-    ∷ record { holds = not g; answer = NoRoom }
+    UnknownSet when not a
+    ∷ KeyLength when not b
+    ∷ NonceLength when not c
+    ∷ TagLength when not d
+    ∷ PastLimit when (not e || not f)
+    ∷ NoRoom when not g
     ∷ []
 
-chain-first : (a b c d e f g : Bool) → chain a b c d e f g ≡ first (listed a b c d e f g)
+chain-first : (a b c d e f g : Bool) → chain a b c d e f g ≡ first Done (listed a b c d e f g)
 chain-first false b c d e f g = refl
 chain-first true false c d e f g = refl
 chain-first true true false d e f g = refl
@@ -51,7 +51,7 @@ chain-first true true true true true true true = refl
 
 -- with a last fault
 chain-last : (a b c d e f g t : Bool)
-    → cond (isDone (chain a b c d e f g)) (cond t TagDiffers Done) (chain a b c d e f g) ≡ first (listed a b c d e f g ++ record { holds = t; answer = TagDiffers } ∷ [])
+    → cond (isDone (chain a b c d e f g)) (cond t TagDiffers Done) (chain a b c d e f g) ≡ first Done (listed a b c d e f g ++ TagDiffers when t ∷ [])
 chain-last false b c d e f g t = refl
 chain-last true false c d e f g t = refl
 chain-last true true false d e f g t = refl
@@ -73,19 +73,19 @@ chain-small true true true true true true false = lit≤ tt
 chain-small true true true true true true true = lit≤ tt
 
 module _ (set key nonce tag ad text out : ℕ) where
-  test-first : messageTest set key nonce tag ad text out ≡ first (faults set key nonce tag ad text out)
+  pub test-first : messageTest set key nonce tag ad text out ≡ first Done (faults set key nonce tag ad text out)
   unfolding messageTest startTest
   test-first =
       chain-first (isSet set) (eqb key (rowOf set .key)) (eqb nonce (rowOf set .key)) (eqb tag (rowOf set .key)) (leb ad dataLimit) (leb text textLimit) (leb text out)
 
   test-last : (t : Bool)
       → cond (isDone (messageTest set key nonce tag ad text out)) (cond t TagDiffers Done) (messageTest set key nonce tag ad text out)
-      ≡ first (faults set key nonce tag ad text out ++ record { holds = t; answer = TagDiffers } ∷ [])
+      ≡ first Done (faults set key nonce tag ad text out ++ TagDiffers when t ∷ [])
   unfolding messageTest startTest
   test-last =
       chain-last (isSet set) (eqb key (rowOf set .key)) (eqb nonce (rowOf set .key)) (eqb tag (rowOf set .key)) (leb ad dataLimit) (leb text textLimit) (leb text out)
 
-  test-small : numberOf (messageTest set key nonce tag ad text out) ≤ 6
+  pub test-small : numberOf (messageTest set key nonce tag ad text out) ≤ 6
   unfolding messageTest startTest
   test-small =
       chain-small (isSet set) (eqb key (rowOf set .key)) (eqb nonce (rowOf set .key)) (eqb tag (rowOf set .key)) (leb ad dataLimit) (leb text textLimit) (leb text out)
@@ -164,7 +164,7 @@ module _ (set : ℕ) (K N A C T out : List ℕ) where
           absurd (omega (arith, nine, test-small set (length K) (length N) (length T) (length A) (length C) (length out)))
 
   -- with no refusal 1 to 6
-  module _ (e : first (faults set (length K) (length N) (length T) (length A) (length C) (length out)) ≡ Done) where
+  module _ (e : first Done (faults set (length K) (length N) (length T) (length A) (length C) (length out)) ≡ Done) where
     done : isDone open-test ≡ true
     unfolding open-test
     done = ap isDone (test-first set (length K) (length N) (length T) (length A) (length C) (length out) ∙ e)

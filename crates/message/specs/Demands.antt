@@ -15,27 +15,34 @@ use Rattle.ascon.specs.Mode.{zeros, sealed, opened}
 use Rattle.ascon.specs.Rounds.{messageRounds}
 use Rattle.message.specs.Message.{sealLeaves, sealCall, openLeaves, openCall}
 
+infix 80 _when_
 -- ---- an answer to anything
 
--- a fault, and the answer that names it
-pub record Fault : Type 0 where
+-- a choice, and when it is made
+pub record Choice (X : Type 0) : Type 0 where
+  pub choice : X
   pub holds : Bool
-  pub answer : Answer
 
--- the first fault that holds is answered; done where none does
-abbrev pub first : List Fault → Answer
-first [] = Done
-first (f ∷ fs) = cond (f .holds) (f .answer) (first fs)
+abbrev pub _when_ : {X : Type 0} → X → Bool → Choice X
+x when holds = record { choice = x; holds = holds }
+
+-- the first that holds; the other where none does
+abbrev pub first : {X : Type 0} → X → List (Choice X) → X
+first other [] = other
+first other (c ∷ cs) = cond (c .holds) (c .choice) (first other cs)
+
+-- 1 to 3, of lengths
+abbrev pub startFaults : ℕ → ℕ → ℕ → List (Choice Answer)
+startFaults set key nonce =
+    UnknownSet when not (isSet set) ∷ KeyLength when not (eqb key (rowOf set .key)) ∷ NonceLength when not (eqb nonce (rowOf set .key)) ∷ []
 
 -- 1 to 6, of lengths
-abbrev pub faults : ℕ → ℕ → ℕ → ℕ → ℕ → ℕ → ℕ → List Fault
+abbrev pub faults : ℕ → ℕ → ℕ → ℕ → ℕ → ℕ → ℕ → List (Choice Answer)
 faults set key nonce tag ad text out =
-    record { holds = not (isSet set); answer = UnknownSet }
-    ∷ record { holds = not (eqb key (rowOf set .key)); answer = KeyLength }
-    ∷ record { holds = not (eqb nonce (rowOf set .key)); answer = NonceLength }
-    ∷ record { holds = not (eqb tag (rowOf set .key)); answer = TagLength }
-    ∷ record { holds = not (leb ad dataLimit) || not (leb text textLimit); answer = PastLimit }
-    ∷ record { holds = not (leb text out); answer = NoRoom }
+    startFaults set key nonce
+    ++ TagLength when not (eqb tag (rowOf set .key))
+    ∷ PastLimit when (not (leb ad dataLimit) || not (leb text textLimit))
+    ∷ NoRoom when not (leb text out)
     ∷ []
 
 -- nothing was opened
@@ -46,17 +53,17 @@ isNone none = true
 -- each answer exactly where its fault holds and no earlier one does; a refusal with 1 to 6 runs no round and changes no byte; 9 leaves zeros for a plaintext
 pub record AnswersAnything : Type 0 where
   pub seal-answer : (set : ℕ) (K N A P out tag : List ℕ)
-      → sealCall set K N A P out tag .outcome .answer ≡ first (faults set (length K) (length N) (length tag) (length A) (length P) (length out))
+      → sealCall set K N A P out tag .outcome .answer ≡ first Done (faults set (length K) (length N) (length tag) (length A) (length P) (length out))
   pub seal-refused : (set : ℕ) (K N A P out tag : List ℕ) (answer : Answer) → sealCall set K N A P out tag .outcome .answer ≡ answer
       → isDone answer ≡ false
       → sealCall set K N A P out tag ≡ sealLeaves (record { answer = answer; rounds = 0 }) out tag
   pub open-answer : (set : ℕ) (K N A C T out : List ℕ)
       → openCall set K N A C T out .outcome .answer
-      ≡ first
+      ≡ first Done
       (faults set (length K) (length N) (length T) (length A) (length C) (length out)
-      ++ record { holds = isNone (opened (rowOf set) K N A C T); answer = TagDiffers } ∷ [])
+      ++ TagDiffers when isNone (opened (rowOf set) K N A C T) ∷ [])
   pub open-refused : (set : ℕ) (K N A C T out : List ℕ) (answer : Answer)
-      → first (faults set (length K) (length N) (length T) (length A) (length C) (length out)) ≡ answer → isDone answer ≡ false
+      → first Done (faults set (length K) (length N) (length T) (length A) (length C) (length out)) ≡ answer → isDone answer ≡ false
       → openCall set K N A C T out ≡ openLeaves (record { answer = answer; rounds = 0 }) out
   pub open-differs : (set : ℕ) (K N A C T out : List ℕ) → openCall set K N A C T out .outcome .answer ≡ TagDiffers
       → openCall set K N A C T out
@@ -71,10 +78,10 @@ pub record IsPublished : Type 0 where
       ≡ sealLeaves (record { answer = Done; rounds = messageRounds (rowOf set) (length A) (length P) })
       (sealed (rowOf set) K N A P .cipher ++ drop (length P) out) (sealed (rowOf set) K N A P .tag)
   -- an opening with no refusal 1 to 6 is done exactly where some text's published sealing is this ciphertext and tag
-  pub opens : (set : ℕ) (K N A C T out : List ℕ) → first (faults set (length K) (length N) (length T) (length A) (length C) (length out)) ≡ Done
+  pub opens : (set : ℕ) (K N A C T out : List ℕ) → first Done (faults set (length K) (length N) (length T) (length A) (length C) (length out)) ≡ Done
       → (openCall set K N A C T out .outcome .answer ≡ Done) ↔ ((P : List ℕ) × (sealed (rowOf set) K N A P ≡ record { cipher = C; tag = T }))
   -- and hands that text out
-  pub hands : (set : ℕ) (K N A C T out P : List ℕ) → first (faults set (length K) (length N) (length T) (length A) (length C) (length out)) ≡ Done
+  pub hands : (set : ℕ) (K N A C T out P : List ℕ) → first Done (faults set (length K) (length N) (length T) (length A) (length C) (length out)) ≡ Done
       → sealed (rowOf set) K N A P ≡ record { cipher = C; tag = T }
       → openCall set K N A C T out
       ≡ openLeaves (record { answer = Done; rounds = messageRounds (rowOf set) (length A) (length C) }) (P ++ drop (length C) out)

@@ -2,7 +2,7 @@
 use mathlib.Core.Path.{_≡_, refl, sym, ap, _∙_}
 use mathlib.Core.Bool.{Bool, true, false, cond}
 use mathlib.Core.List.{List, _++_}
-use mathlib.Core.Logic.{_⊎_, inl, inr}
+use mathlib.Core.Logic.{_↔_, _⊎_, inl, inr}
 use mathlib.Core.Option.{some}
 use Prim.Native.Nat.{ℕ, suc, _-_, _≤_}
 use native.Mathlib.Omega.{arith}
@@ -56,6 +56,17 @@ answered text = go (outcome text)
     go (stopped n s h e f) =
         let r = read-stopped n text s h e f in
         inr (r ∙ ap refusedAt (sym (ap (λ (x : Reading). x .line) r)))
+
+-- a text is read exactly where its eight lines are those of a record in form
+exactly : (text : List ℕ) → (readCall text .answer ≡ Done) ↔ Begun 8 text
+exactly text = (
+  λ d. let s = all-read text d in reach-begun 8 (omega arith) text (s .0) (s .1),
+  λ b. ap (λ (r : Reading). r .answer) (read-whole text _ (begins-reach 8 (omega arith) (b .entry) (b .typed) (b .in-form) text (b .there))),
+)
+
+-- and then no line is named
+no-line : (text : List ℕ) → readCall text .answer ≡ Done → readCall text .line ≡ 0
+no-line text d = let s = all-read text d in ap (λ (r : Reading). r .line) (read-whole text (s .0) (s .1))
 
 -- the bytes taken are the record's text
 spelled : (text : List ℕ) → readCall text .answer ≡ Done → take (readCall text .taken) text ≡ textOf (readCall text .content)
@@ -191,6 +202,8 @@ pub reads-and-writes : ReadsAndWrites
 reads-and-writes =
     record {
       answered = answered;
+      exactly = exactly;
+      no-line = no-line;
       spelled = spelled;
       write-read = write-read;
       read-write = read-write;

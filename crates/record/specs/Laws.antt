@@ -1,7 +1,7 @@
 -- What reading and writing promise of each other.
 use mathlib.Core.Bool.{true}
 use mathlib.Core.List.{List, _++_}
-use mathlib.Core.Logic.{_⊎_}
+use mathlib.Core.Logic.{_↔_, _⊎_}
 use mathlib.Core.Path.{_≡_}
 use Prim.Native.Nat.{ℕ, _-_, _≤_}
 use lib.ListN.{length, take, drop}
@@ -37,6 +37,9 @@ pub record Begun (count : ℕ) (text : List ℕ) : Type 0 where
 pub record ReadsAndWrites : Type 0 where
   -- a text is read, or refused with its line, nothing taken and the record of zeros
   pub answered : (text : List ℕ) → (readCall text .answer ≡ Done) ⊎ (readCall text ≡ refusedAt (readCall text .line))
+  -- it is read exactly where its eight lines are those of a record in form, and then no line is named
+  pub exactly : (text : List ℕ) → (readCall text .answer ≡ Done) ↔ Begun 8 text
+  pub no-line : (text : List ℕ) → readCall text .answer ≡ Done → readCall text .line ≡ 0
   -- the bytes taken are the record's text
   pub spelled : (text : List ℕ) → readCall text .answer ≡ Done → take (readCall text .taken) text ≡ textOf (readCall text .content)
   -- what was written is read as the same record, and all of it is taken

@@ -1,0 +1,6 @@
+-- The theorems of the letter.
+pub mod EveryCall
+pub mod Model
+pub mod First
+pub mod Second
+pub mod Third

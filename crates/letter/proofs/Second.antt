@@ -1,0 +1,132 @@
+-- The second demand: the published cipher. Assumes nothing.
+use mathlib.Core.Path.{_≡_, refl, sym, ap, _∙_}
+use mathlib.Core.Bool.{Bool, true, false, cond}
+use mathlib.Core.List.{List, _++_}
+use mathlib.Core.Logic.{_↔_}
+use mathlib.Core.Option.{Option, some, none}
+use Prim.Native.Nat.{ℕ, _≤_}
+use native.Mathlib.Omega.{arith}
+use lib.ListN.{length, take, drop, length-replicate}
+use lib.Seq.{take-at, drop-at}
+use borrow.Author.Tests.{eqb-false}
+use Rattle.answers.specs.declared.Answer.{Answer}
+use Rattle.answers.specs.declared.Answer.the-variants.{Done}
+use Rattle.answers.specs.Numbers.{numberOf, isDone}
+use Rattle.answers.proofs.Numbers.{done-is}
+use Rattle.ascon.specs.Sets.{rowOf}
+use Rattle.ascon.specs.Mode.{zeros, Sealed, sealed, opened}
+use Rattle.ascon.specs.Rounds.{messageRounds}
+use Rattle.ascon.proofs.Sealing.{seal-opened}
+use Rattle.sets.proofs.Rows.{row-fits}
+use Rattle.message.specs.Message.{messageTest, SealLeaves, sealCall, OpenLeaves, openLeaves, judged, openCall}
+use Rattle.message.specs.Demands.{first, faults}
+use Rattle.message.proofs.Tests.{message-passed}
+use Rattle.message.proofs.Demands.{test-first, test-small, answers-anything, is-published}
+use Rattle.message.proofs.Promise.{length-cipher}
+use Rattle.letter.specs.Model.{Model, ours, Keeps}
+use Rattle.letter.specs.Second.{Unrefused, Second}
+use Rattle.letter.proofs.First.{of-kept}
+
+-- ---- sealing
+
+module _ (set : ℕ) (K N A P out tag : List ℕ) where
+  seal-published : let leaves = sealCall set K N A P out tag in
+      leaves .outcome .answer ≡ Done
+      → (take (length P) (leaves .out) ≡ sealed (rowOf set) K N A P .cipher)
+      × (leaves .tag ≡ sealed (rowOf set) K N A P .tag)
+      × (drop (length P) (leaves .out) ≡ drop (length P) out)
+  seal-published d =
+      let e = is-published .seals set K N A P out tag d in
+      let test : messageTest set (length K) (length N) (length tag) (length A) (length P) (length out) ≡ Done =
+      test-first set (length K) (length N) (length tag) (length A) (length P) (length out) ∙ sym (answers-anything .seal-answer set K N A P out tag) ∙ d in
+      let passed = message-passed set (length K) (length N) (length tag) (length A) (length P) (length out) (ap isDone test) in
+      let size = length-cipher set K N A P (passed .key-fits) in (
+        ap (λ (x : SealLeaves). take (length P) (x .out)) e ∙ take-at (sealed (rowOf set) K N A P .cipher) (drop (length P) out) (length P) size,
+        ap (λ (x : SealLeaves). x .tag) e,
+        ap (λ (x : SealLeaves). drop (length P) (x .out)) e ∙ drop-at (sealed (rowOf set) K N A P .cipher) (drop (length P) out) (length P) size,
+      )
+
+-- ---- opening
+
+module _ (set : ℕ) (K N A C T out : List ℕ) where
+  test : Answer
+  test = messageTest set (length K) (length N) (length T) (length A) (length C) (length out)
+
+  test-is : test ≡ first Done (faults set (length K) (length N) (length T) (length A) (length C) (length out))
+  unfolding test
+  test-is = test-first set (length K) (length N) (length T) (length A) (length C) (length out)
+
+  -- with no refusal 1 to 6 the tests passed
+  passed : Unrefused (openCall set K N A C T out .outcome .answer) → isDone test ≡ true
+  unfolding test
+  passed u = go (isDone test) refl
+    where
+      go : (b : Bool) → isDone test ≡ b → isDone test ≡ true
+      go true e = e
+      go false e =
+          let stopped : openCall set K N A C T out .outcome .answer ≡ test =
+          ap (λ (x : OpenLeaves). x .outcome .answer) (answers-anything .open-refused set K N A C T out test (sym test-is) e) in
+          let number : numberOf (openCall set K N A C T out .outcome .answer) ≡ numberOf test = ap numberOf stopped in
+          let some : numberOf test ≡ 0 → ⊥ = eqb-false (numberOf test) 0 e in
+          let most : numberOf test ≤ 6 = test-small set (length K) (length N) (length T) (length A) (length C) (length out) in
+          absurd (u (omega (arith, number, some), omega (arith, number, most)))
+
+  -- where they passed, a text is as long as its ciphertext
+  as-long : isDone test ≡ true → (P : List ℕ) → sealed (rowOf set) K N A P ≡ record { cipher = C; tag = T } → length P ≡ length C
+  unfolding test
+  as-long e P s =
+      let key = message-passed set (length K) (length N) (length T) (length A) (length C) (length out) e .key-fits in
+      sym (length-cipher set K N A P key) ∙ ap (λ (w : Sealed). length (w .cipher)) s
+
+  open-published : let leaves = openCall set K N A C T out in
+      Unrefused (leaves .outcome .answer)
+      → (P : List ℕ)
+      → ((leaves .outcome .answer ≡ Done) × (take (length C) (leaves .out) ≡ P)) ↔ (sealed (rowOf set) K N A P ≡ record { cipher = C; tag = T })
+  open-published u P = (to, from)
+    where
+      none-holds : first Done (faults set (length K) (length N) (length T) (length A) (length C) (length out)) ≡ Done
+      none-holds = sym test-is ∙ done-is test (passed u)
+
+      handed : (Q : List ℕ) → sealed (rowOf set) K N A Q ≡ record { cipher = C; tag = T } → take (length C) (openCall set K N A C T out .out) ≡ Q
+      handed Q s =
+          ap (λ (x : OpenLeaves). take (length C) (x .out)) (is-published .hands set K N A C T out Q none-holds s)
+          ∙ take-at Q (drop (length C) out) (length C) (as-long (passed u) Q s)
+
+      to : (openCall set K N A C T out .outcome .answer ≡ Done) × (take (length C) (openCall set K N A C T out .out) ≡ P)
+          → sealed (rowOf set) K N A P ≡ record { cipher = C; tag = T }
+      to (d, e) =
+          let found = is-published .opens set K N A C T out none-holds .0 d in
+          ap (sealed (rowOf set) K N A) (sym e ∙ handed (found .0) (found .1)) ∙ found .1
+
+      from : sealed (rowOf set) K N A P ≡ record { cipher = C; tag = T }
+          → (openCall set K N A C T out .outcome .answer ≡ Done) × (take (length C) (openCall set K N A C T out .out) ≡ P)
+      from s = (ap (λ (x : OpenLeaves). x .outcome .answer) (is-published .hands set K N A C T out P none-holds s), handed P s)
+
+  open-beyond : drop (length C) (openCall set K N A C T out .out) ≡ drop (length C) out
+  unfolding openCall test
+  open-beyond = go (isDone test) refl (opened (rowOf set) K N A C T) refl
+    where
+      go : (b : Bool) → isDone test ≡ b → (o : Option (List ℕ)) → opened (rowOf set) K N A C T ≡ o
+          → drop (length C)
+          (cond b (judged o (messageRounds (rowOf set) (length A) (length C)) (length C) out) (openLeaves (record { answer = test; rounds = 0 }) out) .out)
+          ≡ drop (length C) out
+      go false e o f = refl
+      go true e none f = drop-at (zeros (length C)) (drop (length C) out) (length C) (length-replicate (length C) 0)
+      go true e (some P) f =
+          let key = message-passed set (length K) (length N) (length T) (length A) (length C) (length out) e .key-fits in
+          drop-at P (drop (length C) out) (length C) (as-long e P (seal-opened (rowOf set) (row-fits set) K key N A P C T f))
+
+-- ---- the demand
+
+second : Second ours
+second =
+    record {
+      seals = seal-published;
+      opens = open-published;
+      beyond = open-beyond;
+      seal-word = λ set K N A P out tag. (refl, refl);
+      open-word = λ set K N A C T out. refl;
+    }
+
+pub second-demand : (m : Model) → Keeps m → Second m
+second-demand = of-kept Second second

@@ -1,0 +1,6 @@
+-- The letter: every public call, the three demands, and what they shut out.
+pub mod EveryCall
+pub mod Model
+pub mod First
+pub mod Second
+pub mod Third
