@@ -4,3 +4,5 @@ pub mod Model
 pub mod First
 pub mod Second
 pub mod Third
+pub mod Worthless
+pub mod Letter

@@ -1,5 +1,5 @@
 -- A model that keeps the contracts is ours. Assumes nothing.
-use mathlib.Core.Path.{_≡_}
+use mathlib.Core.Path.{_≡_, refl}
 use mathlib.Core.List.{List, []}
 use Prim.Native.Nat.{ℕ, zero, suc}
 use contract.Lifetimes.{Lfts}
@@ -40,4 +40,26 @@ is-ours m k =
       judge = λ entry. k .judge entry tt j;
       report = λ number verdict place. k .report number verdict (lent place) (lifetimes 1) j;
       step = λ window over number place. k .step (lent window) over number (lent place) (lifetimes 2) j;
+    }
+
+-- ours does
+pub keeps : Keeps ours
+keeps =
+    record {
+      start = λ d set key nonce κ. refl;
+      ad = λ s piece κ. refl;
+      seal-piece = λ s piece out κ. refl;
+      check = λ s piece κ. refl;
+      finish-sealing = λ s tag κ. refl;
+      finish-checking = λ s tag κ. refl;
+      start-test = λ set key nonce κ. refl;
+      seal = λ set key nonce ad text out tag κ. refl;
+      unseal = λ set key nonce ad cipher tag out κ. refl;
+      seal-word = λ set key nonce ad text out tag κ. (refl, (refl, refl));
+      open-word = λ set key nonce ad cipher tag out κ. (refl, refl);
+      read = λ text κ. refl;
+      write = λ entry place κ. refl;
+      judge = λ entry κ. refl;
+      report = λ number verdict place κ. refl;
+      step = λ window over number place κ. refl;
     }

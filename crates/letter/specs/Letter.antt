@@ -1,0 +1,28 @@
+-- What stands behind each yes, in one statement.
+use mathlib.Core.List.{List}
+use mathlib.Core.Path.{_≡_}
+use lib.ListN.{length}
+use Prim.Native.Nat.{ℕ}
+use Rattle.ascon.specs.Sets.{ParameterSet}
+use Rattle.ascon.specs.Rounds.{runs, total, messageRounds}
+use Rattle.ascon.specs.Cases.{Cases}
+use Rattle.letter.specs.Model.{Model, ours, Keeps}
+use Rattle.letter.specs.First.{First}
+use Rattle.letter.specs.Second.{Second}
+use Rattle.letter.specs.Third.{Third}
+use Rattle.letter.specs.Worthless.{Worthless}
+
+pub record Letter : Type 2 where
+  -- what it does with anything that is not a good message
+  pub first : First
+  -- who says that it is the cipher
+  pub second : (m : Model) → Keeps m → Second m
+  -- whether the cut matters
+  pub third : (m : Model) → Keeps m → Third m
+  -- there is a model that keeps the contracts
+  pub some-model : Keeps ours
+  -- the cases marked P, and the rounds that the definition runs
+  pub cases : Cases
+  pub counted : (set : ParameterSet) (A P : List ℕ) → total (runs set A P) ≡ messageRounds set (length A) (length P)
+  -- what the demands and the contracts shut out
+  pub worthless : Worthless
