@@ -3,12 +3,7 @@ use mathlib.Core.Path.{_≡_, refl}
 use mathlib.Core.List.{List, []}
 use Prim.Native.Nat.{ℕ, zero, suc}
 use contract.Lifetimes.{Lfts}
-use Rattle.letter.specs.EveryCall.{Lent}
-use Rattle.letter.specs.Model.{Model, ours, Keeps}
-
--- a list, lent from some place
-abbrev lent : List ℕ → Lent
-lent x = record { ptr = (0, 0); name = 0; now = x }
+use Rattle.letter.specs.Model.{Model, ours, lent, Keeps}
 
 -- some lifetimes
 abbrev lifetimes : (n : ℕ) → Lfts n

@@ -5,4 +5,5 @@ pub mod First
 pub mod Second
 pub mod Third
 pub mod Worthless
+pub mod Wrong
 pub mod Letter

@@ -53,6 +53,10 @@ ours =
       step = stepCall;
     }
 
+-- a list, lent from some place
+abbrev pub lent : List ℕ → Lent
+lent x = record { ptr = (0, 0); name = 0; now = x }
+
 -- a lent place that then holds something else
 abbrev pub holding : Lent → List ℕ → Lent
 holding a x = record { ptr = a .ptr; name = a .name; now = x }

@@ -1,0 +1,76 @@
+-- The contracts rule the wrong answers out: each is computed in the checker. Assumes nothing.
+use Prim.Native.Nat.{ℕ}
+use mathlib.Core.Path.{_≡_, ap}
+use native.Mathlib.Omega.{arith}
+use lib.ListN.{getD}
+use Rattle.permutation.specs.Round.{_⋙_, addConstant, sBox, bit, fromBits, column, substituted, substitute, Σ₀, Σ₁, Σ₂, Σ₃, Σ₄, diffuse, round}
+use Rattle.permutation.specs.Runs.{constants, constantsOf, roundsOf, rounds, permute}
+use Rattle.permutation.specs.Strings.{bytesOf, numberOf, stringOf, stateOf}
+use Rattle.timing.specs.Call.{Called, permuteCall}
+use Rattle.ascon.specs.Sets.{table, isSet, rowOf}
+use Rattle.ascon.specs.Mode.{p, firstBlock, initialise, separate}
+use Rattle.sponge.specs.Sponge.{started, dataClosed}
+use Rattle.sponge.specs.Tags.{sixteenOf, givenTag, sameTag}
+use Rattle.stream.specs.declared.Stream.{Stream}
+use Rattle.stream.specs.declared.Outcome.{Outcome}
+use Rattle.stream.specs.State.{isSoundEnded, isSound}
+use Rattle.stream.specs.Calls.{startTest, finishTest, finishCheckingCall}
+use Rattle.message.specs.Message.{messageTest, sealCall, openCall}
+use Rattle.digits.specs.Hex.{digitOf, hexDigit}
+use Rattle.digits.specs.Numbers.{places, numeral}
+use Rattle.digits.specs.Room.{lineOf, Laid, put}
+use Rattle.judge.specs.Reports.{recordLine, verdictLine, fieldLine, reportText, ReportLeaves, reportCall}
+use Rattle.letter.specs.Wrong.{Wrong}
+
+-- numbers that differ are not equal
+off : _≡_ {A = ℕ} 0 1 → ⊥
+off e = omega (arith, e)
+
+pub wrong : Wrong
+unfolding isSet rowOf table roundsOf constantsOf constants permuteCall dataClosed separate started initialise firstBlock p permute rounds round diffuse Σ₀ Σ₁ Σ₂ Σ₃ Σ₄ _⋙_ substitute substituted column fromBits bit sBox addConstant stringOf stateOf bytesOf numberOf sixteenOf givenTag sameTag isSound isSoundEnded startTest finishTest finishCheckingCall messageTest sealCall openCall digitOf hexDigit places numeral lineOf put recordLine verdictLine fieldLine reportText reportCall
+wrong = record {
+  number-done = λ κ e p. off (cc p);
+  is-done-differs = λ κ e p. off (cc p);
+  is-done-done = λ κ e p. off (cc p);
+  permute-seven = λ κ e p. off (cc (ap (λ (x : Called). x .answer) p));
+  is-set-three = λ κ e p. off (cc p);
+  is-set-two = λ κ e p. off (cc p);
+  key-length-two = λ κ e p. off (cc p);
+  key-length-one = λ κ e p. off (cc p);
+  block-length-two = λ κ e p. off (cc p);
+  block-length-one = λ κ e p. off (cc p);
+  between-one = λ κ e p. off (cc p);
+  between-two = λ κ e p. off (cc p);
+  rounds-between-one = λ κ e p. off (cc p);
+  rounds-between-two = λ κ e p. off (cc p);
+  start-zeros = λ κ e p. off (cc p);
+  close-other-end = λ κ e p. off (cc p);
+  both-one = λ κ e p. off (cc p);
+  both-two = λ κ e p. off (cc p);
+  sixteen-short = λ κ e p. off (cc p);
+  sixteen-long = λ κ e p. off (cc p);
+  give-tag-nothing = λ κ p. off (cc p);
+  give-tag-long = λ κ p. off (cc p);
+  same-tag-long = λ κ e p. off (cc p);
+  start-test-set = λ κ e p. off (cc p);
+  ended-open = λ κ e p. off (cc (ap (λ (x : Stream). x .phase) p));
+  ended-set = λ κ e p. off (cc (ap (λ (x : Stream). x .set) p));
+  finish-checking-ended = λ κ e p. off (cc (ap (λ (x : Outcome). x .answer) p));
+  kvistmaur-seal-set = λ κ e p. off (cc (p .0));
+  kvistmaur-open-key = λ κ e p. off (cc (p .0));
+  read-digit-g = λ κ e p. off (cc p);
+  is-digit-upper = λ κ e p. off (cc p);
+  is-digit-f = λ κ e p. off (cc p);
+  read-pair-low = λ κ e p. off (cc p);
+  read-pair-half = λ κ e p. off (cc p);
+  put-bytes-low = λ κ p. let first : _≡_ {A = ℕ} 0x66 0x31 = ap (λ (x : Laid). getD (x .place) 0 0) p in absurd (omega arith);
+  put-bytes-room = λ κ e p. off (cc (ap (λ (x : Laid). x .count) p));
+  put-text-room = λ κ e p. off (cc (ap (λ (x : Laid). x .count) p));
+  put-text-beyond = λ κ p. off (cc (ap (λ (x : Laid). x .place) p));
+  put-line-feed = λ κ e p. off (cc (ap (λ (x : Laid). x .count) p));
+  number-length-ten = λ κ e p. off (cc p);
+  number-length-nought = λ κ e p. off (cc p);
+  put-number-ten = λ κ p. let first : _≡_ {A = ℕ} 0x30 0x31 = ap (λ (x : Laid). getD (x .place) 0 0) p in absurd (omega arith);
+  put-number-room = λ κ e p. off (cc (ap (λ (x : Laid). x .count) p));
+  report-room = λ κ e p. off (cc (ap (λ (x : ReportLeaves). x .outcome .answer) p));
+}

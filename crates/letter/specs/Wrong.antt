@@ -1,0 +1,121 @@
+-- Wrong answers that the contracts rule out, of the calls whose wrong versions are not tried as edits of the code (or only one of them is).
+use mathlib.Core.Bool.{true, false}
+use mathlib.Core.List.{List, [], _∷_}
+use Prim.Native.Nat.{ℕ}
+use lib.ListN.{replicate}
+use Rattle.answers.specs.declared.Answer.the-variants.{Done, UnknownSet, KeyLength, NonceLength, TagLength, OutOfPhase, BrokenState, TagDiffers}
+use Rattle.permutation.specs.declared.Run.the-variants.{Twelve, FirstEight}
+use Rattle.ascon.specs.Mode.{zeros}
+use Rattle.stream.specs.declared.Direction.the-variants.{Sealing}
+use Rattle.stream.specs.declared.Phase.the-variants.{Data, Ended}
+use Rattle.stream.specs.State.{ended}
+use Rattle.digits.specs.declared.hex.Digit.the-variants.{Value}
+use Rattle.digits.specs.declared.hex.Pair.the-variants.{Byte, NoByte}
+use Rattle.judge.specs.declared.verdict.Verdict.the-variants.{Equal}
+use Rattle.answers.proofs as answers
+use Rattle.timing.proofs as timing
+use Rattle.sets.proofs as sets
+use Rattle.sponge.proofs as sponge
+use Rattle.stream.proofs as stream
+use Rattle.gateway.proofs as gateway
+use Rattle.digits.proofs as digits
+use Rattle.judge.proofs as judge
+use Rattle.letter.specs.Model.{lent}
+
+-- a contract does not allow a result, whatever comes back in the lent places
+abbrev pub Never : {L A R : Type 0} → (L → A → R → A → Type 0) → A → R → Type 0
+Never {L} {A} allowed before r = (κ : L) (after : A) → allowed κ before r after → ⊥
+
+-- nor a result with this in the lent places
+abbrev pub NeverLeaves : {L A R : Type 0} → (L → A → R → A → Type 0) → A → R → A → Type 0
+NeverLeaves {L} allowed before r after = (κ : L) → allowed κ before r after → ⊥
+
+pub record Wrong : Type 0 where
+  -- done is not 1
+  pub number-done : Never answers.number.Reads.Post (Done, tt) 1
+  -- 9 is not done
+  pub is-done-differs : Never answers.is_done.Reads.Post (TagDiffers, tt) true
+  -- 0 is
+  pub is-done-done : Never answers.is_done.Reads.Post (Done, tt) false
+  -- seven rounds are not run
+  pub permute-seven : Never timing.kvistmaur_permute.Reads.Post (7, (lent (zeros 5), tt)) 7
+  -- 3 is no set
+  pub is-set-three : Never sets.is_set.Reads.Post (3, tt) true
+  -- 2 is one
+  pub is-set-two : Never sets.is_set.Reads.Post (2, tt) false
+  -- set 2 has no key of 16
+  pub key-length-two : Never sets.key_length.Reads.Post (2, tt) 16
+  -- nor set 1 one of 12
+  pub key-length-one : Never sets.key_length.Reads.Post (1, tt) 12
+  -- set 2 has no block of 8
+  pub block-length-two : Never sets.block_length.Reads.Post (2, tt) 8
+  -- nor set 1 one of 16
+  pub block-length-one : Never sets.block_length.Reads.Post (1, tt) 16
+  -- set 1 does not run eight rounds between
+  pub between-one : Never sets.between.Reads.Post (1, tt) FirstEight
+  -- nor set 2 twelve
+  pub between-two : Never sets.between.Reads.Post (2, tt) Twelve
+  -- and their numbers are not those
+  pub rounds-between-one : Never sets.rounds_between.Reads.Post (1, tt) 8
+  -- nor those
+  pub rounds-between-two : Never sets.rounds_between.Reads.Post (2, tt) 12
+  -- a start under zeros does not leave zeros
+  pub start-zeros : Never sponge.start.Reads.Post (1, (zeros 16, (zeros 16, tt))) (zeros 5)
+  -- closing empty data does not flip a bit of the first word
+  pub close-other-end : Never sponge.close_data.Reads.Post (1, (zeros 5, (0, tt))) (1 ∷ zeros 4)
+  -- one is not both
+  pub both-one : Never sponge.both.Reads.Post (true, (false, tt)) true
+  -- two are
+  pub both-two : Never sponge.both.Reads.Post (true, (true, tt)) false
+  -- a short string is not dropped
+  pub sixteen-short : Never sponge.sixteen.Reads.Post (lent (1 ∷ []), tt) (zeros 16)
+  -- a long one is not cut
+  pub sixteen-long : Never sponge.sixteen.Reads.Post (lent (replicate 17 1), tt) (replicate 16 1)
+  -- a place of 12 does not stay as it was
+  pub give-tag-nothing : NeverLeaves sponge.give_tag.Reads.Post (replicate 16 1, (lent (zeros 12), tt)) tt (replicate 16 1, (lent (zeros 12), tt))
+  -- one of 17 does
+  pub give-tag-long : NeverLeaves sponge.give_tag.Reads.Post (replicate 16 1, (lent (zeros 17), tt)) tt (replicate 16 1, (lent (replicate 17 1), tt))
+  -- a tag of 17 bytes is none
+  pub same-tag-long : Never sponge.same_tag.Reads.Post (zeros 16, (lent (zeros 17), tt)) true
+  -- 1 comes before 2
+  pub start-test-set : Never stream.start_test.Reads.Post (3, (15, (16, tt))) KeyLength
+  -- the ended state is not open
+  pub ended-open : Never stream.Stream.ended.Reads.Post tt (record { words = zeros 5; set = 1; direction = Sealing; phase = Data; key = zeros 16; ad = 0; text = 0; place = 0 })
+  -- nor of set 2
+  pub ended-set : Never stream.Stream.ended.Reads.Post tt (record { words = zeros 5; set = 2; direction = Sealing; phase = Ended; key = zeros 16; ad = 0; text = 0; place = 0 })
+  -- the ended state is not broken: 7 and not 8
+  pub finish-checking-ended : Never stream.Stream.finish_checking.Reads.Post (ended, (lent [], tt)) (record { answer = BrokenState; rounds = 0; next = ended })
+  -- an unknown set is the word 1, and not 2
+  pub kvistmaur-seal-set : Never gateway.kvistmaur_seal.Reads.Post (3, (lent [], (lent [], (lent [], (lent [], (lent [], (lent [], tt))))))) 2
+  -- a key of 15 with a wrong nonce is the word 2, and not 3
+  pub kvistmaur-open-key : Never gateway.kvistmaur_open.Reads.Post (1, (lent (zeros 15), (lent [], (lent [], (lent [], (lent [], (lent [], tt))))))) 3
+  -- `g` is no digit
+  pub read-digit-g : Never digits.read_digit.Reads.Post (0x67, tt) (Value 16)
+  -- `A` is none
+  pub is-digit-upper : Never digits.is_digit.Reads.Post (0x41, tt) true
+  -- `f` is one
+  pub is-digit-f : Never digits.is_digit.Reads.Post (0x66, tt) false
+  -- `01` is not sixteen
+  pub read-pair-low : Never digits.read_pair.Reads.Post (0x30, (0x31, tt)) (Byte 16)
+  -- `0g` is no byte
+  pub read-pair-half : Never digits.read_pair.Reads.Post (0x30, (0x67, tt)) (Byte 0)
+  -- 1f is not put as `f1`
+  pub put-bytes-low : NeverLeaves digits.put_bytes.Reads.Post (lent (0x1f ∷ []), (lent (zeros 2), tt)) 2 (lent (0x1f ∷ []), (lent (0x66 ∷ 0x31 ∷ []), tt))
+  -- and not where one place is lent
+  pub put-bytes-room : Never digits.put_bytes.Reads.Post (lent (0x1f ∷ []), (lent (zeros 1), tt)) 2
+  -- two bytes do not go into one place
+  pub put-text-room : Never digits.put_text.Reads.Post (lent (zeros 2), (lent (zeros 1), tt)) 2
+  -- one byte does not touch the second place
+  pub put-text-beyond : NeverLeaves digits.put_text.Reads.Post (lent (1 ∷ []), (lent (zeros 2), tt)) 1 (lent (1 ∷ []), (lent (1 ∷ 1 ∷ []), tt))
+  -- an empty line has its line feed
+  pub put-line-feed : Never digits.put_line.Reads.Post (lent [], (lent [], (lent (zeros 1), tt))) 0
+  -- 10 has two digits
+  pub number-length-ten : Never digits.number_length.Reads.Post (10, tt) 1
+  -- 0 has one
+  pub number-length-nought : Never digits.number_length.Reads.Post (0, tt) 0
+  -- 10 is not put as `01`
+  pub put-number-ten : NeverLeaves digits.put_number.Reads.Post (10, (lent (zeros 2), tt)) 2 (10, (lent (0x30 ∷ 0x31 ∷ []), tt))
+  -- nor by one digit
+  pub put-number-room : Never digits.put_number.Reads.Post (10, (lent (zeros 1), tt)) 1
+  -- a report without room is not done
+  pub report-room : Never judge.report.Reads.Post (1, (Equal, (lent [], tt))) (record { answer = Done; written = 0 })
