@@ -7,6 +7,7 @@ use Rattle.letter.proofs.First.{first-demand}
 use Rattle.letter.proofs.Second.{second-demand}
 use Rattle.letter.proofs.Third.{third-demand}
 use Rattle.letter.proofs.Worthless.{worthless}
+use Rattle.letter.proofs.Wrong.{wrong}
 
 pub letter : Letter
 letter =
@@ -18,4 +19,5 @@ letter =
       cases = cases;
       counted = runs-total;
       worthless = worthless;
+      wrong = wrong;
     }

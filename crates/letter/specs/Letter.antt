@@ -1,8 +1,8 @@
 -- What stands behind each yes, in one statement.
 use mathlib.Core.List.{List}
 use mathlib.Core.Path.{_≡_}
-use lib.ListN.{length}
 use Prim.Native.Nat.{ℕ}
+use lib.ListN.{length}
 use Rattle.ascon.specs.Sets.{ParameterSet}
 use Rattle.ascon.specs.Rounds.{runs, total, messageRounds}
 use Rattle.ascon.specs.Cases.{Cases}
@@ -11,6 +11,7 @@ use Rattle.letter.specs.First.{First}
 use Rattle.letter.specs.Second.{Second}
 use Rattle.letter.specs.Third.{Third}
 use Rattle.letter.specs.Worthless.{Worthless}
+use Rattle.letter.specs.Wrong.{Wrong}
 
 pub record Letter : Type 2 where
   -- what it does with anything that is not a good message
@@ -26,3 +27,4 @@ pub record Letter : Type 2 where
   pub counted : (set : ParameterSet) (A P : List ℕ) → total (runs set A P) ≡ messageRounds set (length A) (length P)
   -- what the demands and the contracts shut out
   pub worthless : Worthless
+  pub wrong : Wrong

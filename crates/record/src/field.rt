@@ -20,7 +20,7 @@ pub struct Spelled {
 }
 
 // A field with no bytes.
-pub fn no_field() -> Field
+pub(crate) fn no_field() -> Field
     ensures { λ r. ⌜ r ≡ fieldOf [] ⌝ }
 {
     Field {
@@ -30,7 +30,7 @@ pub fn no_field() -> Field
 }
 
 // Whether a field has at most 256 bytes, and zeros in every place past them.
-pub fn is_field(field: Field) -> bool
+pub(crate) fn is_field(field: Field) -> bool
     ensures { λ r. ⌜ r ≡ isField field ⌝ }
 {
     let bytes = field.bytes;
@@ -48,7 +48,7 @@ pub fn is_field(field: Field) -> bool
 }
 
 // The field of digits, two a byte.
-pub fn read_field(text: &[u8]) -> Spelled
+pub(crate) fn read_field(text: &[u8]) -> Spelled
     ensures { λ r. ⌜ r ≡ spelledAs (fitted (bytesOf (now (text .entry)))) ⌝ }
 {
     let mut bytes = [0; 256];

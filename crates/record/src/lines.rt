@@ -38,7 +38,7 @@ fn pad(text: &[u8]) -> Name
 }
 
 // The name of a line.
-pub fn name_of(line: usize) -> Name
+pub(crate) fn name_of(line: usize) -> Name
     ensures { λ r. ⌜ r ≡ padded (name line) ⌝ }
 {
     match line {
@@ -54,7 +54,7 @@ pub fn name_of(line: usize) -> Name
 }
 
 // Whether a line holds a number.
-pub fn is_number(line: usize) -> bool
+pub(crate) fn is_number(line: usize) -> bool
     ensures { λ r. ⌜ r ≡ isNumber line ⌝ }
 {
     if line == 1 {
@@ -77,7 +77,7 @@ fn is_keyed(line: usize) -> bool
 }
 
 // The number of a line.
-pub fn number_at(line: usize, entry: Record) -> u64
+pub(crate) fn number_at(line: usize, entry: Record) -> u64
     ensures { λ r. ⌜ r ≡ numberAt line entry ⌝ }
 {
     if line == 1 {
@@ -87,7 +87,7 @@ pub fn number_at(line: usize, entry: Record) -> u64
 }
 
 // The bytes of a line.
-pub fn field_at(line: usize, entry: Record) -> Field
+pub(crate) fn field_at(line: usize, entry: Record) -> Field
     ensures { λ r. ⌜ r ≡ fieldAt line entry ⌝ }
     ensures { λ r. ⌜ length (r .bytes) ≡ 256 ⌝ }
 {
@@ -102,7 +102,7 @@ pub fn field_at(line: usize, entry: Record) -> Field
 }
 
 // A record with another number in a line.
-pub fn with_number(line: usize, entry: Record, n: u64) -> Record
+pub(crate) fn with_number(line: usize, entry: Record, n: u64) -> Record
     ensures { λ r. ⌜ r ≡ withNumber line n entry ⌝ }
 {
     let mut next = entry;
@@ -118,7 +118,7 @@ pub fn with_number(line: usize, entry: Record, n: u64) -> Record
 }
 
 // A record with other bytes in a line.
-pub fn with_field(line: usize, entry: Record, field: Field) -> Record
+pub(crate) fn with_field(line: usize, entry: Record, field: Field) -> Record
     ensures { λ r. ⌜ r ≡ withField line field entry ⌝ }
 {
     let mut next = entry;
@@ -152,7 +152,7 @@ pub fn with_field(line: usize, entry: Record, field: Field) -> Record
 }
 
 // The record of zeros.
-pub fn no_record() -> Record
+pub(crate) fn no_record() -> Record
     ensures { λ r. ⌜ r ≡ blank ⌝ }
 {
     let none = field::no_field();
@@ -169,7 +169,7 @@ pub fn no_record() -> Record
 }
 
 // Whether a line keeps its rule.
-pub fn keeps_rule(line: usize, entry: Record) -> bool
+pub(crate) fn keeps_rule(line: usize, entry: Record) -> bool
     ensures { λ r. ⌜ r ≡ keeps line entry ⌝ }
 {
     if line == 1 {
