@@ -1,6 +1,7 @@
 -- The letter is answered. Assumes nothing.
 use Rattle.ascon.proofs.Cases.{cases}
 use Rattle.ascon.proofs.Rounds.{runs-total}
+use Rattle.ascon.proofs.Marks.{runs-marked}
 use Rattle.letter.specs.Letter.{Letter}
 use Rattle.letter.proofs.Model.{keeps}
 use Rattle.letter.proofs.First.{first-demand}
@@ -18,6 +19,7 @@ letter =
       some-model = keeps;
       cases = cases;
       counted = runs-total;
+      marked = runs-marked;
       worthless = worthless;
       wrong = wrong;
     }

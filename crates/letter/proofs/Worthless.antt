@@ -5,7 +5,6 @@ use Prim.Native.Nat.{ℕ, _+_, _≤_}
 use native.Mathlib.Omega.{arith}
 use lib.Dec.{lit≤}
 use lib.ListN.{length, getD}
-use Rattle.answers.specs.declared.Answer.{Answer}
 use Rattle.answers.specs.declared.Answer.the-variants.{Done}
 use Rattle.permutation.specs.Round.{_⋙_, addConstant, sBox, bit, fromBits, column, substituted, substitute, Σ₀, Σ₁, Σ₂, Σ₃, Σ₄, diffuse, round}
 use Rattle.permutation.specs.Runs.{constants, constantsOf, roundsOf, rounds, permute}
@@ -16,6 +15,7 @@ use Rattle.ascon.specs.Mode.{zeros, p, count, pad, firstBlock, initialise, sepa
 use Rattle.ascon.specs.Rounds.{dataBlocks, textBlocks, messageRounds}
 use Rattle.ascon.proofs.Strings.{bytes-zeros}
 use Rattle.sponge.specs.Sponge.{given}
+use Rattle.stream.specs.declared.Direction.{Direction}
 use Rattle.stream.specs.declared.Direction.the-variants.{Sealing}
 use Rattle.stream.specs.State.{isSoundOpen, isSoundEnded, isSound}
 use Rattle.stream.specs.Calls.{startTest, pieceTest, startCall, dataCall, tookText}
@@ -28,7 +28,7 @@ use Rattle.letter.specs.Model.{Model, ours, Keeps}
 use Rattle.letter.specs.First.{Listed}
 use Rattle.letter.specs.Second.{Second}
 use Rattle.letter.specs.Third.{Third}
-use Rattle.letter.specs.Worthless.{withStreams, refusing, refusingStreams, constant, copying, laterCopied, emptyEnds, madeUp, madeUpStreams, Worthless}
+use Rattle.letter.specs.Worthless.{withStreams, constant, copying, laterCopied, emptyEnds, madeUpStreams, Worthless}
 use Rattle.letter.proofs.Model.{is-ours}
 
 -- a key, a nonce and a place for a tag, of set 1
@@ -42,13 +42,15 @@ two-zeros = refl
 
 -- ---- whole messages
 
-refuses : (answer : Answer) → (answer ≡ Done → ⊥) → Listed (refusing answer) → ⊥
+-- a good message is listed as done
+refuses : (m : Model) → ((set : ℕ) (K N A P out tag : List ℕ) → m .seal set K N A P out tag .outcome .answer ≡ Done → ⊥) → Listed m → ⊥
 unfolding isSet rowOf table
-refuses answer undone l = undone (l .seal 1 sixteen sixteen [] [] [] sixteen)
+refuses m undone l = undone 1 sixteen sixteen [] [] [] sixteen (l .seal 1 sixteen sixteen [] [] [] sixteen)
 
-refuses-streams : (answer : Answer) → (answer ≡ Done → ⊥) → Listed (withStreams (refusingStreams answer)) → ⊥
+-- and so is a good start
+refuses-streams : (m : Model) → ((d : Direction) (set : ℕ) (K N : List ℕ) → m .streams .start d set K N .answer ≡ Done → ⊥) → Listed m → ⊥
 unfolding isSet rowOf table
-refuses-streams answer undone l = undone (l .start Sealing 1 sixteen sixteen)
+refuses-streams m undone l = undone Sealing 1 sixteen sixteen (l .start Sealing 1 sixteen sixteen)
 
 -- two texts that differ have no sealing in common
 answers-same : (sealing : SealLeaves) (opening : OpenLeaves) → sealing .outcome .answer ≡ Done → Second (constant sealing opening) → ⊥
@@ -68,10 +70,12 @@ copies s =
     let differ : _≡_ {A = ℕ} 0 0x27 = ap (λ (x : List ℕ). getD x 0 0) (copied ∙ two-zeros) in
     omega arith
 
-makes-up : (n : ℕ) → Keeps (madeUp n) → ⊥
+-- nothing and nothing takes 24 rounds, seven bytes and seven take 30
+makes-up : (m : Model) (n : ℕ) → ((set : ℕ) (K N A P out tag : List ℕ) → m .seal set K N A P out tag .outcome .rounds ≡ n) → Keeps m → ⊥
 unfolding sealCall messageTest startTest isSet rowOf table messageRounds dataBlocks textBlocks roundsOf constantsOf constants
-makes-up n k =
-    let rounds : (x : List ℕ) → n ≡ ours .seal 1 sixteen sixteen x x x sixteen .outcome .rounds = λ x. ap (λ (m : Model). m .seal 1 sixteen sixteen x x x sixteen .outcome .rounds) (is-ours (madeUp n) k) in
+makes-up m n same k =
+    let rounds : (x : List ℕ) → n ≡ ours .seal 1 sixteen sixteen x x x sixteen .outcome .rounds =
+    λ x. sym (same 1 sixteen sixteen x x x sixteen) ∙ ap (λ (o : Model). o .seal 1 sixteen sixteen x x x sixteen .outcome .rounds) (is-ours m k) in
     let none : n ≡ 24 = rounds [] in
     let seven : n ≡ 30 = rounds (zeros 7) in
     omega arith

@@ -8,14 +8,15 @@ use Rattle.permutation.specs.Runs.{constants, constantsOf, roundsOf, rounds, pe
 use Rattle.permutation.specs.Strings.{bytesOf, numberOf, stringOf, stateOf}
 use Rattle.timing.specs.Call.{Called, permuteCall}
 use Rattle.ascon.specs.Sets.{table, isSet, rowOf}
-use Rattle.ascon.specs.Mode.{p, firstBlock, initialise, separate}
+use Rattle.ascon.specs.Mode.{p, firstBlock, initialise, separate, count, pad, beforeText, encrypted, sealed}
 use Rattle.sponge.specs.Sponge.{started, dataClosed}
 use Rattle.sponge.specs.Tags.{sixteenOf, givenTag, sameTag}
 use Rattle.stream.specs.declared.Stream.{Stream}
 use Rattle.stream.specs.declared.Outcome.{Outcome}
 use Rattle.stream.specs.State.{isSoundEnded, isSound}
-use Rattle.stream.specs.Calls.{startTest, finishTest, finishCheckingCall}
-use Rattle.message.specs.Message.{messageTest, sealCall, openCall}
+use Rattle.stream.specs.Calls.{startTest, pieceTest, finishTest, finishCheckingCall}
+use Rattle.stream.specs.Calls as streamed
+use Rattle.message.specs.Message.{messageTest, SealLeaves, sealCall, OpenLeaves, openCall}
 use Rattle.digits.specs.Hex.{digitOf, hexDigit}
 use Rattle.digits.specs.Numbers.{places, numeral}
 use Rattle.digits.specs.Room.{lineOf, Laid, put}
@@ -27,7 +28,7 @@ off : _≡_ {A = ℕ} 0 1 → ⊥
 off e = omega (arith, e)
 
 pub wrong : Wrong
-unfolding isSet rowOf table roundsOf constantsOf constants permuteCall dataClosed separate started initialise firstBlock p permute rounds round diffuse Σ₀ Σ₁ Σ₂ Σ₃ Σ₄ _⋙_ substitute substituted column fromBits bit sBox addConstant stringOf stateOf bytesOf numberOf sixteenOf givenTag sameTag isSound isSoundEnded startTest finishTest finishCheckingCall messageTest sealCall openCall digitOf hexDigit places numeral lineOf put recordLine verdictLine fieldLine reportText reportCall
+unfolding sealed encrypted pad count beforeText isSet rowOf table roundsOf constantsOf constants permuteCall dataClosed separate started initialise firstBlock p permute rounds round diffuse Σ₀ Σ₁ Σ₂ Σ₃ Σ₄ _⋙_ substitute substituted column fromBits bit sBox addConstant stringOf stateOf bytesOf numberOf sixteenOf givenTag sameTag isSound isSoundEnded startTest pieceTest finishTest streamed.sealCall finishCheckingCall messageTest sealCall openCall digitOf hexDigit places numeral lineOf put recordLine verdictLine fieldLine reportText reportCall
 wrong = record {
   number-done = λ κ e p. off (cc p);
   is-done-differs = λ κ e p. off (cc p);
@@ -56,6 +57,10 @@ wrong = record {
   ended-open = λ κ e p. off (cc (ap (λ (x : Stream). x .phase) p));
   ended-set = λ κ e p. off (cc (ap (λ (x : Stream). x .set) p));
   finish-checking-ended = λ κ e p. off (cc (ap (λ (x : Outcome). x .answer) p));
+  seal-piece-refused = λ κ p. let byte : _≡_ {A = ℕ} 1 0 = ap (λ (x : streamed.Called). getD (x .lent) 0 0) p in absurd (omega arith);
+  seal-refused = λ κ p. let byte : _≡_ {A = ℕ} 1 0 = ap (λ (x : SealLeaves). getD (x .out) 0 0) p in absurd (omega arith);
+  seal-beyond = λ κ p. let byte : _≡_ {A = ℕ} 1 0 = ap (λ (x : SealLeaves). getD (x .out) 0 0) p in absurd (omega arith);
+  open-refused = λ κ p. let byte : _≡_ {A = ℕ} 1 0 = ap (λ (x : OpenLeaves). getD (x .out) 0 0) p in absurd (omega arith);
   kvistmaur-seal-set = λ κ e p. off (cc (p .0));
   kvistmaur-open-key = λ κ e p. off (cc (p .0));
   read-digit-g = λ κ e p. off (cc p);

@@ -1,10 +1,10 @@
 -- What stands behind each yes, in one statement.
 use mathlib.Core.List.{List}
 use mathlib.Core.Path.{_≡_}
-use Prim.Native.Nat.{ℕ}
+use Prim.Native.Nat.{ℕ, _≤_, _<_}
 use lib.ListN.{length}
 use Rattle.ascon.specs.Sets.{ParameterSet}
-use Rattle.ascon.specs.Rounds.{runs, total, messageRounds}
+use Rattle.ascon.specs.Rounds.{runs, total, messageRounds, Marked}
 use Rattle.ascon.specs.Cases.{Cases}
 use Rattle.letter.specs.Model.{Model, ours, Keeps}
 use Rattle.letter.specs.First.{First}
@@ -22,9 +22,11 @@ pub record Letter : Type 2 where
   pub third : (m : Model) → Keeps m → Third m
   -- there is a model that keeps the contracts
   pub some-model : Keeps ours
-  -- the cases marked P, and the rounds that the definition runs
+  -- the cases marked P
   pub cases : Cases
+  -- the formula counts the runs of Algorithm 1, and the definition makes those runs
   pub counted : (set : ParameterSet) (A P : List ℕ) → total (runs set A P) ≡ messageRounds set (length A) (length P)
+  pub marked : (r : ℕ) → 0 < r → (S A P : List ℕ) → r ≤ length S → Marked r S A P
   -- what the demands and the contracts shut out
   pub worthless : Worthless
   pub wrong : Wrong

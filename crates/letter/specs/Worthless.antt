@@ -5,16 +5,14 @@ use mathlib.Core.Path.{_≡_}
 use Prim.Native.Nat.{ℕ}
 use lib.Dec.{eqb}
 use lib.ListN.{length, drop}
-use Rattle.answers.specs.declared.Answer.{Answer}
 use Rattle.answers.specs.declared.Answer.the-variants.{Done}
-use Rattle.answers.specs.Numbers.{numberOf, isDone}
+use Rattle.answers.specs.Numbers.{isDone}
+use Rattle.stream.specs.declared.Direction.{Direction}
 use Rattle.stream.specs.declared.Outcome.{Outcome}
 use Rattle.stream.specs.State.{ended}
-use Rattle.stream.specs.Calls.{refused, Called, called}
+use Rattle.stream.specs.Calls.{called}
 use Rattle.history.specs.History.{Streams}
-use Rattle.history.specs.Cuts.{CuttingDoesNotMatter}
-use Rattle.message.specs.Message.{SealLeaves, sealLeaves, OpenLeaves, openLeaves}
-use Rattle.letter.specs.EveryCall.{sealWord, openWord}
+use Rattle.message.specs.Message.{SealLeaves, sealLeaves, OpenLeaves}
 use Rattle.letter.specs.Model.{Model, ours, Keeps}
 use Rattle.letter.specs.First.{Listed}
 use Rattle.letter.specs.Second.{Second}
@@ -56,23 +54,6 @@ withMessages seal unseal =
 
 -- ---- the versions
 
--- refuses always
-abbrev pub refusing : Answer → Model
-refusing answer =
-    withMessages (λ set K N A P out tag. sealLeaves (record { answer = answer; rounds = 0 }) out tag) (λ set K N A C T out. openLeaves (record { answer = answer; rounds = 0 }) out)
-
--- and so do its streams
-abbrev pub refusingStreams : Answer → Streams
-refusingStreams answer =
-    record {
-      start = λ d set K N. refused answer ended;
-      ad = λ s piece. refused answer s;
-      seal = λ s piece out. called (refused answer s) out;
-      check = λ s piece. refused answer s;
-      finishSealing = λ s tag. called (refused answer s) tag;
-      finishChecking = λ s tag. refused answer s;
-    }
-
 -- answers the same always
 abbrev pub constant : SealLeaves → OpenLeaves → Model
 constant sealing opening = withMessages (λ set K N A P out tag. sealing) (λ set K N A C T out. opening)
@@ -104,7 +85,7 @@ emptyEnds =
       start = ours .streams .start;
       ad = ours .streams .ad;
       seal = λ s piece out. cond (eqb (length piece) 0) (called (record { answer = Done; rounds = 0; next = ended }) out) (ours .streams .seal s piece out);
-      check = ours .streams .check;
+      check = λ s piece. cond (eqb (length piece) 0) (record { answer = Done; rounds = 0; next = ended }) (ours .streams .check s piece);
       finishSealing = ours .streams .finishSealing;
       finishChecking = ours .streams .finishChecking;
     }
@@ -112,13 +93,6 @@ emptyEnds =
 -- an outcome with other rounds
 abbrev pub told : ℕ → Outcome → Outcome
 told n outcome = record { answer = outcome .answer; rounds = n; next = outcome .next }
-
--- the rounds of a message made up
-abbrev pub madeUp : ℕ → Model
-madeUp n =
-    withMessages
-    (λ set K N A P out tag. let leaves = ours .seal set K N A P out tag in
-    sealLeaves (record { answer = leaves .outcome .answer; rounds = n }) (leaves .out) (leaves .tag)) (ours .unseal)
 
 -- the rounds of a stream made up, by the kind of the call
 abbrev pub madeUpStreams : ℕ → ℕ → ℕ → ℕ → Streams
@@ -135,14 +109,14 @@ madeUpStreams start piece text finish =
 -- ---- what they break
 
 pub record Worthless : Type 0 where
-  -- refusing always breaks the listed conditions, whatever the refusal
-  pub refuses : (answer : Answer) → (answer ≡ Done → ⊥) → Listed (refusing answer) → ⊥
-  pub refuses-streams : (answer : Answer) → (answer ≡ Done → ⊥) → Listed (withStreams (refusingStreams answer)) → ⊥
+  -- refusing always breaks the listed conditions, whatever the refusals are and whatever they leave
+  pub refuses : (m : Model) → ((set : ℕ) (K N A P out tag : List ℕ) → m .seal set K N A P out tag .outcome .answer ≡ Done → ⊥) → Listed m → ⊥
+  pub refuses-streams : (m : Model) → ((d : Direction) (set : ℕ) (K N : List ℕ) → m .streams .start d set K N .answer ≡ Done → ⊥) → Listed m → ⊥
   -- the same done answer always breaks the second demand, whatever it is
   pub answers-same : (sealing : SealLeaves) (opening : OpenLeaves) → sealing .outcome .answer ≡ Done → Second (constant sealing opening) → ⊥
   pub copies : Second copying → ⊥
   pub copies-later : Third (withStreams laterCopied) → ⊥
   pub ends-early : Third (withStreams emptyEnds) → ⊥
-  -- made-up rounds break the contract of whole messages, and the sum of the third demand
-  pub makes-up : (n : ℕ) → Keeps (madeUp n) → ⊥
+  -- the same rounds always break the contract of whole messages, and rounds by the kind of the call the sum of the third demand
+  pub makes-up : (m : Model) (n : ℕ) → ((set : ℕ) (K N A P out tag : List ℕ) → m .seal set K N A P out tag .outcome .rounds ≡ n) → Keeps m → ⊥
   pub makes-up-streams : (start piece text finish : ℕ) → Third (withStreams (madeUpStreams start piece text finish)) → ⊥

@@ -17,6 +17,7 @@ use Rattle.timing.proofs as timing
 use Rattle.sets.proofs as sets
 use Rattle.sponge.proofs as sponge
 use Rattle.stream.proofs as stream
+use Rattle.message.proofs as message
 use Rattle.gateway.proofs as gateway
 use Rattle.digits.proofs as digits
 use Rattle.judge.proofs as judge
@@ -85,6 +86,21 @@ pub record Wrong : Type 0 where
   pub ended-set : Never stream.Stream.ended.Reads.Post tt (record { words = zeros 5; set = 2; direction = Sealing; phase = Ended; key = zeros 16; ad = 0; text = 0; place = 0 })
   -- the ended state is not broken: 7 and not 8
   pub finish-checking-ended : Never stream.Stream.finish_checking.Reads.Post (ended, (lent [], tt)) (record { answer = BrokenState; rounds = 0; next = ended })
+  -- a refused piece of text does not touch the place
+  pub seal-piece-refused : NeverLeaves stream.Stream.seal.Reads.Post (ended, (lent [], (lent (0 ∷ []), tt))) (record { answer = OutOfPhase; rounds = 0; next = ended })
+      (ended, (lent [], (lent (1 ∷ []), tt)))
+  -- a refused sealing does not touch the place of the ciphertext
+  pub seal-refused : NeverLeaves message.seal.Reads.Post (3, (lent [], (lent [], (lent [], (lent [], (lent (0 ∷ []), (lent [], tt)))))))
+      (record { answer = UnknownSet; rounds = 0 })
+      (3, (lent [], (lent [], (lent [], (lent [], (lent (1 ∷ []), (lent [], tt)))))))
+  -- a done one does not touch what lies beyond the text
+  pub seal-beyond : NeverLeaves message.seal.Reads.Post (1, (lent (zeros 16), (lent (zeros 16), (lent [], (lent [], (lent (0 ∷ []), (lent (zeros 16), tt)))))))
+      (record { answer = Done; rounds = 24 })
+      (1, (lent (zeros 16), (lent (zeros 16), (lent [], (lent [], (lent (1 ∷ []), (lent (zeros 16), tt)))))))
+  -- a refused opening does not touch the place of the plaintext
+  pub open-refused : NeverLeaves message.«open».Reads.Post (3, (lent [], (lent [], (lent [], (lent [], (lent [], (lent (0 ∷ []), tt)))))))
+      (record { answer = UnknownSet; rounds = 0 })
+      (3, (lent [], (lent [], (lent [], (lent [], (lent [], (lent (1 ∷ []), tt)))))))
   -- an unknown set is the word 1, and not 2
   pub kvistmaur-seal-set : Never gateway.kvistmaur_seal.Reads.Post (3, (lent [], (lent [], (lent [], (lent [], (lent [], (lent [], tt))))))) 2
   -- a key of 15 with a wrong nonce is the word 2, and not 3
