@@ -1,8 +1,8 @@
 -- Hex digits and bytes: each reading undoes its writing, and the other way round. Assumes nothing.
-use mathlib.Core.Path.{_≡_, refl, ap}
+use mathlib.Core.Path.{_≡_, refl, sym, ap}
 use mathlib.Core.Bool.{Bool, true, false, cond, _&&_, false≢true}
 use mathlib.Core.List.{List, [], _∷_}
-use mathlib.Core.Option.{Option, some, none}
+use mathlib.Core.Option.{Option, some, none, Option·none-ne-some, Option·some-injective}
 use Prim.Native.Nat.{ℕ, _+_, _-_, _*_, _/_, _%_, _≤_, _<_}
 use native.Mathlib.Omega.{arith}
 use lib.Dec.{leb, ltb}
@@ -76,8 +76,8 @@ bytes-hex (b ∷ x) e =
 
 -- what a text is read as are bytes, and their digits are this text
 pub hex-bytes : (text x : List ℕ) → bytesOf text ≡ some x → (hexOf x ≡ text) × (areBytes x ≡ true)
-hex-bytes [] x e = let f : x ≡ [] = cc in rw f (refl, refl)
-hex-bytes (one ∷ []) x e = let z : _≡_ {A = ℕ} 0 1 = cc in absurd (omega arith)
+hex-bytes [] x e = let f : x ≡ [] = sym (Option·some-injective [] x e) in rw f (refl, refl)
+hex-bytes (one ∷ []) x e = absurd (Option·none-ne-some x e)
 hex-bytes (high ∷ low ∷ text) x e = go (digitOf high) (digitOf low) (bytesOf text) refl refl refl e (hex-bytes text)
   where
     go : (p q : Digit) (r : Option (List ℕ)) → digitOf high ≡ p → digitOf low ≡ q → bytesOf text ≡ r → andThen (pairOf p q) r ≡ some x
@@ -89,11 +89,11 @@ hex-bytes (high ∷ low ∷ text) x e = go (digitOf high) (digitOf low) (bytesOf
         let u = rest y h in
         let i : (16 * a + b) / 16 ≡ a = omega arith in
         let j : (16 * a + b) % 16 ≡ b = omega arith in
-        let k : x ≡ (16 * a + b) ∷ y = cc in
+        let k : x ≡ (16 * a + b) ∷ y = sym (Option·some-injective _ x e) in
         rw (k, lt-ltb (16 * a + b) 256 (omega arith)) (cc, u .1)
-    go (Value a) (Value b) none f g h e rest = let z : _≡_ {A = ℕ} 0 1 = cc in absurd (omega arith)
-    go (Value a) NoDigit r f g h e rest = let z : _≡_ {A = ℕ} 0 1 = cc in absurd (omega arith)
-    go NoDigit q r f g h e rest = let z : _≡_ {A = ℕ} 0 1 = cc in absurd (omega arith)
+    go (Value a) (Value b) none f g h e rest = absurd (Option·none-ne-some x e)
+    go (Value a) NoDigit r f g h e rest = absurd (Option·none-ne-some x e)
+    go NoDigit q r f g h e rest = absurd (Option·none-ne-some x e)
 
 -- two digits a byte
 pub length-hex : (x : List ℕ) → length (hexOf x) ≡ 2 * length x
