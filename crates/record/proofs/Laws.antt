@@ -28,6 +28,10 @@ use Rattle.record.proofs.Windows.{reach-begun, begins-reach, reach-appe
 
 -- ---- how a reading ended
 
+-- no answer is both 0 and 10
+done-broken : Done ≡ BrokenRecord → ⊥
+done-broken e = let z : _≡_ {A = ℕ} 0 1 = cc in absurd (omega arith)
+
 -- a reading that answers 0 read all lines
 all-read : (text : List ℕ) → readCall text .answer ≡ Done → (s : Line) × (reach 8 text ≡ some s)
 unfolding refusedAt
@@ -35,7 +39,7 @@ all-read text d = go (outcome text)
   where
     go : Outcome text → (s : Line) × (reach 8 text ≡ some s)
     go (whole s e) = (s, e)
-    go (stopped n s h e f) = let z : _≡_ {A = ℕ} 0 1 = cc (read-stopped n text s h e f) in absurd (omega arith)
+    go (stopped n s h e f) = absurd (done-broken (sym d ∙ ap (λ (r : Reading). r .answer) (read-stopped n text s h e f)))
 
 -- a record that is read has a byte or more, and no more than its text
 pub taken-inside : (text : List ℕ) → readCall text .answer ≡ Done → (1 ≤ readCall text .taken) × (readCall text .taken ≤ length text)
@@ -155,7 +159,7 @@ unfolding refusedAt
 first-line text d = go (outcome text)
   where
     go : Outcome text → (1 ≤ readCall text .line) × (readCall text .line ≤ 8) × Begun (readCall text .line - 1) text × (Begun (readCall text .line) text → ⊥)
-    go (whole s e) = let z : _≡_ {A = ℕ} 0 1 = cc (read-whole text s e) in absurd (omega arith)
+    go (whole s e) = absurd (done-broken (sym (ap (λ (r : Reading). r .answer) (read-whole text s e)) ∙ d))
     go (stopped n s h e f) =
         let k : suc n - 1 ≡ n = omega arith in
         rw (read-stopped n text s h e f, k) (

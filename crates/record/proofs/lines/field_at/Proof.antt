@@ -1,9 +1,12 @@
 -- `record::lines::field_at` meets its contract. Assumes nothing.
 use mathlib.Core.Path.{_≡_, refl, sym, _∙_}
-use Prim.Native.Nat.{ℕ, zero, suc, _-_}
-use native.Mathlib.Omega.{arith}
-use lib.ListN.{getD, length-map}
+use mathlib.Core.Bool.{Bool, true, false}
 use mathlib.Core.List.{[], _∷_}
+use Prim.Native.Nat.{ℕ, _-_, _≤_}
+use native.Mathlib.Omega.{arith}
+use lib.Dec.{leb}
+use lib.ListN.{length-map, List·getD-eq-default}
+use borrow.Author.Tests.{leb-true, leb-false}
 use Rattle.record.specs.declared.lines.Record.{Record}
 use Rattle.record.specs.Form.{fieldAt}
 use Rattle.record.proofs.lines.field_at.Statement.{statement}
@@ -11,16 +14,15 @@ use Rattle.record.proofs.lines.field_at.Tie as tie
 
 -- any other line stands for the key's
 other : (line : ℕ) (r : Record) → (line ≡ 3 → ⊥) → (line ≡ 4 → ⊥) → (line ≡ 5 → ⊥) → (line ≡ 6 → ⊥) → (line ≡ 7 → ⊥) → r .key ≡ fieldAt line r
-other line r h3 h4 h5 h6 h7 = go (line - 2) refl
+other line r h3 h4 h5 h6 h7 = go (leb line 2) refl
   where
-    go : (i : ℕ) → line - 2 ≡ i → r .key ≡ getD (r .key ∷ r .nonce ∷ r .ad ∷ r .text ∷ r .cipher ∷ r .tag ∷ []) i (r .key)
-    go zero e = refl
-    go (suc zero) e = absurd (h3 (omega arith))
-    go (suc (suc zero)) e = absurd (h4 (omega arith))
-    go (suc (suc (suc zero))) e = absurd (h5 (omega arith))
-    go (suc (suc (suc (suc zero)))) e = absurd (h6 (omega arith))
-    go (suc (suc (suc (suc (suc zero))))) e = absurd (h7 (omega arith))
-    go (suc (suc (suc (suc (suc (suc i)))))) e = refl
+    go : (t : Bool) → leb line 2 ≡ t → r .key ≡ fieldAt line r
+    go true e =
+        let first : line - 2 ≡ 0 = omega (arith, leb-true line 2 e) in
+        rw first
+    go false e =
+        let past : 6 ≤ line - 2 = omega (arith, leb-false line 2 e) in
+        sym (List·getD-eq-default (r .key ∷ r .nonce ∷ r .ad ∷ r .text ∷ r .cipher ∷ r .tag ∷ []) (r .key) past)
 
 returns : tie.Need-returns
 returns c = (rw (c .before .match .keys1), sym (length-map (c .before .before .args .entry .nonce .bytes) (λ (v : ℕ). v)) ∙ c .before .before .good .1 .0 .1 .1 .1 .1 .0 .1 .1 .0 .1 .0 .1)
