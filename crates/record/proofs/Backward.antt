@@ -1,8 +1,8 @@
 -- Lines that are read stand in the record after them as they were written. Assumes nothing.
-use mathlib.Core.Path.{_≡_, refl, ap, _∙_}
+use mathlib.Core.Path.{_≡_, refl, sym, ap, _∙_}
 use mathlib.Core.Bool.{Bool, true, false}
 use mathlib.Core.List.{List, _++_, append-assoc}
-use mathlib.Core.Option.{Option, some, none}
+use mathlib.Core.Option.{Option, some, none, Option·none-ne-some, Option·some-injective}
 use Prim.Native.Nat.{ℕ, zero, suc, _+_, _≤_, _<_}
 use native.Mathlib.Omega.{arith}
 use lib.Dec.{ltb}
@@ -49,16 +49,16 @@ far-more k text s l f p =
 -- lines that are read were written so
 pub reach-far : (k : ℕ) → k ≤ 8 → (text : List ℕ) (s : Line) → reach k text ≡ some s → Far k text s
 reach-far zero h text s e =
-    let p : s ≡ record { next = blank; size = 0 } = cc in
+    let p : s ≡ record { next = blank; size = 0 } = sym (Option·some-injective _ s e) in
     rw p (record { typed = typed-blank; rule = λ m a b. absurd (omega arith); size = refl; there = refl })
 reach-far (suc k) h text s e = go (reach k text) refl e (λ t f. reach-far k (omega arith) text t f)
   where
     next : (t : Line) (o : Option Line) → lineRead (suc k) (t .next) (drop (t .size) text) ≡ o → onward t o ≡ some s → Far k text t → Far (suc k) text s
-    next t none g e f = let z : _≡_ {A = ℕ} 0 1 = cc in absurd (omega arith)
+    next t none g e f = absurd (Option·none-ne-some s e)
     next t (some l) g e f =
-        let p : s ≡ record { next = l .next; size = t .size + l .size } = cc in
+        let p : s ≡ record { next = l .next; size = t .size + l .size } = sym (Option·some-injective _ s e) in
         rw p (far-more k text t l f (line-passed (suc k) (omega arith) h (t .next) (drop (t .size) text) l g))
 
     go : (o : Option Line) → reach k text ≡ o → stepped (suc k) text o ≡ some s → ((t : Line) → reach k text ≡ some t → Far k text t) → Far (suc k) text s
-    go none f e rest = let z : _≡_ {A = ℕ} 0 1 = cc in absurd (omega arith)
+    go none f e rest = absurd (Option·none-ne-some s e)
     go (some t) f e rest = next t (lineRead (suc k) (t .next) (drop (t .size) text)) refl e (rest t f)

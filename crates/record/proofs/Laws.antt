@@ -3,7 +3,7 @@ use mathlib.Core.Path.{_≡_, refl, sym, ap, _∙_}
 use mathlib.Core.Bool.{Bool, true, false, cond}
 use mathlib.Core.List.{List, _++_}
 use mathlib.Core.Logic.{_↔_, _⊎_, inl, inr}
-use mathlib.Core.Option.{some}
+use mathlib.Core.Option.{some, Option·none-ne-some}
 use Prim.Native.Nat.{ℕ, suc, _-_, _≤_}
 use native.Mathlib.Omega.{arith}
 use lib.Dec.{eqb, leb}
@@ -168,8 +168,7 @@ first-line text d = go (outcome text)
           reach-begun n (omega arith) text s e,
           λ (b : Begun (suc n) text).
               let g = begins-reach (suc n) (omega arith) (b .entry) (b .typed) (b .in-form) text (b .there) in
-              let z : _≡_ {A = ℕ} 0 1 = cc in
-              absurd (omega arith),
+              absurd (Option·none-ne-some _ (sym f ∙ g)),
         )
 
 -- ---- what does not matter

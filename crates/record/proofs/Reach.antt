@@ -1,7 +1,7 @@
 -- Reading as far as a line, and what the whole reading answers then. Assumes nothing.
 use mathlib.Core.Path.{_≡_, refl, sym, ap, _∙_}
 use mathlib.Core.List.{List}
-use mathlib.Core.Option.{Option, some, none}
+use mathlib.Core.Option.{Option, some, none, Option·none-ne-some, Option·some-ne-none, Option·some-injective}
 use Prim.Native.Nat.{ℕ, zero, suc, _+_, _-_, _<_}
 use native.Mathlib.Numerals.{add-one}
 use native.Mathlib.Omega.{arith}
@@ -31,22 +31,22 @@ reach (suc k) text = stepped (suc k) text (reach k text)
 read-at : (k more : ℕ) (text : List ℕ) (s : Line) → more + k ≡ 8 → reach k text ≡ some s → readCall text ≡ readFrom more (suc k) (s .size) (s .next) text
 unfolding readCall
 read-at zero more text s h e =
-    let p : s ≡ record { next = blank; size = 0 } = cc in
+    let p : s ≡ record { next = blank; size = 0 } = sym (Option·some-injective _ s e) in
     let q : more ≡ 8 = omega arith in
     rw (p, q)
 read-at (suc k) more text s h e = go (reach k text) refl e (λ t f. read-at k (suc more) text t (omega arith) f)
   where
     next : (t : Line) (o : Option Line) → lineRead (suc k) (t .next) (drop (t .size) text) ≡ o → onward t o ≡ some s
         → readCall text ≡ readFrom (suc more) (suc k) (t .size) (t .next) text → readCall text ≡ readFrom more (suc (suc k)) (s .size) (s .next) text
-    next t none g e rest = let z : _≡_ {A = ℕ} 0 1 = cc in absurd (omega arith)
+    next t none g e rest = absurd (Option·none-ne-some s e)
     next t (some l) g e rest =
-        let p : s ≡ record { next = l .next; size = t .size + l .size } = cc in
+        let p : s ≡ record { next = l .next; size = t .size + l .size } = sym (Option·some-injective _ s e) in
         rest ∙ rw (g, add-one (suc k), p)
 
     go : (o : Option Line) → reach k text ≡ o → stepped (suc k) text o ≡ some s
         → ((t : Line) → reach k text ≡ some t → readCall text ≡ readFrom (suc more) (suc k) (t .size) (t .next) text)
         → readCall text ≡ readFrom more (suc (suc k)) (s .size) (s .next) text
-    go none f e rest = let z : _≡_ {A = ℕ} 0 1 = cc in absurd (omega arith)
+    go none f e rest = absurd (Option·none-ne-some s e)
     go (some t) f e rest = next t (lineRead (suc k) (t .next) (drop (t .size) text)) refl e (rest t f)
 
 -- where all lines can be read, the record after them is
@@ -60,7 +60,7 @@ read-stopped n text s h e f =
   where
     none-onward : (o : Option Line) → onward s o ≡ none → o ≡ none
     none-onward none g = refl
-    none-onward (some l) g = let z : _≡_ {A = ℕ} 0 1 = cc in absurd (omega arith)
+    none-onward (some l) g = absurd (Option·some-ne-none _ g)
 
 -- ---- how a reading ends
 

@@ -2,7 +2,7 @@
 use mathlib.Core.Path.{_≡_, refl, sym, ap, _∙_}
 use mathlib.Core.Bool.{Bool, true, false, cond, _&&_}
 use mathlib.Core.List.{List, [], _∷_, _++_, append-assoc}
-use mathlib.Core.Option.{Option, some, none}
+use mathlib.Core.Option.{Option, some, none, Option·none-ne-some, Option·some-injective}
 use Prim.Native.Nat.{ℕ, suc, _+_, _≤_, _<_}
 use native.Mathlib.Omega.{arith}
 use lib.Dec.{eqb}
@@ -87,9 +87,9 @@ line-passed line h m r text l = go (begins (name line) text && eqb (getD text (l
 
     found : (o : Option Record) (rest : List ℕ) → text ≡ name line ++ (digits ++ 0x0a ∷ rest) → valueRead line r digits ≡ o
         → sized (length (name line) + length digits + 1) o ≡ some l → Passed line r text l
-    found none rest t v e = let z : _≡_ {A = ℕ} 0 1 = cc in absurd (omega arith)
+    found none rest t v e = absurd (Option·none-ne-some l e)
     found (some s) rest t v e =
-        let p : l ≡ record { next = s; size = length (name line) + length digits + 1 } = cc in
+        let p : l ≡ record { next = s; size = length (name line) + length digits + 1 } = sym (Option·some-injective _ l e) in
         let f : Follows line digits r s = value-follows line h m digits r s v in
         let n : length (name line) + length digits + 1 ≡ length (lineText line s) = sym (line-length line s ∙ rw (f .spelled)) in
         let whole : text ≡ lineText line s ++ rest = t ∙ sym (line-parts line s rest ∙ rw (f .spelled)) in
@@ -105,4 +105,4 @@ line-passed line h m r text l = go (begins (name line) text && eqb (getD text (l
     go : (t : Bool) → (begins (name line) text && eqb (getD text (length (name line) + length digits) 0) 0x0a) ≡ t
         → cond t (sized (length (name line) + length digits + 1) (valueRead line r digits)) none ≡ some l → Passed line r text l
     go true t e = let d = digits-parts (name line) text t in found (valueRead line r digits) (d .0) (d .1) refl e
-    go false t e = let z : _≡_ {A = ℕ} 0 1 = cc in absurd (omega arith)
+    go false t e = absurd (Option·none-ne-some l e)

@@ -1,8 +1,8 @@
 -- What stands behind a line's name: what was written is read, and what was read is written. Assumes nothing.
-use mathlib.Core.Path.{_≡_, refl}
+use mathlib.Core.Path.{_≡_, refl, sym}
 use mathlib.Core.Bool.{Bool, true, false, cond}
 use mathlib.Core.List.{List}
-use mathlib.Core.Option.{Option, some, none}
+use mathlib.Core.Option.{Option, some, none, Option·none-ne-some, Option·some-injective}
 use Prim.Native.Nat.{ℕ, _≤_, _<_}
 use native.Mathlib.Omega.{arith}
 use lib.Dec.{leb}
@@ -66,12 +66,12 @@ pub record Follows (line : ℕ) (digits : List ℕ) (r s : Record) : Type 0 wher
 
 -- a record is read from another only where the line then keeps its rule
 kept-rule : (line : ℕ) (o : Option Record) (s : Record) → kept line o ≡ some s → (o ≡ some s) × (keeps line s ≡ true)
-kept-rule line none s e = let z : _≡_ {A = ℕ} 0 1 = cc in absurd (omega arith)
+kept-rule line none s e = absurd (Option·none-ne-some s e)
 kept-rule line (some r) s e = go (keeps line r) refl e
   where
     go : (t : Bool) → keeps line r ≡ t → cond t (some r) none ≡ some s → (some r ≡ some s) × (keeps line s ≡ true)
-    go true f e = let p : r ≡ s = cc in (e, rw (← p) f)
-    go false f e = let z : _≡_ {A = ℕ} 0 1 = cc in absurd (omega arith)
+    go true f e = let p : r ≡ s = Option·some-injective r s e in (e, rw (← p) f)
+    go false f e = absurd (Option·none-ne-some s e)
 
 -- a number was read
 number-follows : (line : ℕ) → 1 ≤ line → line ≤ 8 → isNumber line ≡ true → (digits : List ℕ) (r s : Record) → numbered line r (numberOf digits) ≡ some s
@@ -81,14 +81,14 @@ number-follows line l m t digits r s = go (numberOf digits) refl
   where
     go : (n : Numeral) → numberOf digits ≡ n → numbered line r n ≡ some s → keeps line s ≡ true → Follows line digits r s
     go (Number n) f e k =
-        let p : s ≡ withNumber line n r = cc in
+        let p : s ≡ withNumber line n r = sym (Option·some-injective _ s e) in
         record {
           spelled = rw (t, p, number-there line l m t n r) (number-numeral digits n f .0);
           rule = k;
           typed = λ y. rw p (typed-number line n r y);
           before = λ i h j. rw p (number-before i h (omega arith) line n r j);
         }
-    go NoNumber f e k = let z : _≡_ {A = ℕ} 0 1 = cc in absurd (omega arith)
+    go NoNumber f e k = absurd (Option·none-ne-some s e)
 
 -- bytes were read
 field-follows : (line : ℕ) → 1 ≤ line → line ≤ 8 → isNumber line ≡ false → (digits : List ℕ) (r s : Record) → filled line r (fitted (bytesOf digits)) ≡ some s
@@ -98,7 +98,7 @@ field-follows line l m t digits r s = go (bytesOf digits) refl
   where
     fits : (x : List ℕ) (u : Bool) → leb (length x) 256 ≡ u → bytesOf digits ≡ some x → filled line r (cond u (some (fieldOf x)) none) ≡ some s → keeps line s ≡ true → Follows line digits r s
     fits x true u f e k =
-        let p : s ≡ withField line (fieldOf x) r = cc in
+        let p : s ≡ withField line (fieldOf x) r = sym (Option·some-injective _ s e) in
         let b = hex-bytes digits x f in
         record {
           spelled = rw (t, p, field-there line l m t (fieldOf x) r, held-field x) (b .0);
@@ -106,11 +106,11 @@ field-follows line l m t digits r s = go (bytesOf digits) refl
           typed = λ y. rw p (typed-field line (fieldOf x) r (whole-field x (leb-true (length x) 256 u) (b .1)) y);
           before = λ i h j. rw p (field-before i h (omega arith) line (fieldOf x) r j);
         }
-    fits x false u f e k = let z : _≡_ {A = ℕ} 0 1 = cc in absurd (omega arith)
+    fits x false u f e k = absurd (Option·none-ne-some s e)
 
     go : (o : Option (List ℕ)) → bytesOf digits ≡ o → filled line r (fitted o) ≡ some s → keeps line s ≡ true → Follows line digits r s
     go (some x) f e k = fits x (leb (length x) 256) refl f e k
-    go none f e k = let z : _≡_ {A = ℕ} 0 1 = cc in absurd (omega arith)
+    go none f e k = absurd (Option·none-ne-some s e)
 
 -- digits that are read are the value of the record then
 pub value-follows : (line : ℕ) → 1 ≤ line → line ≤ 8 → (digits : List ℕ) (r s : Record) → valueRead line r digits ≡ some s → Follows line digits r s

@@ -2,7 +2,7 @@
 use mathlib.Core.Path.{_≡_, refl, sym, _∙_}
 use mathlib.Core.Bool.{true}
 use mathlib.Core.List.{List, _++_}
-use mathlib.Core.Option.{Option, some, none}
+use mathlib.Core.Option.{Option, some, none, Option·none-ne-some}
 use Prim.Native.Nat.{ℕ, _≤_}
 use native.Mathlib.Omega.{arith}
 use lib.ListN.{length, take, drop, take-append-drop}
@@ -53,8 +53,7 @@ reach-take k h n w text = go (reach k text) refl
     other none e f = refl
     other (some s) e f =
         let g : reach k text ≡ some s = rw (take-append-drop n text) at (reach-append k h (take n text) (drop n text) s f) in
-        let z : _≡_ {A = ℕ} 0 1 = cc in
-        absurd (omega arith)
+        absurd (Option·none-ne-some s (sym e ∙ g))
 
     go : (o : Option Line) → reach k text ≡ o → reach k (take n text) ≡ o
     go (some s) e =
