@@ -18,8 +18,13 @@ use Rattle.stream.specs.Calls.{startTest, pieceTest, finishTest, finishChecking
 use Rattle.stream.specs.Calls as streamed
 use Rattle.message.specs.Message.{messageTest, SealLeaves, sealCall, OpenLeaves, openCall}
 use Rattle.digits.specs.Hex.{digitOf, hexDigit}
-use Rattle.digits.specs.Numbers.{places, numeral}
+use Rattle.digits.specs.Numbers.{isNumeral, places, numeral}
+use Rattle.digits.specs.Numbers as decimal
 use Rattle.digits.specs.Room.{lineOf, Laid, put}
+use Rattle.record.specs.declared.reading.Reading.{Reading}
+use Rattle.record.specs.Form.{fieldOf, isField, withNumber, keeps, broken}
+use Rattle.record.specs.Text.{names, name}
+use Rattle.record.specs.Calls.{begins, valueRead, lineRead, refusedAt, readCall}
 use Rattle.judge.specs.Reports.{recordLine, verdictLine, fieldLine, reportText, ReportLeaves, reportCall}
 use Rattle.letter.specs.Wrong.{Wrong}
 
@@ -28,7 +33,7 @@ off : _≡_ {A = ℕ} 0 1 → ⊥
 off e = omega (arith, e)
 
 pub wrong : Wrong
-unfolding sealed encrypted pad count beforeText isSet rowOf table roundsOf constantsOf constants permuteCall dataClosed separate started initialise firstBlock p permute rounds round diffuse Σ₀ Σ₁ Σ₂ Σ₃ Σ₄ _⋙_ substitute substituted column fromBits bit sBox addConstant stringOf stateOf bytesOf numberOf sixteenOf givenTag sameTag isSound isSoundEnded startTest pieceTest finishTest streamed.sealCall finishCheckingCall messageTest sealCall openCall digitOf hexDigit places numeral lineOf put recordLine verdictLine fieldLine reportText reportCall
+unfolding readCall lineRead begins refusedAt valueRead name names withNumber keeps decimal.numberOf isNumeral broken isField fieldOf sealed encrypted pad count beforeText isSet rowOf table roundsOf constantsOf constants permuteCall dataClosed separate started initialise firstBlock p permute rounds round diffuse Σ₀ Σ₁ Σ₂ Σ₃ Σ₄ _⋙_ substitute substituted column fromBits bit sBox addConstant stringOf stateOf bytesOf numberOf sixteenOf givenTag sameTag isSound isSoundEnded startTest pieceTest finishTest streamed.sealCall finishCheckingCall messageTest sealCall openCall digitOf hexDigit places numeral lineOf put recordLine verdictLine fieldLine reportText reportCall
 wrong = record {
   number-done = λ κ e p. off (cc p);
   is-done-differs = λ κ e p. off (cc p);
@@ -77,5 +82,7 @@ wrong = record {
   number-length-nought = λ κ e p. off (cc p);
   put-number-ten = λ κ p. let first : _≡_ {A = ℕ} 0x30 0x31 = ap (λ (x : Laid). getD (x .place) 0 0) p in absurd (omega arith);
   put-number-room = λ κ e p. off (cc (ap (λ (x : Laid). x .count) p));
+  read-feed = λ κ e p. let line : _≡_ {A = ℕ} 2 1 = ap (λ (x : Reading). x .line) p in absurd (omega arith);
+  first-broken-past = λ κ e p. off (cc p);
   report-room = λ κ e p. off (cc (ap (λ (x : ReportLeaves). x .outcome .answer) p));
 }

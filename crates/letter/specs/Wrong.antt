@@ -3,7 +3,7 @@ use mathlib.Core.Bool.{true, false}
 use mathlib.Core.List.{List, [], _∷_}
 use Prim.Native.Nat.{ℕ}
 use lib.ListN.{replicate}
-use Rattle.answers.specs.declared.Answer.the-variants.{Done, UnknownSet, KeyLength, NonceLength, TagLength, OutOfPhase, BrokenState, TagDiffers}
+use Rattle.answers.specs.declared.Answer.the-variants.{Done, UnknownSet, KeyLength, NonceLength, TagLength, OutOfPhase, BrokenState, TagDiffers, BrokenRecord}
 use Rattle.permutation.specs.declared.Run.the-variants.{Twelve, FirstEight}
 use Rattle.ascon.specs.Mode.{zeros}
 use Rattle.stream.specs.declared.Direction.the-variants.{Sealing}
@@ -11,6 +11,7 @@ use Rattle.stream.specs.declared.Phase.the-variants.{Data, Ended}
 use Rattle.stream.specs.State.{ended}
 use Rattle.digits.specs.declared.hex.Digit.the-variants.{Value}
 use Rattle.digits.specs.declared.hex.Pair.the-variants.{Byte, NoByte}
+use Rattle.record.specs.Form.{fieldOf, blank}
 use Rattle.judge.specs.declared.verdict.Verdict.the-variants.{Equal}
 use Rattle.answers.proofs as answers
 use Rattle.timing.proofs as timing
@@ -20,6 +21,7 @@ use Rattle.stream.proofs as stream
 use Rattle.message.proofs as message
 use Rattle.gateway.proofs as gateway
 use Rattle.digits.proofs as digits
+use Rattle.record.proofs as record-crate
 use Rattle.judge.proofs as judge
 use Rattle.letter.specs.Model.{lent}
 
@@ -133,5 +135,23 @@ pub record Wrong : Type 0 where
   pub put-number-ten : NeverLeaves digits.put_number.Reads.Post (10, (lent (zeros 2), tt)) 2 (10, (lent (0x30 ∷ 0x31 ∷ []), tt))
   -- nor by one digit
   pub put-number-room : Never digits.put_number.Reads.Post (10, (lent (zeros 1), tt)) 1
+  -- a line that has no line feed is broken itself, and not the next one
+  pub read-feed : Never record-crate.read.Reads.Post (lent (0x73 ∷ 0x65 ∷ 0x74 ∷ 0x3d ∷ 0x31 ∷ []), tt)
+      (record { answer = BrokenRecord; line = 2; taken = 0; content = blank })
+  -- a record with a byte past a field's length is not in form
+  pub first-broken-past : Never record-crate.first_broken.Reads.Post (
+    record {
+      set = 1;
+      key = fieldOf (zeros 16);
+      nonce = fieldOf (zeros 16);
+      ad = record { bytes = 1 ∷ zeros 255; size = 0 };
+      text = fieldOf [];
+      cipher = fieldOf [];
+      tag = fieldOf (zeros 16);
+      rounds = 24;
+    },
+    tt,
+  )
+      0
   -- a report without room is not done
   pub report-room : Never judge.report.Reads.Post (1, (Equal, (lent [], tt))) (record { answer = Done; written = 0 })
