@@ -1,5 +1,4 @@
 -- Laws of judging.
-pub mod Lengths
 pub mod Tails
 pub mod Verdicts
 pub mod Windows

@@ -12,7 +12,7 @@ use Rattle.answers.specs.Numbers.{isDone}
 use Rattle.answers.proofs.Numbers.{done-is}
 use Rattle.record.specs.Calls.{readCall}
 use Rattle.record.proofs.Laws.{taken-inside}
-use Rattle.judge.specs.Reports.{reportText}
+use Rattle.report.specs.Reports.{reportText}
 use Rattle.judge.specs.Steps.{verdictRead, outputIn, outputFrom}
 
 -- the output of no input is nothing

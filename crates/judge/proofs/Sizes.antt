@@ -13,8 +13,8 @@ use Rattle.answers.proofs.Numbers.{done-is}
 use Rattle.record.specs.Calls.{readCall}
 use Rattle.record.specs.Text.{mostBytes}
 use Rattle.record.proofs.Laws.{taken-inside}
+use Rattle.report.specs.Reports.{reportText, reportLeaves, reportCall}
 use Rattle.judge.specs.declared.stepping.Step.the-variants.{Judged, Stopped, Wait, End, Short}
-use Rattle.judge.specs.Reports.{reportText, reportLeaves, reportCall}
 use Rattle.judge.specs.Steps.{verdictRead, isFinal, StepLeaves, stepLeaves, stepBy, reported, stepCall, takenBy, writtenBy}
 
 -- a step in its window and its place

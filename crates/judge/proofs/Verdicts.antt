@@ -7,7 +7,7 @@ use lib.Dec.{eqb}
 use borrow.Author.Tests.{eqb-true, eq-eqb}
 use Rattle.record.specs.declared.lines.Record.{Record}
 use Rattle.record.specs.Form.{held, broken}
-use Rattle.judge.specs.declared.verdict.Verdict.the-variants.{Equal, Rounds, Cipher, Tag, Unread}
+use Rattle.report.specs.declared.Verdict.the-variants.{Equal, Rounds, Cipher, Tag, Unread}
 use Rattle.judge.specs.Tail.{agree}
 use Rattle.judge.specs.Verdicts.{sealing, rounds, compared, verdictOn}
 use Rattle.judge.specs.Laws.{Agrees}

@@ -13,8 +13,8 @@ use Rattle.answers.proofs.Numbers.{done-is}
 use Rattle.record.specs.Calls.{readCall}
 use Rattle.record.specs.Text.{mostBytes}
 use Rattle.record.proofs.Laws.{reads-and-writes}
+use Rattle.report.specs.Reports.{reportText, reportCall}
 use Rattle.judge.specs.declared.stepping.Step.the-variants.{Judged, Stopped}
-use Rattle.judge.specs.Reports.{reportText, reportCall}
 use Rattle.judge.specs.Steps.{verdictRead, isFinal, stepLeaves, stepBy, reported, stepCall}
 
 -- a beginning of the input that is a final window is read as the input is

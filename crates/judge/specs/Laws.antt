@@ -11,11 +11,11 @@ use Rattle.record.specs.declared.lines.Record.{Record}
 use Rattle.record.specs.Form.{held, broken}
 use Rattle.record.specs.Calls.{readCall}
 use Rattle.record.specs.Text.{mostBytes}
-use Rattle.judge.specs.declared.verdict.Verdict.the-variants.{Equal}
+use Rattle.report.specs.declared.Verdict.the-variants.{Equal}
+use Rattle.report.specs.Reports.{reportText}
 use Rattle.judge.specs.declared.stepping.Step.the-variants.{Judged, Stopped, Wait}
 use Rattle.judge.specs.Tail.{tailOf}
 use Rattle.judge.specs.Verdicts.{sealing, rounds, verdictOn}
-use Rattle.judge.specs.Reports.{reportText}
 use Rattle.judge.specs.Steps.{verdictRead, isFinal, stepLeaves, stepCall, takenBy, writtenBy, outputFrom}
 
 -- a record's rounds, cipher and tag agree with our own sealing, by the rules' meaning of equal

@@ -1,6 +1,5 @@
--- Judging records, and the report on them.
+-- Judging records.
 pub mod Tail
 pub mod Verdicts
-pub mod Reports
 pub mod Steps
 pub mod Laws

@@ -8,12 +8,12 @@ use Rattle.answers.specs.Numbers.{isDone}
 use Rattle.record.specs.declared.reading.Reading.{Reading}
 use Rattle.record.specs.Calls.{readCall}
 use Rattle.record.specs.Text.{mostBytes}
-use Rattle.judge.specs.declared.verdict.Verdict.{Verdict}
-use Rattle.judge.specs.declared.verdict.Verdict.the-variants.{Unread}
+use Rattle.report.specs.declared.Verdict.{Verdict}
+use Rattle.report.specs.declared.Verdict.the-variants.{Unread}
+use Rattle.report.specs.Reports.{reportText, ReportLeaves, reportCall}
 use Rattle.judge.specs.declared.stepping.Step.{Step}
 use Rattle.judge.specs.declared.stepping.Step.the-variants.{Judged, Stopped, Wait, End, Short}
 use Rattle.judge.specs.Verdicts.{verdictOn}
-use Rattle.judge.specs.Reports.{reportText, ReportLeaves, reportCall}
 
 -- the verdict on what was read
 unfoldable pub verdictRead : Reading → Verdict

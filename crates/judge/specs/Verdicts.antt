@@ -9,8 +9,8 @@ use Rattle.ascon.specs.Mode.{Sealed, sealed}
 use Rattle.ascon.specs.Rounds.{messageRounds}
 use Rattle.record.specs.declared.lines.Record.{Record}
 use Rattle.record.specs.Form.{fieldOf, held, broken}
-use Rattle.judge.specs.declared.verdict.Verdict.{Verdict}
-use Rattle.judge.specs.declared.verdict.Verdict.the-variants.{Equal, Rounds, Cipher, Tag, Unread}
+use Rattle.report.specs.declared.Verdict.{Verdict}
+use Rattle.report.specs.declared.Verdict.the-variants.{Equal, Rounds, Cipher, Tag, Unread}
 use Rattle.judge.specs.declared.verdict.Ours.{Ours}
 use Rattle.judge.specs.Tail.{agree}
 

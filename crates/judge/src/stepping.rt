@@ -1,11 +1,9 @@
 // One step of the program: from a window of the input to a report.
 ghost use mathlib.Core.Path.{_≡_};
 ghost use Rattle.judge.specs.Steps.{verdictRead, stepLeaves, stepCall, reported};
-use crate::reporting;
 use crate::verdict;
-use crate::verdict::Verdict;
-use answers::Answer;
 use record::Reading;
+use report::Verdict;
 
 // What a step does.
 pub enum Step {
@@ -37,7 +35,7 @@ fn verdict_on(reading: Reading) -> Verdict
 fn report_on(reading: Reading, number: u64, place: &mut [u8]) -> Step
     ensures { λ r. ⌜ stepLeaves r (now (place .exit)) ≡ reported reading number (now (place .entry)) ⌝ }
 {
-    let done = reporting::report(number, verdict_on(reading), place);
+    let done = report::report(number, verdict_on(reading), place);
     let answer = done.answer;
     if !answers::is_done(answer) {
         return Step::Short;

@@ -9,15 +9,7 @@ ghost use Rattle.judge.specs.Verdicts.{verdictOn, oursOf, oursBy};
 use crate::tail;
 use record::Field;
 use record::Record;
-
-// What the bench says of a record: all agrees, or the first field that differs, or the first broken line of a record out of form.
-pub enum Verdict {
-    Equal,
-    Rounds,
-    Cipher,
-    Tag,
-    Unread(usize),
-}
+use report::Verdict;
 
 // Our own sealing of a record's text.
 pub struct Ours {

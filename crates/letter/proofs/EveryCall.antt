@@ -13,6 +13,7 @@ use Rattle.message.proofs as message
 use Rattle.gateway.proofs as gateway
 use Rattle.digits.proofs as digits
 use Rattle.record.proofs as record-crate
+use Rattle.report.proofs as report
 use Rattle.judge.proofs as judge
 use Rattle.judge.specs.Tail.{tailOf, endOf}
 use Rattle.letter.specs.EveryCall.{Answered, Lent, sealWord, openWord, partOf, tailPart, EveryCall}
@@ -78,8 +79,8 @@ every-call = record {
   record-first-broken = answered (λ M. record-crate.first_broken.Met.met) (λ κ a. tt) (λ κ a r e p. p);
   record-read = answered (λ M. record-crate.read.Met.met) (λ κ a. tt) (λ κ a r e p. p);
   record-write = answered (λ M. record-crate.write.Met.met) (λ κ a. tt) (λ κ a r e p. p);
+  report-report = answered (λ M. report.report.Met.met) (λ κ a. tt) (λ κ a r e p. p);
   judge-difference-tail = answered (λ M. judge.difference_tail.Met.met) (λ κ a. tt) (λ κ (wanted, (found, _)) r e p. tail-is wanted found r (p .0) (p .1));
   judge-judge = answered (λ M. judge.judge.Met.met) (λ κ a. tt) (λ κ a r e p. p);
-  judge-report = answered (λ M. judge.report.Met.met) (λ κ a. tt) (λ κ a r e p. p);
   judge-judge-window = answered (λ M. judge.judge_window.Met.met) (λ κ a. tt) (λ κ a r e p. p);
 }

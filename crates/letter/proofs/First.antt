@@ -30,13 +30,13 @@ use Rattle.record.specs.Text.{textOf}
 use Rattle.record.specs.Calls.{refusedAt, readCall, WriteLeaves, writeLeaves, writeCall}
 use Rattle.record.specs.Laws.{Begun}
 use Rattle.record.proofs.Laws.{reads-and-writes}
-use Rattle.judge.specs.declared.verdict.Verdict.{Verdict}
-use Rattle.judge.specs.declared.verdict.Verdict.the-variants.{Equal, Rounds, Cipher, Tag, Unread}
+use Rattle.report.specs.declared.Verdict.{Verdict}
+use Rattle.report.specs.declared.Verdict.the-variants.{Equal, Rounds, Cipher, Tag, Unread}
+use Rattle.report.specs.Reports.{reportText, ReportLeaves, reportLeaves, reportCall}
 use Rattle.judge.specs.declared.stepping.Step.{Step}
 use Rattle.judge.specs.declared.stepping.Step.the-variants.{Judged, Stopped, Wait, End, Short}
 use Rattle.judge.specs.Tail.{agree}
 use Rattle.judge.specs.Verdicts.{sealing, rounds, compared, verdictOn}
-use Rattle.judge.specs.Reports.{reportText, ReportLeaves, reportLeaves, reportCall}
 use Rattle.judge.specs.Steps.{verdictRead, isFinal, StepLeaves, stepLeaves, stepBy, reported, stepCall}
 use Rattle.letter.specs.Model.{Model, ours, Keeps}
 use Rattle.letter.specs.First.{pieceFaults, finishFaults, Refused, Listed, Unchanged, Mismatch, First}

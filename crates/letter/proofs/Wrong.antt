@@ -25,7 +25,7 @@ use Rattle.record.specs.declared.reading.Reading.{Reading}
 use Rattle.record.specs.Form.{fieldOf, isField, withNumber, keeps, broken}
 use Rattle.record.specs.Text.{names, name}
 use Rattle.record.specs.Calls.{begins, valueRead, lineRead, refusedAt, readCall}
-use Rattle.judge.specs.Reports.{recordLine, verdictLine, fieldLine, reportText, ReportLeaves, reportCall}
+use Rattle.report.specs.Reports.{recordLine, verdictLine, fieldLine, reportText, ReportLeaves, reportCall}
 use Rattle.letter.specs.Wrong.{Wrong}
 
 -- numbers that differ are not equal

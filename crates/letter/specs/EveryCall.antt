@@ -23,9 +23,9 @@ use Rattle.digits.specs.Numbers as decimals
 use Rattle.digits.specs.Room.{lineOf, laid, put}
 use Rattle.record.specs.Form.{broken}
 use Rattle.record.specs.Calls.{readCall, writeLeaves, writeCall}
+use Rattle.report.specs.Reports.{reportLeaves, reportCall}
 use Rattle.judge.specs.Tail.{tailOf}
 use Rattle.judge.specs.Verdicts.{verdictOn}
-use Rattle.judge.specs.Reports.{reportLeaves, reportCall}
 use Rattle.judge.specs.Steps.{stepLeaves, stepCall}
 use Rattle.answers.proofs as answers
 use Rattle.permutation.proofs as permutation
@@ -37,6 +37,7 @@ use Rattle.message.proofs as message
 use Rattle.gateway.proofs as gateway
 use Rattle.digits.proofs as digits
 use Rattle.record.proofs as record-crate
+use Rattle.report.proofs as report
 use Rattle.judge.proofs as judge
 
 -- a call of which `seen` is all that its caller can see of an outcome: the result, and what each lent place then holds
@@ -184,11 +185,12 @@ pub record EveryCall : Type 2 where
   pub record-read : Answered record-crate.read.Statement.statement record-crate.read.Reads.Asked record-crate.read.Reads.Post (λ r e. r) (λ (text, _). readCall (text .now))
   pub record-write : Answered record-crate.write.Statement.statement record-crate.write.Reads.Asked record-crate.write.Reads.Post
       (λ r (entry, (place, _)). writeLeaves r (place .now)) (λ (entry, (place, _)). writeCall entry (place .now))
+  -- ---- report
+  pub report-report : Answered report.report.Statement.statement report.report.Reads.Asked report.report.Reads.Post
+      (λ r (number, (verdict, (place, _))). reportLeaves r (place .now)) (λ (number, (verdict, (place, _))). reportCall number verdict (place .now))
   -- ---- judge
   pub judge-difference-tail : Answered judge.difference_tail.Statement.statement judge.difference_tail.Reads.Asked judge.difference_tail.Reads.Post
       (λ r e. partOf r) (λ (wanted, (found, _)). tailPart wanted found)
   pub judge-judge : Answered judge.judge.Statement.statement judge.judge.Reads.Asked judge.judge.Reads.Post (λ r e. r) (λ (entry, _). verdictOn entry)
-  pub judge-report : Answered judge.report.Statement.statement judge.report.Reads.Asked judge.report.Reads.Post
-      (λ r (number, (verdict, (place, _))). reportLeaves r (place .now)) (λ (number, (verdict, (place, _))). reportCall number verdict (place .now))
   pub judge-judge-window : Answered judge.judge_window.Statement.statement judge.judge_window.Reads.Asked judge.judge_window.Reads.Post
       (λ r (window, (over, (number, (place, _)))). stepLeaves r (place .now)) (λ (window, (over, (number, (place, _)))). stepCall (window .now) over number (place .now))

@@ -22,12 +22,12 @@ use Rattle.record.specs.Form.{held, blank, broken}
 use Rattle.record.specs.Text.{textOf}
 use Rattle.record.specs.Calls.{readCall}
 use Rattle.record.specs.Laws.{Begun}
-use Rattle.judge.specs.declared.verdict.Verdict.{Verdict}
-use Rattle.judge.specs.declared.verdict.Verdict.the-variants.{Equal, Rounds, Cipher, Tag, Unread}
+use Rattle.report.specs.declared.Verdict.{Verdict}
+use Rattle.report.specs.declared.Verdict.the-variants.{Equal, Rounds, Cipher, Tag, Unread}
+use Rattle.report.specs.Reports.{reportText}
 use Rattle.judge.specs.declared.stepping.Step.the-variants.{Judged, Stopped, Wait, End, Short}
 use Rattle.judge.specs.Tail.{agree}
 use Rattle.judge.specs.Verdicts.{sealing, rounds}
-use Rattle.judge.specs.Reports.{reportText}
 use Rattle.judge.specs.Steps.{verdictRead, isFinal}
 use Rattle.letter.specs.EveryCall.{EveryCall}
 use Rattle.letter.specs.Model.{Model, Keeps}

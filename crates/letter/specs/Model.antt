@@ -11,14 +11,15 @@ use Rattle.message.specs.Message.{SealLeaves, sealCall, OpenLeaves, openCall}
 use Rattle.record.specs.declared.lines.Record.{Record}
 use Rattle.record.specs.declared.reading.Reading.{Reading}
 use Rattle.record.specs.Calls.{readCall, WriteLeaves, writeCall}
-use Rattle.judge.specs.declared.verdict.Verdict.{Verdict}
+use Rattle.report.specs.declared.Verdict.{Verdict}
+use Rattle.report.specs.Reports.{ReportLeaves, reportCall}
 use Rattle.judge.specs.Verdicts.{verdictOn}
-use Rattle.judge.specs.Reports.{ReportLeaves, reportCall}
 use Rattle.judge.specs.Steps.{StepLeaves, stepCall}
 use Rattle.stream.proofs as stream
 use Rattle.message.proofs as message
 use Rattle.gateway.proofs as gateway
 use Rattle.record.proofs as record-crate
+use Rattle.report.proofs as reporting
 use Rattle.judge.proofs as judging
 use Rattle.letter.specs.EveryCall.{Lent, SealWord, sealWordCall, OpenWord, openWordCall}
 
@@ -99,6 +100,6 @@ pub record Keeps (m : Model) : Type 0 where
       Leaves record-crate.write.Reads.Post (entry, (place, tt)) (leaves .outcome) (entry, (holding place (leaves .out), tt))
   pub judge : (entry : Record) → Gives judging.judge.Reads.Post (entry, tt) (m .judge entry)
   pub report : (number : ℕ) (verdict : Verdict) (place : Lent) → let leaves = m .report number verdict (place .now) in
-      Leaves judging.report.Reads.Post (number, (verdict, (place, tt))) (leaves .outcome) (number, (verdict, (holding place (leaves .place), tt)))
+      Leaves reporting.report.Reads.Post (number, (verdict, (place, tt))) (leaves .outcome) (number, (verdict, (holding place (leaves .place), tt)))
   pub step : (window : Lent) (over : Bool) (number : ℕ) (place : Lent) → let leaves = m .step (window .now) over number (place .now) in
       Leaves judging.judge_window.Reads.Post (window, (over, (number, (place, tt)))) (leaves .step) (window, (over, (number, (holding place (leaves .place), tt))))

@@ -12,7 +12,7 @@ use Rattle.stream.specs.State.{ended}
 use Rattle.digits.specs.declared.hex.Digit.the-variants.{Value}
 use Rattle.digits.specs.declared.hex.Pair.the-variants.{Byte, NoByte}
 use Rattle.record.specs.Form.{fieldOf, blank}
-use Rattle.judge.specs.declared.verdict.Verdict.the-variants.{Equal}
+use Rattle.report.specs.declared.Verdict.the-variants.{Equal}
 use Rattle.answers.proofs as answers
 use Rattle.timing.proofs as timing
 use Rattle.sets.proofs as sets
@@ -22,7 +22,7 @@ use Rattle.message.proofs as message
 use Rattle.gateway.proofs as gateway
 use Rattle.digits.proofs as digits
 use Rattle.record.proofs as record-crate
-use Rattle.judge.proofs as judge
+use Rattle.report.proofs as report
 use Rattle.letter.specs.Model.{lent}
 
 -- a contract does not allow a result, whatever comes back in the lent places
@@ -154,4 +154,4 @@ pub record Wrong : Type 0 where
   )
       0
   -- a report without room is not done
-  pub report-room : Never judge.report.Reads.Post (1, (Equal, (lent [], tt))) (record { answer = Done; written = 0 })
+  pub report-room : Never report.report.Reads.Post (1, (Equal, (lent [], tt))) (record { answer = Done; written = 0 })

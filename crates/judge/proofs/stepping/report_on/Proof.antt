@@ -3,8 +3,8 @@ use mathlib.Core.Path.{_≡_, sym, ap, _∙_}
 use denote.Ref.{now}
 use borrow.Author.Needs.{needs}
 use borrow.Author.Tests.{not-true, not-false}
-use Rattle.judge.specs.declared.verdict.Verdict.{Verdict}
-use Rattle.judge.specs.Reports.{reportLeaves, reportCall}
+use Rattle.report.specs.declared.Verdict.{Verdict}
+use Rattle.report.specs.Reports.{reportLeaves, reportCall}
 use Rattle.judge.specs.Steps.{stepBy, reported}
 use Rattle.judge.proofs.stepping.report_on.Statement.{statement}
 use Rattle.judge.proofs.stepping.report_on.Tie as tie

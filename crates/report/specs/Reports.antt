@@ -7,9 +7,9 @@ use lib.ListN.{length, drop}
 use Rattle.answers.specs.declared.Answer.the-variants.{Done, NoRoom}
 use Rattle.digits.specs.Numbers.{numeral}
 use Rattle.digits.specs.Room.{lineOf}
-use Rattle.judge.specs.declared.verdict.Verdict.{Verdict}
-use Rattle.judge.specs.declared.verdict.Verdict.the-variants.{Equal, Rounds, Cipher, Tag, Unread}
-use Rattle.judge.specs.declared.reporting.Reported.{Reported}
+use Rattle.report.specs.declared.Verdict.{Verdict}
+use Rattle.report.specs.declared.Verdict.the-variants.{Equal, Rounds, Cipher, Tag, Unread}
+use Rattle.report.specs.declared.Reported.{Reported}
 
 -- `equal`, `differs` or `unread`
 abbrev pub word : Verdict → List ℕ

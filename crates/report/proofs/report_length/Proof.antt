@@ -1,10 +1,10 @@
--- `judge::reporting::report_length` meets its contract. Assumes nothing.
+-- `report::report_length` meets its contract. Assumes nothing.
 use native.Mathlib.Omega.{arith}
 use borrow.Author.Needs.{needs}
 use Rattle.digits.proofs.Numerals.{length-numeral}
-use Rattle.judge.proofs.Lengths.{numeral-most, length-report}
-use Rattle.judge.proofs.reporting.report_length.Statement.{statement}
-use Rattle.judge.proofs.reporting.report_length.Tie as tie
+use Rattle.report.proofs.Lengths.{numeral-most, length-report}
+use Rattle.report.proofs.report_length.Statement.{statement}
+use Rattle.report.proofs.report_length.Tie as tie
 
 number-length-requires : tie.Need-number-length-requires
 number-length-requires c κs = search needs

@@ -1,4 +1,4 @@
--- `judge::reporting::put_number_line` meets its contract. Assumes nothing.
+-- `report::put_number_line` meets its contract. Assumes nothing.
 use mathlib.Core.Path.{_≡_, sym, ap, ap₂, _∙_}
 use mathlib.Core.List.{List}
 use Prim.Native.Nat.{ℕ}
@@ -9,9 +9,9 @@ use borrow.Author.Needs.{needs}
 use Rattle.digits.specs.Numbers.{numeral}
 use Rattle.digits.specs.Room.{lineOf, put}
 use Rattle.digits.proofs.Room.{put-inside, put-count}
-use Rattle.judge.proofs.Lengths.{numeral-most}
-use Rattle.judge.proofs.reporting.put_number_line.Statement.{statement}
-use Rattle.judge.proofs.reporting.put_number_line.Tie as tie
+use Rattle.report.proofs.Lengths.{numeral-most}
+use Rattle.report.proofs.put_number_line.Statement.{statement}
+use Rattle.report.proofs.put_number_line.Tie as tie
 
 slice-aggregate-put-number : tie.Need-slice-aggregate-put-number
 slice-aggregate-put-number c = search needs

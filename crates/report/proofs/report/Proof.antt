@@ -1,4 +1,4 @@
--- `judge::reporting::report` meets its contract. Assumes nothing.
+-- `report::report` meets its contract. Assumes nothing.
 use Prim.Native.Nat.{_≤_}
 use native.Mathlib.Omega.{arith}
 use denote.Ref.{now}
@@ -7,9 +7,9 @@ use borrow.Author.Needs.{needs}
 use borrow.Author.Tests.{le-leb, lt-leb}
 use Rattle.answers.specs.declared.Answer.the-variants.{Done}
 use Rattle.digits.proofs.Room.{put-count}
-use Rattle.judge.specs.Reports.{reportText, reportLeaves, reportCall}
-use Rattle.judge.proofs.reporting.report.Statement.{statement}
-use Rattle.judge.proofs.reporting.report.Tie as tie
+use Rattle.report.specs.Reports.{reportText, reportLeaves, reportCall}
+use Rattle.report.proofs.report.Statement.{statement}
+use Rattle.report.proofs.report.Tie as tie
 
 report-length-requires : tie.Need-report-length-requires
 report-length-requires c κs = search needs

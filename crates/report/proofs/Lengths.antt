@@ -6,8 +6,8 @@ use lib.ListN.{length, length-append}
 use Rattle.digits.specs.Numbers.{numeral}
 use Rattle.digits.proofs.Numerals.{length-numeral, places-least}
 use Rattle.digits.proofs.Room.{length-line}
-use Rattle.judge.specs.declared.verdict.Verdict.{Verdict}
-use Rattle.judge.specs.Reports.{word, part, recordLine, verdictLine, fieldLine, reportText}
+use Rattle.report.specs.declared.Verdict.{Verdict}
+use Rattle.report.specs.Reports.{word, part, recordLine, verdictLine, fieldLine, reportText}
 
 -- a number of 64 bits has at most 20 digits
 pub numeral-most : (n : ℕ) → n < 2 ^ 64 → length (numeral n) ≤ 20

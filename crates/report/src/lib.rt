@@ -1,12 +1,20 @@
-// The report on a record: three lines.
+// The verdict on a record, and its report: three lines.
 ghost use mathlib.Core.Path.{_≡_};
 ghost use Prim.Native.Nat.{_+_, _≤_};
 ghost use lib.ListN.{length};
 ghost use Rattle.digits.specs.Numbers.{numeral};
 ghost use Rattle.digits.specs.Room.{lineOf, laid, put};
-ghost use Rattle.judge.specs.Reports.{word, part, verdictLine, fieldLine, reportText, reportLeaves, reportCall};
-use crate::verdict::Verdict;
+ghost use Rattle.report.specs.Reports.{word, part, verdictLine, fieldLine, reportText, reportLeaves, reportCall};
 use answers::Answer;
+
+// What the bench says of a record: all agrees, or the first field that differs, or the first broken line of a record out of form.
+pub enum Verdict {
+    Equal,
+    Rounds,
+    Cipher,
+    Tag,
+    Unread(usize),
+}
 
 // What reporting answers: the answer, and how many bytes were written.
 pub struct Reported {

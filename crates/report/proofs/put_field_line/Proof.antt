@@ -1,12 +1,12 @@
--- `judge::reporting::put_field_line` meets its contract. Assumes nothing.
+-- `report::put_field_line` meets its contract. Assumes nothing.
 use mathlib.Core.Path.{sym, ap, _∙_}
 use denote.Ref.{now}
 use borrow.Author.Needs.{needs}
 use Rattle.digits.specs.Room.{put}
-use Rattle.judge.specs.declared.verdict.Verdict.{Verdict}
-use Rattle.judge.specs.Reports.{fieldLine}
-use Rattle.judge.proofs.reporting.put_field_line.Statement.{statement}
-use Rattle.judge.proofs.reporting.put_field_line.Tie as tie
+use Rattle.report.specs.declared.Verdict.{Verdict}
+use Rattle.report.specs.Reports.{fieldLine}
+use Rattle.report.proofs.put_field_line.Statement.{statement}
+use Rattle.report.proofs.put_field_line.Tie as tie
 
 enum-told : tie.Need-enum-told
 enum-told c = search needs

@@ -1,4 +1,4 @@
--- `judge::reporting::words_length` meets its contract. Assumes nothing.
+-- `report::words_length` meets its contract. Assumes nothing.
 use mathlib.Core.Path.{sym, ap, _∙_}
 use Prim.Native.Nat.{ℕ, _+_, _≤_}
 use native.Mathlib.Omega.{arith}
@@ -6,11 +6,11 @@ use lib.Dec.{lit≤}
 use lib.ListN.{length}
 use borrow.Author.Needs.{needs}
 use Rattle.digits.proofs.Numerals.{length-numeral}
-use Rattle.judge.specs.declared.verdict.Verdict.{Verdict}
-use Rattle.judge.specs.Reports.{word, part}
-use Rattle.judge.proofs.Lengths.{numeral-most}
-use Rattle.judge.proofs.reporting.words_length.Statement.{statement}
-use Rattle.judge.proofs.reporting.words_length.Tie as tie
+use Rattle.report.specs.declared.Verdict.{Verdict}
+use Rattle.report.specs.Reports.{word, part}
+use Rattle.report.proofs.Lengths.{numeral-most}
+use Rattle.report.proofs.words_length.Statement.{statement}
+use Rattle.report.proofs.words_length.Tie as tie
 
 enum-told : tie.Need-enum-told
 enum-told c = search needs

@@ -1,4 +1,4 @@
--- `judge::reporting::put_lines` meets its contract. Assumes nothing.
+-- `report::put_lines` meets its contract. Assumes nothing.
 use mathlib.Core.Path.{_≡_, ap, _∙_}
 use mathlib.Core.List.{List, _++_, append-assoc}
 use Prim.Native.Nat.{ℕ, _+_, _-_, _≤_}
@@ -8,9 +8,9 @@ use lib.ListN.{length, take, drop, length-append}
 use borrow.Author.Needs.{needs}
 use Rattle.digits.specs.Room.{laid, put}
 use Rattle.digits.proofs.Room.{put-inside, put-after}
-use Rattle.judge.specs.Reports.{recordLine, verdictLine, fieldLine, reportText}
-use Rattle.judge.proofs.reporting.put_lines.Statement.{statement}
-use Rattle.judge.proofs.reporting.put_lines.Tie as tie
+use Rattle.report.specs.Reports.{recordLine, verdictLine, fieldLine, reportText}
+use Rattle.report.proofs.put_lines.Statement.{statement}
+use Rattle.report.proofs.put_lines.Tie as tie
 
 -- the three lines have room
 room : (c : tie.Start) → let a = c .args in length ((recordLine (a .number) ++ verdictLine (a .verdict)) ++ fieldLine (a .verdict)) ≤ length (now (a .place))

@@ -1,0 +1,2 @@
+-- Laws of reports.
+pub mod Lengths

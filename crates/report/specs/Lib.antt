@@ -1,0 +1,2 @@
+-- The report on a record.
+pub mod Reports
