@@ -1,6 +1,6 @@
 -- The other half of the history law: what fits is never refused. Assumes nothing.
 use mathlib.Core.Path.{_≡_, refl, sym, ap, _∙_}
-use mathlib.Core.Bool.{Bool, true, false}
+use mathlib.Core.Bool.{Bool, true, false, false≢true}
 use mathlib.Core.List.{List, []}
 use Prim.Native.Nat.{ℕ, zero, suc, _+_, _-_, _%_, _≤_}
 use lib.ListN.{length}
@@ -59,4 +59,4 @@ module _ (direction : Direction) (set : ℕ) (K N : List ℕ) (done : isDone (st
   pub reached-sound : (h : History) → Reached direction set K N done kb h → isOpen (h .stream .phase) ≡ true → isSound (h .stream) ≡ true
   reached-sound h (in-data es et eo er ab) o = ap isSound es ∙ sound-data (h .ad) (ab .within)
   reached-sound h (in-text es eo er ab tb) o = ap isSound es ∙ sound-text (h .ad) (h .text) (ab .within) (tb .within)
-  reached-sound h (over e) o = absurd (mathlib.Core.Bool.false≢true (sym e ∙ o))
+  reached-sound h (over e) o = absurd (false≢true (sym (ap (λ (s : Stream). isOpen (s .phase)) e) ∙ o))

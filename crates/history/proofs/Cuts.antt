@@ -262,14 +262,14 @@ seals set K N A P calls tag m e =
     let f = followed Sealing set K N done kb A P calls (m .bytes) (m .data-within) (m .text-within) (m .cut) in
     let r = reached Sealing set K N done kb calls (m .bytes) in
     let y = ready Sealing set K N done kb h r (f .open-still) in
-    let t = told Sealing set K N done kb h r (f .open-still) in
+    let t = told Sealing set K N done kb h r in
     let s : Stream = h .stream in
     let ok : isDone (finishTest s (isOpen (s .phase) && isSealing (s .direction)) (length tag)) ≡ true =
     fits-finish s (isOpen (s .phase) && isSealing (s .direction)) (length tag) (reached-sound Sealing set K N done kb h r (f .open-still))
     (ap₂ _&&_ (f .open-still) (ap isSealing (y .direction-is))) (e ∙ ap (λ (n : ℕ). rowOf n .key) (sym (y .set-is))) in
     let fin = finish-sealing-done s tag ok in
     record {
-      out = t .out refl ∙ ap₂ (λ (x y : List ℕ). encrypted (rowOf set) K N x y .out) (f .ad-is) (f .text-is);
+      out = t .out (f .open-still) refl ∙ ap₂ (λ (x y : List ℕ). encrypted (rowOf set) K N x y .out) (f .ad-is) (f .text-is);
       answer = ap (λ (c : Called). c .outcome .answer) fin;
       tag-is =
           ap (λ (c : Called). c .lent) fin ∙ own-tag Sealing set K N done kb h y
@@ -340,9 +340,9 @@ cutting-does-not-matter =
     record {
       seals = seals;
       checks = checks;
-      states = λ d set K N done kb calls other b c o phase ad text.
-          let t = history-law d set K N done kb calls b o in
-          let u = history-law d set K N done kb other c (ap isOpen (sym phase) ∙ o) in
+      states = λ d set K N done kb calls other b c phase ad text.
+          let t = history-law d set K N done kb calls b in
+          let u = history-law d set K N done kb other c in
           t .state
           ∙ ap (λ (x : Phase). stateAt d set K N x (after ours (begun ours d set K N) calls .ad) (after ours (begun ours d set K N) calls .text)) phase
           ∙ ap₂ (λ (x y : List ℕ). stateAt d set K N (after ours (begun ours d set K N) other .stream .phase) x y) ad text

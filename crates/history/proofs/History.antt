@@ -25,9 +25,9 @@ use Rattle.sets.proofs.Rows.{row-fits}
 use Rattle.stream.specs.declared.Direction.{Direction}
 use Rattle.stream.specs.declared.Direction.the-variants.{Sealing, Checking}
 use Rattle.stream.specs.declared.Phase.{Phase}
-use Rattle.stream.specs.declared.Phase.the-variants.{Data, Text}
+use Rattle.stream.specs.declared.Phase.the-variants.{Data, Text, Ended}
 use Rattle.stream.specs.declared.Stream.{Stream}
-use Rattle.stream.specs.State.{isData, isOpen, isSealing, isChecking}
+use Rattle.stream.specs.State.{isData, isOpen, isSealing, isChecking, ended}
 use Rattle.stream.specs.Calls.{refused, filledRounds, closingRounds, startTest, pieceTest, finishTest, startCall, tookData, textWords, tookText, Called, ownTag, finishedWith}
 use Rattle.stream.proofs.Tests.{StartPassed, start-passed, piece-passed}
 use Rattle.history.specs.History.{ours, Call, giveAd, giveText, giveCipher, endSealing, endChecking, reply, adOf, textOf, outOf, History, begun, next, after, BytesIn, wayOf, stateAt, roundsAt, Told, HistoryLaw}
@@ -155,7 +155,11 @@ module _ (direction : Direction) (set : ℕ) (K N : List ℕ) (done : isDone (st
     in-text : h .stream ≡ stateAt direction set K N Text (h .ad) (h .text)
         → (isSealing direction ≡ true → h .out ≡ outs (row .block) (p (row .between)) sealing (at (S₁ (h .ad)) 0) (h .text))
         → h .rounds ≡ roundsAt row Text (length (h .ad)) (length (h .text)) → Bounded (h .ad) dataLimit → Bounded (h .text) textLimit → Reached h
-    over : isOpen (h .stream .phase) ≡ false → Reached h
+    over : h .stream ≡ ended → Reached h
+
+  -- the ended state is not open
+  shut : {s : Stream} → s ≡ ended → isOpen (s .phase) ≡ false
+  shut e = ap (λ (x : Stream). isOpen (x .phase)) e
 
   -- a history that is what another is
   moved : (h g : History) → h ≡ g → Reached g → Reached h
@@ -233,7 +237,7 @@ module _ (direction : Direction) (set : ℕ) (K N : List ℕ) (done : isDone (st
   pub ready : (h : History) → Reached h → isOpen (h .stream .phase) ≡ true → Ready h
   ready h (in-data es et eo er ab) o = open-in-data h es et eo er ab
   ready h (in-text es eo er ab tb) o = open-in-text h es eo er ab tb
-  ready h (over e) o = absurd (false≢true (sym e ∙ o))
+  ready h (over e) o = absurd (false≢true (sym (shut e) ∙ o))
 
   seal-way : (d : Direction) → isSealing d ≡ true → wayOf d ≡ Seal
   seal-way Sealing e = refl
@@ -389,7 +393,7 @@ module _ (direction : Direction) (set : ℕ) (K N : List ℕ) (done : isDone (st
 
   -- a call that leaves the ended state
   ends : (h : History) (call : Call) (answer : Answer) → reply ours (h .stream) call ≡ finishedWith answer (h .stream) → Reached (next ours h call)
-  ends h call answer e = over (ap (λ (g : History). isOpen (g .stream .phase)) (next-is h call (finishedWith answer (h .stream)) (isDone answer) e refl))
+  ends h call answer e = over (ap (λ (g : History). g .stream) (next-is h call (finishedWith answer (h .stream)) (isDone answer) e refl))
 
   ends-sealing : (h : History) (tag : List ℕ) → Reached h → Reached (next ours h (endSealing tag))
   ends-sealing h tag r = go (isDone test) refl
@@ -436,7 +440,7 @@ module _ (direction : Direction) (set : ℕ) (K N : List ℕ) (done : isDone (st
       go true e = takes-data h piece es et eo er ab pb e
       go false e = refused-stays h (giveAd piece) test (data-refused (h .stream) piece e) e (in-data es et eo er ab)
   advance h (giveAd piece) pb tb (in-text es eo er ab tt′) = refuses-data h piece (ap (λ (s : Stream). isData (s .phase)) es) (in-text es eo er ab tt′)
-  advance h (giveAd piece) pb tb (over e) = refuses-data h piece (shut-data (h .stream .phase) e) (over e)
+  advance h (giveAd piece) pb tb (over e) = refuses-data h piece (shut-data (h .stream .phase) (shut e)) (over e)
   advance h (giveText piece out) pb tb r = takes-sealing h piece out tb r
   advance h (giveCipher piece) pb tb r = takes-checking h piece tb r
   advance h (endSealing tag) pb tb r = ends-sealing h tag r
@@ -452,25 +456,32 @@ module _ (direction : Direction) (set : ℕ) (K N : List ℕ) (done : isDone (st
   reached calls b = reach calls b (begun ours direction set K N) (in-data start-state refl refl (start-rounds ∙ rounds-none) (bounded-none dataLimit))
 
   -- what is reached is told
-  pub told : (h : History) → Reached h → isOpen (h .stream .phase) ≡ true → Told direction set K N h
+  pub told : (h : History) → Reached h → Told direction set K N h
   unfolding sealed stateAt
-  told h (in-data es et eo er ab) o =
+  told h (in-data es et eo er ab) =
       let e : h .stream .phase ≡ Data = ap (λ (s : Stream). s .phase) es in
       record {
         state = es ∙ ap₂ (λ (phase : Phase) (T : List ℕ). stateAt direction set K N phase (h .ad) T) (sym e) (sym et);
-        out = λ x. eo ∙ ap (λ (T : List ℕ). outs (row .block) (p (row .between)) sealing (at (S₁ (h .ad)) 0) T) (sym et) ∙ sealed-out row fit K N key kb (h .ad) (h .text);
-        rounds = er ∙ ap₂ (λ (phase : Phase) (n : ℕ). roundsAt row phase (length (h .ad)) n) (sym e) (ap length (sym et));
-        within = (ab .within, rw et (omega arith));
+        out = λ o x. eo ∙ ap (λ (T : List ℕ). outs (row .block) (p (row .between)) sealing (at (S₁ (h .ad)) 0) T) (sym et) ∙ sealed-out row fit K N key kb (h .ad) (h .text);
+        rounds = λ o. er ∙ ap₂ (λ (phase : Phase) (n : ℕ). roundsAt row phase (length (h .ad)) n) (sym e) (ap length (sym et));
+        within = λ o. (ab .within, rw et (omega arith));
       }
-  told h (in-text es eo er ab tb) o =
+  told h (in-text es eo er ab tb) =
       let e : h .stream .phase ≡ Text = ap (λ (s : Stream). s .phase) es in
       record {
         state = es ∙ ap (λ (phase : Phase). stateAt direction set K N phase (h .ad) (h .text)) (sym e);
-        out = λ x. eo x ∙ sealed-out row fit K N key kb (h .ad) (h .text);
-        rounds = er ∙ ap (λ (phase : Phase). roundsAt row phase (length (h .ad)) (length (h .text))) (sym e);
-        within = (ab .within, tb .within);
+        out = λ o x. eo x ∙ sealed-out row fit K N key kb (h .ad) (h .text);
+        rounds = λ o. er ∙ ap (λ (phase : Phase). roundsAt row phase (length (h .ad)) (length (h .text))) (sym e);
+        within = λ o. (ab .within, tb .within);
       }
-  told h (over e) o = absurd (false≢true (sym e ∙ o))
+  told h (over e) =
+      let phase : h .stream .phase ≡ Ended = ap (λ (s : Stream). s .phase) e in
+      record {
+        state = e ∙ ap (λ (x : Phase). stateAt direction set K N x (h .ad) (h .text)) (sym phase);
+        out = λ o. absurd (false≢true (sym (shut e) ∙ o));
+        rounds = λ o. absurd (false≢true (sym (shut e) ∙ o));
+        within = λ o. absurd (false≢true (sym (shut e) ∙ o));
+      }
 
 pub history-law : HistoryLaw ours
-history-law direction set K N done kb calls b o = told direction set K N done kb (after ours (begun ours direction set K N) calls) (reached direction set K N done kb calls b) o
+history-law direction set K N done kb calls b = told direction set K N done kb (after ours (begun ours direction set K N) calls) (reached direction set K N done kb calls b)

@@ -14,7 +14,6 @@ use Rattle.ascon.specs.Rounds.{messageRounds}
 use Rattle.stream.specs.declared.Direction.{Direction}
 use Rattle.stream.specs.declared.Direction.the-variants.{Sealing, Checking}
 use Rattle.stream.specs.declared.Stream.{Stream}
-use Rattle.stream.specs.State.{isOpen}
 use Rattle.history.specs.History.{Streams, Call, giveAd, textCall, reply, begun, after, BytesIn}
 
 module _ (m : Streams) where
@@ -67,10 +66,9 @@ module _ (m : Streams) where
         → SealedWhole set K N A P calls tag
     pub checks : (set : ℕ) (K N A C : List ℕ) (calls : List Call) (tag : List ℕ) → Message Checking set K N A C calls → length tag ≡ rowOf set .key
         → CheckedWhole set K N A C calls tag
-    -- two histories of one start, in the same open phase after the same data and the same text
+    -- two histories of one start, in the same phase after the same data and the same text
     pub states : (d : Direction) (set : ℕ) (K N : List ℕ) → isDone (m .start d set K N .answer) ≡ true → Bytes K
         → (calls other : List Call) → BytesIn calls → BytesIn other
-        → isOpen (after m (begun m d set K N) calls .stream .phase) ≡ true
         → after m (begun m d set K N) calls .stream .phase ≡ after m (begun m d set K N) other .stream .phase
         → after m (begun m d set K N) calls .ad ≡ after m (begun m d set K N) other .ad
         → after m (begun m d set K N) calls .text ≡ after m (begun m d set K N) other .text

@@ -159,19 +159,18 @@ roundsAt row Text a t =
     12 + roundsOf (row .between) * (a / row .block) + cond (eqb a 0) 0 (roundsOf (row .between)) + roundsOf (row .between) * (t / row .block)
 roundsAt row Ended a t = 0
 
--- what holds of a history while its stream is not ended
+-- what holds of a history: its state in every phase; its output, its rounds and its lengths while it is not ended
 pub record Told (direction : Direction) (set : ℕ) (K N : List ℕ) (h : History) : Type 0 where
   pub state : h .stream ≡ stateAt direction set K N (h .stream .phase) (h .ad) (h .text)
-  pub out : isSealing direction ≡ true → h .out ≡ sealed (rowOf set) K N (h .ad) (h .text) .cipher
-  pub rounds : h .rounds ≡ roundsAt (rowOf set) (h .stream .phase) (length (h .ad)) (length (h .text))
-  pub within : (length (h .ad) ≤ dataLimit) × (length (h .text) ≤ textLimit)
+  pub out : isOpen (h .stream .phase) ≡ true → isSealing direction ≡ true → h .out ≡ sealed (rowOf set) K N (h .ad) (h .text) .cipher
+  pub rounds : isOpen (h .stream .phase) ≡ true → h .rounds ≡ roundsAt (rowOf set) (h .stream .phase) (length (h .ad)) (length (h .text))
+  pub within : isOpen (h .stream .phase) ≡ true → (length (h .ad) ≤ dataLimit) × (length (h .text) ≤ textLimit)
 
 -- the history law: any calls at all, in any order, after a done start
 abbrev pub HistoryLaw : Streams → Type 0
 HistoryLaw m =
     (direction : Direction) (set : ℕ) (K N : List ℕ) → isDone (m .start direction set K N .answer) ≡ true → Bytes K
     → (calls : List Call) → BytesIn calls
-    → isOpen (after m (begun m direction set K N) calls .stream .phase) ≡ true
     → Told direction set K N (after m (begun m direction set K N) calls)
 
 -- a piece in its phase and direction, within the limits and with room
