@@ -7,6 +7,7 @@ use Rattle.answers.proofs as answers
 use Rattle.permutation.proofs as permutation
 use Rattle.timing.proofs as timing
 use Rattle.sets.proofs as sets
+use Rattle.tags.proofs as tags
 use Rattle.sponge.proofs as sponge
 use Rattle.stream.proofs as stream
 use Rattle.message.proofs as message
@@ -51,10 +52,10 @@ every-call = record {
   sponge-crypt = answered (λ M. sponge.crypt.Met.met) (λ κ a. tt) (λ κ a r e p. p);
   sponge-close-data = answered (λ M. sponge.close_data.Met.met) (λ κ a. tt) (λ κ a r e p. p);
   sponge-finish = answered (λ M. sponge.finish.Met.met) (λ κ a. tt) (λ κ a r e p. p .0);
-  sponge-both = answered (λ M. sponge.both.Met.met) (λ κ a. tt) (λ κ a r e p. p);
-  sponge-sixteen = answered (λ M. sponge.sixteen.Met.met) (λ κ a. tt) (λ κ a r e p. p);
-  sponge-give-tag = answered (λ M. sponge.give_tag.Met.met) (λ κ a. tt) (λ κ a r e p. p);
-  sponge-same-tag = answered (λ M. sponge.same_tag.Met.met) (λ κ a. tt) (λ κ a r e p. p);
+  tags-both = answered (λ M. tags.both.Met.met) (λ κ a. tt) (λ κ a r e p. p);
+  tags-sixteen = answered (λ M. tags.sixteen.Met.met) (λ κ a. tt) (λ κ a r e p. p);
+  tags-give-tag = answered (λ M. tags.give_tag.Met.met) (λ κ a. tt) (λ κ a r e p. p);
+  tags-same-tag = answered (λ M. tags.same_tag.Met.met) (λ κ a. tt) (λ κ a r e p. p);
   stream-start-test = answered (λ M. stream.start_test.Met.met) (λ κ a. tt) (λ κ a r e p. p);
   stream-ended = answered (λ M. stream.Stream.ended.Met.met) (λ κ a. tt) (λ κ a r e p. p);
   stream-start = answered (λ M. stream.Stream.start.Met.met) (λ κ a. tt) (λ κ a r e p. p);

@@ -10,7 +10,7 @@ use Rattle.timing.specs.Call.{Called, permuteCall}
 use Rattle.ascon.specs.Sets.{table, isSet, rowOf}
 use Rattle.ascon.specs.Mode.{p, firstBlock, initialise, separate, count, pad, beforeText, encrypted, sealed}
 use Rattle.sponge.specs.Sponge.{started, dataClosed}
-use Rattle.sponge.specs.Tags.{sixteenOf, givenTag, sameTag}
+use Rattle.tags.specs.Tags.{sixteenOf, givenTag, sameTag}
 use Rattle.stream.specs.declared.Stream.{Stream}
 use Rattle.stream.specs.declared.Outcome.{Outcome}
 use Rattle.stream.specs.State.{isSoundEnded, isSound}

@@ -13,7 +13,7 @@ use Rattle.permutation.specs.Runs.{roundsOf, permute, permuteWords}
 use Rattle.timing.specs.Call as timed
 use Rattle.ascon.specs.Sets.{isSet, rowOf}
 use Rattle.sponge.specs.Sponge.{started, absorbed, crypted, cryptedOf, dataClosed, finished}
-use Rattle.sponge.specs.Tags.{sixteenOf, givenTag, sameTag}
+use Rattle.tags.specs.Tags.{sixteenOf, givenTag, sameTag}
 use Rattle.stream.specs.State.{ended}
 use Rattle.stream.specs.Calls as streamed
 use Rattle.message.specs.Message.{sealLeaves, sealCall, openLeaves, openCall}
@@ -31,6 +31,7 @@ use Rattle.answers.proofs as answers
 use Rattle.permutation.proofs as permutation
 use Rattle.timing.proofs as timing
 use Rattle.sets.proofs as sets
+use Rattle.tags.proofs as tags
 use Rattle.sponge.proofs as sponge
 use Rattle.stream.proofs as stream
 use Rattle.message.proofs as message
@@ -126,11 +127,12 @@ pub record EveryCall : Type 2 where
       (λ r e. r) (λ (set, (words, (count, _))). dataClosed (rowOf set) words count)
   pub sponge-finish : Answered sponge.finish.Statement.statement sponge.finish.Reads.Asked sponge.finish.Reads.Post
       (λ r e. r) (λ (set, (words, (count, (key, _)))). finished (rowOf set) words count key)
-  pub sponge-both : Answered sponge.both.Statement.statement sponge.both.Reads.Asked sponge.both.Reads.Post (λ r e. r) (λ (one, (other, _)). one && other)
-  pub sponge-sixteen : Answered sponge.sixteen.Statement.statement sponge.sixteen.Reads.Asked sponge.sixteen.Reads.Post (λ r e. r) (λ (string, _). sixteenOf (string .now))
-  pub sponge-give-tag : Answered sponge.give_tag.Statement.statement sponge.give_tag.Reads.Asked sponge.give_tag.Reads.Post
+  -- ---- tags
+  pub tags-both : Answered tags.both.Statement.statement tags.both.Reads.Asked tags.both.Reads.Post (λ r e. r) (λ (one, (other, _)). one && other)
+  pub tags-sixteen : Answered tags.sixteen.Statement.statement tags.sixteen.Reads.Asked tags.sixteen.Reads.Post (λ r e. r) (λ (string, _). sixteenOf (string .now))
+  pub tags-give-tag : Answered tags.give_tag.Statement.statement tags.give_tag.Reads.Asked tags.give_tag.Reads.Post
       (λ r (ours, (tag, _)). tag .now) (λ (ours, (tag, _)). givenTag ours (tag .now))
-  pub sponge-same-tag : Answered sponge.same_tag.Statement.statement sponge.same_tag.Reads.Asked sponge.same_tag.Reads.Post
+  pub tags-same-tag : Answered tags.same_tag.Statement.statement tags.same_tag.Reads.Asked tags.same_tag.Reads.Post
       (λ r e. r) (λ (ours, (theirs, _)). sameTag ours (theirs .now))
   -- ---- stream
   pub stream-start-test : Answered stream.start_test.Statement.statement stream.start_test.Reads.Asked stream.start_test.Reads.Post

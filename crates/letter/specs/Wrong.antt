@@ -16,6 +16,7 @@ use Rattle.report.specs.declared.Verdict.the-variants.{Equal}
 use Rattle.answers.proofs as answers
 use Rattle.timing.proofs as timing
 use Rattle.sets.proofs as sets
+use Rattle.tags.proofs as tags
 use Rattle.sponge.proofs as sponge
 use Rattle.stream.proofs as stream
 use Rattle.message.proofs as message
@@ -67,19 +68,19 @@ pub record Wrong : Type 0 where
   -- closing empty data does not flip a bit of the first word
   pub close-other-end : Never sponge.close_data.Reads.Post (1, (zeros 5, (0, tt))) (1 ∷ zeros 4)
   -- one is not both
-  pub both-one : Never sponge.both.Reads.Post (true, (false, tt)) true
+  pub both-one : Never tags.both.Reads.Post (true, (false, tt)) true
   -- two are
-  pub both-two : Never sponge.both.Reads.Post (true, (true, tt)) false
+  pub both-two : Never tags.both.Reads.Post (true, (true, tt)) false
   -- a short string is not dropped
-  pub sixteen-short : Never sponge.sixteen.Reads.Post (lent (1 ∷ []), tt) (zeros 16)
+  pub sixteen-short : Never tags.sixteen.Reads.Post (lent (1 ∷ []), tt) (zeros 16)
   -- a long one is not cut
-  pub sixteen-long : Never sponge.sixteen.Reads.Post (lent (replicate 17 1), tt) (replicate 16 1)
+  pub sixteen-long : Never tags.sixteen.Reads.Post (lent (replicate 17 1), tt) (replicate 16 1)
   -- a place of 12 does not stay as it was
-  pub give-tag-nothing : NeverLeaves sponge.give_tag.Reads.Post (replicate 16 1, (lent (zeros 12), tt)) tt (replicate 16 1, (lent (zeros 12), tt))
+  pub give-tag-nothing : NeverLeaves tags.give_tag.Reads.Post (replicate 16 1, (lent (zeros 12), tt)) tt (replicate 16 1, (lent (zeros 12), tt))
   -- one of 17 does
-  pub give-tag-long : NeverLeaves sponge.give_tag.Reads.Post (replicate 16 1, (lent (zeros 17), tt)) tt (replicate 16 1, (lent (replicate 17 1), tt))
+  pub give-tag-long : NeverLeaves tags.give_tag.Reads.Post (replicate 16 1, (lent (zeros 17), tt)) tt (replicate 16 1, (lent (replicate 17 1), tt))
   -- a tag of 17 bytes is none
-  pub same-tag-long : Never sponge.same_tag.Reads.Post (zeros 16, (lent (zeros 17), tt)) true
+  pub same-tag-long : Never tags.same_tag.Reads.Post (zeros 16, (lent (zeros 17), tt)) true
   -- 1 comes before 2
   pub start-test-set : Never stream.start_test.Reads.Post (3, (15, (16, tt))) KeyLength
   -- the ended state is not open

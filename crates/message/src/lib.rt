@@ -86,8 +86,8 @@ fn process(
     ensures { λ r. ⌜ r ≡ finalise (rowOf set) (now (key .entry)) (processed way (rowOf set) (now (key .entry)) (now (nonce .entry)) (now (ad .entry)) (now (text .entry)) .state) ++ zeros (16 - rowOf set .key) ⌝ }
     ensures { λ _. ⌜ now (out .exit) ≡ processed way (rowOf set) (now (key .entry)) (now (nonce .entry)) (now (ad .entry)) (now (text .entry)) .out ++ drop (length (now (text .entry))) (now (out .entry)) ⌝ }
 {
-    let key16 = sponge::sixteen(key);
-    let started = sponge::start(set, key16, sponge::sixteen(nonce));
+    let key16 = tags::sixteen(key);
+    let started = sponge::start(set, key16, tags::sixteen(nonce));
     let absorbed = sponge::absorb(set, Way::Seal, started, 0, ad);
     let before = sponge::close_data(set, absorbed, ad.len());
     let after = sponge::crypt(set, way, before, 0, text, out);
@@ -131,7 +131,7 @@ pub fn seal(
         return Outcome { answer, rounds: 0 };
     }
     let ours = process(set, Way::Seal, key, nonce, ad, text, out);
-    sponge::give_tag(ours, tag);
+    tags::give_tag(ours, tag);
     Outcome {
         answer: Answer::Done,
         rounds: message_rounds(set, ad.len(), text.len()),
@@ -164,7 +164,7 @@ pub fn open(
     }
     let ours = process(set, Way::Open, key, nonce, ad, cipher, &mut *out);
     let rounds = message_rounds(set, ad.len(), cipher.len());
-    if sponge::same_tag(ours, tag) {
+    if tags::same_tag(ours, tag) {
         return Outcome {
             answer: Answer::Done,
             rounds,

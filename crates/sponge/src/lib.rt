@@ -1,7 +1,5 @@
 // The cipher on five words: the start, a piece of data or text byte by byte, the end of the data, the end of the text with the tag. Streams and whole
 // messages are built on it. Each public function is total, and its contract speaks of the state's 40 bytes.
-mod tags;
-
 ghost use mathlib.Core.Path.{_≡_};
 ghost use Prim.Native.Nat.{_+_, _<_, _≤_};
 ghost use lib.ListN.{length, take};
@@ -12,10 +10,6 @@ ghost use Rattle.ascon.specs.Bytewise.{at};
 ghost use Rattle.sponge.specs.Sponge.{started, absorbed, crypted, cryptedOf, dataClosed, tagOf, finished};
 ghost use Rattle.sponge.specs.Words.{byteOf, withByte, withBytes, feedOf, goneOf, stepped, maskedEnd};
 use permutation::Run;
-pub use tags::both;
-pub use tags::give_tag;
-pub use tags::same_tag;
-pub use tags::sixteen;
 
 // What stays in the state: the byte that goes out, or the one that comes.
 pub enum Way {

@@ -172,13 +172,13 @@ impl Stream {
     {
         let set = self.set;
         let key = self.key;
-        sponge::both(
+        tags::both(
             sets::is_set(set),
-            sponge::both(
+            tags::both(
                 zero_from(key, sets::key_length(set)),
-                sponge::both(
+                tags::both(
                     self.ad <= 65536,
-                    sponge::both(
+                    tags::both(
                         self.text <= 1048576,
                         self.place == count % sets::block_length(set),
                     ),
@@ -194,15 +194,15 @@ impl Stream {
         let words = self.words;
         let key = self.key;
         let direction = self.direction;
-        sponge::both(
+        tags::both(
             zero_words(words),
-            sponge::both(
+            tags::both(
                 zero_from(key, 0),
-                sponge::both(
+                tags::both(
                     is_sealing(direction),
-                    sponge::both(
+                    tags::both(
                         self.set == 1,
-                        sponge::both(self.ad == 0, sponge::both(self.text == 0, self.place == 0)),
+                        tags::both(self.ad == 0, tags::both(self.text == 0, self.place == 0)),
                     ),
                 ),
             ),
@@ -215,7 +215,7 @@ impl Stream {
     {
         let phase = self.phase;
         match phase {
-            Phase::Data => sponge::both(self.text == 0, self.sound_open(self.ad)),
+            Phase::Data => tags::both(self.text == 0, self.sound_open(self.ad)),
             Phase::Text => self.sound_open(self.text),
             Phase::Ended => self.sound_ended(),
         }
@@ -290,8 +290,8 @@ impl Stream {
         if !answers::is_done(answer) {
             return refusal(answer, Stream::ended());
         }
-        let key16 = sponge::sixteen(key);
-        let words = sponge::start(set, key16, sponge::sixteen(nonce));
+        let key16 = tags::sixteen(key);
+        let words = sponge::start(set, key16, tags::sixteen(nonce));
         let next = Stream {
             words,
             set,
@@ -381,7 +381,7 @@ impl Stream {
     {
         let phase = self.phase;
         let direction = self.direction;
-        let fits = sponge::both(is_open(phase), is_sealing(direction));
+        let fits = tags::both(is_open(phase), is_sealing(direction));
         let answer = self.piece_test(fits, self.text, piece.len(), 1048576);
         if !answers::is_done(answer) {
             return refusal(answer, self);
@@ -406,7 +406,7 @@ impl Stream {
     {
         let phase = self.phase;
         let direction = self.direction;
-        let fits = sponge::both(is_open(phase), is_checking(direction));
+        let fits = tags::both(is_open(phase), is_checking(direction));
         let answer = self.piece_test(fits, self.text, piece.len(), 1048576);
         if !answers::is_done(answer) {
             return refusal(answer, self);
@@ -429,13 +429,13 @@ impl Stream {
     {
         let phase = self.phase;
         let direction = self.direction;
-        let fits = sponge::both(is_open(phase), is_sealing(direction));
+        let fits = tags::both(is_open(phase), is_sealing(direction));
         let answer = self.finish_test(fits, tag.len());
         if !answers::is_done(answer) {
             return refusal(answer, self);
         }
         let ours = self.tag16();
-        sponge::give_tag(ours, tag);
+        tags::give_tag(ours, tag);
         Outcome {
             answer: Answer::Done,
             rounds: self.closing_rounds() + 12,
@@ -449,14 +449,14 @@ impl Stream {
     {
         let phase = self.phase;
         let direction = self.direction;
-        let fits = sponge::both(is_open(phase), is_checking(direction));
+        let fits = tags::both(is_open(phase), is_checking(direction));
         let answer = self.finish_test(fits, tag.len());
         if !answers::is_done(answer) {
             return refusal(answer, self);
         }
         let rounds = self.closing_rounds() + 12;
         let next = Stream::ended();
-        if sponge::same_tag(self.tag16(), tag) {
+        if tags::same_tag(self.tag16(), tag) {
             return Outcome {
                 answer: Answer::Done,
                 rounds,

@@ -14,7 +14,7 @@ use Rattle.ascon.specs.Sets.{rowOf}
 use Rattle.ascon.specs.Mode.{zeros, decrypted, opened, same, finalise}
 use Rattle.ascon.proofs.Sealing.{length-tag, length-decrypted}
 use Rattle.sets.proofs.Rows.{row-fits, row-sizes}
-use Rattle.sponge.proofs.Compared.{same-is}
+use Rattle.tags.proofs.Compared.{same-is}
 use Rattle.message.specs.Message.{openLeaves, openCall}
 use Rattle.message.proofs.Tests.{MessagePassed, message-passed}
 use Rattle.message.proofs.open.Statement.{statement}

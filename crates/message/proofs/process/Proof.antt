@@ -12,7 +12,7 @@ use Rattle.ascon.specs.Mode.{zeros, initialise, beforeText}
 use Rattle.sponge.specs.declared.Way.the-variants.{Seal}
 use Rattle.sponge.specs.Sponge.{started, absorbed, dataClosed, cryptedOf, Crypted, finished}
 use Rattle.sets.proofs.Rows.{row-fits, row-sizes}
-use Rattle.sponge.proofs.Compared.{sixteen-is}
+use Rattle.tags.proofs.Compared.{sixteen-is}
 use Rattle.message.proofs.Whole.{started-is, before-is, crypted-is, tagged-is}
 use Rattle.message.proofs.process.Statement.{statement}
 use Rattle.message.proofs.process.Tie as tie

@@ -14,7 +14,7 @@ use Rattle.ascon.specs.Sets.{rowOf}
 use Rattle.ascon.specs.Mode.{zeros, encrypted, sealed, finalise}
 use Rattle.ascon.proofs.Sealing.{length-tag}
 use Rattle.sets.proofs.Rows.{row-fits, row-sizes}
-use Rattle.sponge.proofs.Compared.{given-is}
+use Rattle.tags.proofs.Compared.{given-is}
 use Rattle.message.specs.Message.{sealLeaves, sealCall}
 use Rattle.message.proofs.Tests.{MessagePassed, message-passed}
 use Rattle.message.proofs.seal.Statement.{statement}

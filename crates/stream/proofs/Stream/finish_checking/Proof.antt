@@ -10,7 +10,7 @@ use borrow.Author.Tests.{not-true, not-false}
 use Rattle.answers.specs.Numbers.{isDone}
 use Rattle.answers.specs.declared.Answer.the-variants.{Done, TagDiffers}
 use Rattle.ascon.specs.Mode.{same}
-use Rattle.sponge.proofs.Compared
+use Rattle.tags.proofs.Compared
 use Rattle.sets.proofs.Rows.{row-sizes}
 use Rattle.stream.specs.State.{isOpen, isChecking}
 use Rattle.stream.specs.Calls.{finishTest, ownTag, finishCheckingCall}

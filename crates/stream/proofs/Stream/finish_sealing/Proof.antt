@@ -8,7 +8,7 @@ use lib.ListN.{length, take}
 use borrow.Author.Tests.{not-true, not-false}
 use Rattle.answers.specs.Numbers.{isDone}
 use Rattle.answers.specs.declared.Answer.the-variants.{Done}
-use Rattle.sponge.proofs.Compared.{given-is}
+use Rattle.tags.proofs.Compared.{given-is}
 use Rattle.sets.proofs.Rows.{row-sizes}
 use Rattle.stream.specs.declared.Outcome.{Outcome}
 use Rattle.stream.specs.State.{isOpen, isSealing}

@@ -14,7 +14,7 @@ use Rattle.permutation.specs.Strings.{wordsOfString}
 use Rattle.ascon.specs.Sets.{rowOf}
 use Rattle.ascon.specs.Mode.{zeros, initialise}
 use Rattle.sponge.specs.Sponge.{started}
-use Rattle.sponge.proofs.Compared.{sixteen-is}
+use Rattle.tags.proofs.Compared.{sixteen-is}
 use Rattle.sets.proofs.Rows.{row-sizes}
 use Rattle.stream.specs.declared.Phase.the-variants.{Data}
 use Rattle.stream.specs.Calls.{refused, startCall}

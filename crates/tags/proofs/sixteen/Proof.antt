@@ -1,4 +1,4 @@
--- `sponge::tags::sixteen` meets its contract. Assumes nothing.
+-- `tags::sixteen` meets its contract. Assumes nothing.
 use mathlib.Core.Path.{ap₂, _∙_}
 use mathlib.Core.List.{List, _++_}
 use Prim.Native.Nat.{ℕ}
@@ -7,10 +7,10 @@ use lib.ListN.{length}
 use lib.Seq.{take-length}
 use borrow.Author.Needs.{needs}
 use borrow.Author.Tests.{lt-leb, le-leb}
-use Rattle.sponge.specs.Tags.{sixteenOf}
+use Rattle.tags.specs.Tags.{sixteenOf}
 use Rattle.ascon.proofs.Strings.{drop-zeros}
-use Rattle.sponge.proofs.tags.sixteen.Statement.{statement}
-use Rattle.sponge.proofs.tags.sixteen.Tie as tie
+use Rattle.tags.proofs.sixteen.Statement.{statement}
+use Rattle.tags.proofs.sixteen.Tie as tie
 
 returns : tie.Need-returns
 unfolding sixteenOf

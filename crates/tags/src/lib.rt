@@ -1,7 +1,7 @@
-// Keys and tags: strings of at most 16 bytes.
+// Keys and tags, strings of at most 16 bytes: put into 16 bytes, given out, compared.
 ghost use mathlib.Core.Path.{_≡_};
 ghost use mathlib.Core.Bool.{_&&_};
-ghost use Rattle.sponge.specs.Tags.{sixteenOf, givenTag, sameTag};
+ghost use Rattle.tags.specs.Tags.{sixteenOf, givenTag, sameTag};
 
 // Whether both hold.
 pub fn both(one: bool, other: bool) -> bool

@@ -1,4 +1,4 @@
--- `sponge::tags::give_tag` meets its contract. Assumes nothing.
+-- `tags::give_tag` meets its contract. Assumes nothing.
 use mathlib.Core.Path.{_≡_, sym, ap₂, _∙_}
 use mathlib.Core.List.{List, _++_, append-nil}
 use Prim.Native.Nat.{ℕ}
@@ -8,9 +8,9 @@ use lib.ListN.{length, take, drop-of-length-le}
 use lib.Seq.{take-length, length-take-le}
 use borrow.Author.Needs.{needs}
 use borrow.Author.Tests.{lt-leb, le-leb}
-use Rattle.sponge.specs.Tags.{givenTag}
-use Rattle.sponge.proofs.tags.give_tag.Statement.{statement}
-use Rattle.sponge.proofs.tags.give_tag.Tie as tie
+use Rattle.tags.specs.Tags.{givenTag}
+use Rattle.tags.proofs.give_tag.Statement.{statement}
+use Rattle.tags.proofs.give_tag.Tie as tie
 
 returns : tie.Need-returns
 unfolding givenTag

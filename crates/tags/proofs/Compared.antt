@@ -6,7 +6,7 @@ use Prim.Native.Nat.{ℕ, _-_, _≤_}
 use lib.ListN.{length, take}
 use borrow.Author.Tests.{le-leb}
 use Rattle.ascon.specs.Mode.{zeros, same}
-use Rattle.sponge.specs.Tags.{sixteenOf, givenTag, sameTag}
+use Rattle.tags.specs.Tags.{sixteenOf, givenTag, sameTag}
 
 pub and-assoc : (a b c : Bool) → ((a && b) && c) ≡ (a && (b && c))
 and-assoc true b c = refl

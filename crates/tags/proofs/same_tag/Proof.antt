@@ -1,4 +1,4 @@
--- `sponge::tags::same_tag` meets its contract. The loop's invariant: what was found and what is left decide. The measure is the number of bytes left. Assumes
+-- `tags::same_tag` meets its contract. The loop's invariant: what was found and what is left decide. The measure is the number of bytes left. Assumes
 -- nothing.
 use mathlib.Core.Path.{_≡_, refl, sym, ap, ap₂, _∙_}
 use mathlib.Core.Bool.{Bool, _&&_}
@@ -11,12 +11,12 @@ use lib.ListN.{length, getD, take, drop, drop-of-length-le}
 use lib.Seq.{length-take-le, getD-take}
 use borrow.Author.Needs.{needs}
 use borrow.Author.Tests.{lt-leb, le-leb}
-use Rattle.sponge.specs.Tags.{sameTag}
+use Rattle.tags.specs.Tags.{sameTag}
 use Rattle.ascon.specs.Mode.{same}
 use Rattle.ascon.proofs.Strings.{same-left}
-use Rattle.sponge.proofs.Compared.{and-assoc, and-true}
-use Rattle.sponge.proofs.tags.same_tag.Statement.{statement}
-use Rattle.sponge.proofs.tags.same_tag.Tie as tie
+use Rattle.tags.proofs.Compared.{and-assoc, and-true}
+use Rattle.tags.proofs.same_tag.Statement.{statement}
+use Rattle.tags.proofs.same_tag.Tie as tie
 
 abbrev Inv-loop : tie.InvT-loop
 Inv-loop theirs ours equal₀ i₀ equal i =

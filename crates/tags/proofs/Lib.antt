@@ -1,0 +1,2 @@
+-- Laws of keys and tags.
+pub mod Compared

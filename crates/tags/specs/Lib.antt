@@ -1,0 +1,2 @@
+-- What the functions on keys and tags give.
+pub mod Tags
