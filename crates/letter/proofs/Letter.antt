@@ -7,6 +7,7 @@ use Rattle.letter.proofs.Model.{keeps}
 use Rattle.letter.proofs.First.{first-demand}
 use Rattle.letter.proofs.Second.{second-demand}
 use Rattle.letter.proofs.Third.{third-demand}
+use Rattle.letter.proofs.Reported.{reports}
 use Rattle.letter.proofs.Worthless.{worthless}
 use Rattle.letter.proofs.Wrong.{wrong}
 
@@ -16,6 +17,7 @@ letter =
       first = first-demand;
       second = second-demand;
       third = third-demand;
+      reported = reports;
       some-model = keeps;
       cases = cases;
       counted = runs-total;

@@ -10,6 +10,7 @@ use Rattle.letter.specs.Model.{Model, ours, Keeps}
 use Rattle.letter.specs.First.{First}
 use Rattle.letter.specs.Second.{Second}
 use Rattle.letter.specs.Third.{Third}
+use Rattle.letter.specs.Reported.{Reported}
 use Rattle.letter.specs.Worthless.{Worthless}
 use Rattle.letter.specs.Wrong.{Wrong}
 
@@ -20,6 +21,8 @@ pub record Letter : Type 2 where
   pub second : (m : Model) → Keeps m → Second m
   -- whether the cut matters
   pub third : (m : Model) → Keeps m → Third m
+  -- what each call reports and leaves beyond the demands' words
+  pub reported : (m : Model) → Keeps m → Reported m
   -- there is a model that keeps the contracts
   pub some-model : Keeps ours
   -- the cases marked P

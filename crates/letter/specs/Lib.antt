@@ -4,6 +4,7 @@ pub mod Model
 pub mod First
 pub mod Second
 pub mod Third
+pub mod Reported
 pub mod Worthless
 pub mod Wrong
 pub mod Letter

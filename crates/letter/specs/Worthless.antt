@@ -4,19 +4,22 @@ use mathlib.Core.List.{List, _++_}
 use mathlib.Core.Path.{_≡_}
 use Prim.Native.Nat.{ℕ}
 use lib.Dec.{eqb}
-use lib.ListN.{length, drop}
-use Rattle.answers.specs.declared.Answer.the-variants.{Done}
+use lib.ListN.{length, take, drop}
+use Rattle.answers.specs.declared.Answer.the-variants.{Done, TagDiffers}
 use Rattle.answers.specs.Numbers.{isDone}
 use Rattle.stream.specs.declared.Direction.{Direction}
+use Rattle.stream.specs.declared.Direction.the-variants.{Checking}
+use Rattle.stream.specs.declared.Stream.{Stream}
 use Rattle.stream.specs.declared.Outcome.{Outcome}
 use Rattle.stream.specs.State.{ended}
 use Rattle.stream.specs.Calls.{called}
 use Rattle.history.specs.History.{Streams}
-use Rattle.message.specs.Message.{SealLeaves, sealLeaves, OpenLeaves}
+use Rattle.message.specs.Message.{SealLeaves, OpenLeaves}
 use Rattle.letter.specs.Model.{Model, ours, Keeps}
 use Rattle.letter.specs.First.{Listed}
 use Rattle.letter.specs.Second.{Second}
 use Rattle.letter.specs.Third.{Third}
+use Rattle.letter.specs.Reported.{Reported}
 
 -- ours, with other streams
 abbrev pub withStreams : Streams → Model
@@ -58,13 +61,6 @@ withMessages seal unseal =
 abbrev pub constant : SealLeaves → OpenLeaves → Model
 constant sealing opening = withMessages (λ set K N A P out tag. sealing) (λ set K N A C T out. opening)
 
--- copies text through and does nothing else: our answers and rounds, the text for the ciphertext, the place of the tag as it was
-abbrev pub copying : Model
-copying =
-    withMessages
-    (λ set K N A P out tag. let leaves = ours .seal set K N A P out tag in
-    cond (isDone (leaves .outcome .answer)) (sealLeaves (leaves .outcome) (P ++ drop (length P) out) tag) leaves) (ours .unseal)
-
 -- works in the first piece of a text and copies the later ones
 abbrev pub laterCopied : Streams
 laterCopied =
@@ -90,9 +86,9 @@ emptyEnds =
       finishChecking = ours .streams .finishChecking;
     }
 
--- an outcome with other rounds
+-- a done outcome with other rounds
 abbrev pub told : ℕ → Outcome → Outcome
-told n outcome = record { answer = outcome .answer; rounds = n; next = outcome .next }
+told n outcome = cond (isDone (outcome .answer)) (record { answer = outcome .answer; rounds = n; next = outcome .next }) outcome
 
 -- the rounds of a stream made up, by the kind of the call
 abbrev pub madeUpStreams : ℕ → ℕ → ℕ → ℕ → Streams
@@ -109,14 +105,32 @@ madeUpStreams start piece text finish =
 -- ---- what they break
 
 pub record Worthless : Type 0 where
-  -- refusing always breaks the listed conditions, whatever the refusals are and whatever they leave
+  -- never to say done breaks the listed conditions, whatever the refusals are and whatever they leave
   pub refuses : (m : Model) → ((set : ℕ) (K N A P out tag : List ℕ) → m .seal set K N A P out tag .outcome .answer ≡ Done → ⊥) → Listed m → ⊥
   pub refuses-streams : (m : Model) → ((d : Direction) (set : ℕ) (K N : List ℕ) → m .streams .start d set K N .answer ≡ Done → ⊥) → Listed m → ⊥
-  -- the same done answer always breaks the second demand, whatever it is
+  -- the same done answer always breaks the second demand, whatever it leaves
   pub answers-same : (sealing : SealLeaves) (opening : OpenLeaves) → sealing .outcome .answer ≡ Done → Second (constant sealing opening) → ⊥
-  pub copies : Second copying → ⊥
+  -- a done sealing that copies the text breaks the second demand
+  pub copies : (m : Model)
+      → ((set : ℕ) (K N A P out tag : List ℕ) → let leaves = m .seal set K N A P out tag in leaves .outcome .answer ≡ Done → take (length P) (leaves .out) ≡ P)
+      → Listed m → Second m → ⊥
   pub copies-later : Third (withStreams laterCopied) → ⊥
   pub ends-early : Third (withStreams emptyEnds) → ⊥
+  -- an opening that takes every tag, or none, breaks the second demand; a checking that says yes always breaks the third
+  pub takes-every-tag : (m : Model) → ((set : ℕ) (K N A C T out : List ℕ) → m .unseal set K N A C T out .outcome .answer ≡ TagDiffers → ⊥)
+      → Listed m → Second m → ⊥
+  pub takes-no-tag : (m : Model) → ((set : ℕ) (K N A C T out : List ℕ) → m .unseal set K N A C T out .outcome .answer ≡ Done → ⊥)
+      → Listed m → Second m → ⊥
+  pub says-yes : (m : Model)
+      → ((set : ℕ) (K N tag : List ℕ) → m .streams .finishChecking (m .streams .start Checking set K N .next) tag .answer ≡ Done)
+      → Listed m → Third m → ⊥
   -- the same rounds always break the contract of whole messages, and rounds by the kind of the call the sum of the third demand
-  pub makes-up : (m : Model) (n : ℕ) → ((set : ℕ) (K N A P out tag : List ℕ) → m .seal set K N A P out tag .outcome .rounds ≡ n) → Keeps m → ⊥
+  pub makes-up : (m : Model) (n : ℕ)
+      → ((set : ℕ) (K N A P out tag : List ℕ) → let outcome = m .seal set K N A P out tag .outcome in outcome .answer ≡ Done → outcome .rounds ≡ n)
+      → Keeps m → ⊥
   pub makes-up-streams : (start piece text finish : ℕ) → Third (withStreams (madeUpStreams start piece text finish)) → ⊥
+  -- rounds that are right in the sum alone, and a finish that leaves the stream as it was, break what a call has to report and leave
+  pub reports-late : (m : Model) → ((d : Direction) (set : ℕ) (K N : List ℕ) → m .streams .start d set K N .rounds ≡ 0) → Listed m → Reported m → ⊥
+  pub stays-open : (m : Model)
+      → ((s : Stream) (tag : List ℕ) → let outcome = m .streams .finishSealing s tag .outcome in outcome .answer ≡ Done → outcome .next ≡ s)
+      → Listed m → Reported m → ⊥
