@@ -1,8 +1,9 @@
-//! A slow and plain second program for Ascon v1, its whole-message calls and
-//! its bench records. It is there to be compared with, so every part follows
-//! the printed definition step by step.
+//! A slow and plain second program for Ascon v1, its whole-message calls, its
+//! streams and its bench records. It is there to be compared with, so every
+//! part follows the printed definition step by step.
 
 pub mod calls;
+pub mod cases;
 pub mod cipher;
 pub mod formula;
 pub mod hex;
@@ -11,4 +12,5 @@ pub mod make;
 pub mod permutation;
 pub mod random;
 pub mod record;
+pub mod stream;
 pub mod vectors;

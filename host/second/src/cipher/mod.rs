@@ -24,7 +24,7 @@ pub struct Opened {
 }
 
 /// Gives the state after the start: first block, key and nonce, a long run, the key at the end.
-fn started(set: &Set, key: &[u8], nonce: &[u8]) -> State {
+pub(crate) fn started(set: &Set, key: &[u8], nonce: &[u8]) -> State {
     let mut bytes = first_block(set);
     bytes.extend(key);
     bytes.extend(nonce);
@@ -44,7 +44,7 @@ fn take_data(set: &Set, state: &mut State, ad: &[u8]) {
 }
 
 /// Ends the message and gives its tag.
-fn finish(set: &Set, state: &mut State, key: &[u8]) -> Vec<u8> {
+pub(crate) fn finish(set: &Set, state: &mut State, key: &[u8]) -> Vec<u8> {
     state.combine(set.block, key);
     state.run(set.outer);
     combined(state.last(set.key), key)

@@ -58,7 +58,7 @@ impl State {
     }
 
     /// Gives the state as five words.
-    fn words(&self) -> Words {
+    pub fn words(&self) -> Words {
         let mut words = [0; 5];
         for (i, byte) in self.bytes.iter().enumerate() {
             words[i / 8] = words[i / 8] << 8 | u64::from(*byte);

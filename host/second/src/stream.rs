@@ -1,0 +1,287 @@
+//! Sealing and checking streams on any state and input, with the answer numbers of the rules.
+//!
+//! A state is its named parts and nothing else, so what an unfilled block has taken stands in the
+//! words already. A call puts stand-ins for those bytes before its piece: zeros where bytes are
+//! combined, the state's own front where they replace. It then cuts the whole into blocks.
+
+use crate::calls::{AD_LIMIT, TEXT_LIMIT};
+use crate::cipher::{cipher_blocks, finish, set_of, started, Set, State};
+use crate::permutation::Words;
+
+/// What a stream is for.
+#[derive(Clone, Copy, Debug, PartialEq, Eq)]
+pub enum Direction {
+    Sealing,
+    Checking,
+}
+
+/// What a stream takes next: associated data, text, or nothing any more.
+#[derive(Clone, Copy, Debug, PartialEq, Eq)]
+pub enum Phase {
+    Data,
+    Text,
+    Ended,
+}
+
+/// The state of a stream, in parts that anyone may fill in.
+#[derive(Clone, Copy, Debug, PartialEq, Eq)]
+pub struct Stream {
+    pub words: Words,
+    pub set: u64,
+    pub direction: Direction,
+    pub phase: Phase,
+    /// The key, and in set 2 four zero bytes after it.
+    pub key: [u8; 16],
+    pub ad_count: u64,
+    pub text_count: u64,
+    pub place: u64,
+}
+
+/// The one ended state.
+pub const ENDED: Stream = Stream {
+    words: [0; 5],
+    set: 1,
+    direction: Direction::Sealing,
+    phase: Phase::Ended,
+    key: [0; 16],
+    ad_count: 0,
+    text_count: 0,
+    place: 0,
+};
+
+/// What a call gives: the answer number, the rounds reported and the next state.
+pub type Given = (u64, u64, Stream);
+
+/// Says whether a state breaks any of the rules.
+pub fn is_broken(stream: &Stream) -> bool {
+    let Some(set) = set_of(stream.set) else {
+        return true;
+    };
+    let block = set.block as u64;
+    let present = match stream.phase {
+        Phase::Ended => return *stream != ENDED,
+        Phase::Data => stream.ad_count,
+        Phase::Text => stream.text_count,
+    };
+    if stream.place != present % block {
+        return true;
+    }
+    if stream.phase == Phase::Data && stream.text_count != 0 {
+        return true;
+    }
+    if stream.ad_count > AD_LIMIT as u64 || stream.text_count > TEXT_LIMIT as u64 {
+        return true;
+    }
+    stream.key[set.key..].iter().any(|byte| *byte != 0)
+}
+
+/// Gives the set of a state, or none when the state is broken.
+fn set_of_sound(stream: &Stream) -> Option<&'static Set> {
+    if is_broken(stream) {
+        None
+    } else {
+        set_of(stream.set)
+    }
+}
+
+/// Gives the refusal of the given number, with the state as it came.
+fn refusal(number: u64, stream: Stream) -> Given {
+    (number, 0, stream)
+}
+
+/// Gives the 40 bytes of a stream's words as a state on which no round has run.
+fn state_of(stream: &Stream) -> State {
+    let bytes: Vec<u8> = stream.words.iter().flat_map(|x| x.to_be_bytes()).collect();
+    State::new(&bytes)
+}
+
+/// Gives the state with the associated data closed, and the place in the text's present block.
+fn state_at_text(set: &Set, stream: &Stream) -> (State, usize) {
+    let mut state = state_of(stream);
+    let place = stream.place as usize;
+    if stream.phase == Phase::Text {
+        return (state, place);
+    }
+    if stream.ad_count > 0 {
+        state.combine(place, &[0x80]);
+        state.run(set.middle);
+    }
+    state.combine(39, &[1]);
+    (state, 0)
+}
+
+/// Ends the text of a sound open stream and gives the tag and the rounds of doing so.
+fn tag_and_rounds(set: &Set, stream: &Stream) -> (Vec<u8>, u64) {
+    let (mut state, place) = state_at_text(set, stream);
+    state.combine(place, &[0x80]);
+    let tag = finish(set, &mut state, &stream.key[..set.key]);
+    (tag, state.rounds())
+}
+
+/// Starts a stream; a refused start gives the ended state.
+pub fn start(direction: Direction, set: u64, key: &[u8], nonce: &[u8]) -> Given {
+    let Some(known) = set_of(set) else {
+        return refusal(1, ENDED);
+    };
+    if key.len() != known.key {
+        return refusal(2, ENDED);
+    }
+    if nonce.len() != known.key {
+        return refusal(3, ENDED);
+    }
+    let state = started(known, key, nonce);
+    let mut kept = [0; 16];
+    kept[..key.len()].copy_from_slice(key);
+    let next = Stream {
+        words: state.words(),
+        set,
+        direction,
+        phase: Phase::Data,
+        key: kept,
+        ad_count: 0,
+        text_count: 0,
+        place: 0,
+    };
+    (0, state.rounds(), next)
+}
+
+/// Takes a piece of the associated data, in either direction.
+pub fn ad(stream: Stream, piece: &[u8]) -> Given {
+    let Some(set) = set_of_sound(&stream) else {
+        return refusal(8, stream);
+    };
+    if stream.phase != Phase::Data {
+        return refusal(7, stream);
+    }
+    let ad_count = stream.ad_count + piece.len() as u64;
+    if ad_count > AD_LIMIT as u64 {
+        return refusal(5, stream);
+    }
+
+    let mut state = state_of(&stream);
+    let mut joined = vec![0; stream.place as usize];
+    joined.extend(piece);
+    let blocks = cipher_blocks(set, &joined);
+    let (unfilled, filled) = blocks.split_last().expect("there is always a last block");
+    for block in filled {
+        state.combine(0, block);
+        state.run(set.middle);
+    }
+    state.combine(0, unfilled);
+
+    let next = Stream {
+        words: state.words(),
+        ad_count,
+        place: unfilled.len() as u64,
+        ..stream
+    };
+    (0, state.rounds(), next)
+}
+
+/// Seals a piece of the text into the front of `out`; a refusal changes nothing there.
+pub fn seal(stream: Stream, piece: &[u8], out: &mut [u8]) -> Given {
+    let Some(set) = set_of_sound(&stream) else {
+        return refusal(8, stream);
+    };
+    if stream.phase == Phase::Ended || stream.direction != Direction::Sealing {
+        return refusal(7, stream);
+    }
+    let text_count = stream.text_count + piece.len() as u64;
+    if text_count > TEXT_LIMIT as u64 {
+        return refusal(5, stream);
+    }
+    if out.len() < piece.len() {
+        return refusal(6, stream);
+    }
+
+    let (mut state, place) = state_at_text(set, &stream);
+    let mut joined = vec![0; place];
+    joined.extend(piece);
+    let blocks = cipher_blocks(set, &joined);
+    let (unfilled, filled) = blocks.split_last().expect("there is always a last block");
+    let mut cipher = Vec::new();
+    for block in filled {
+        state.combine(0, block);
+        cipher.extend(state.first(set.block));
+        state.run(set.middle);
+    }
+    state.combine(0, unfilled);
+    cipher.extend(state.first(unfilled.len()));
+    // The first bytes went out in an earlier call.
+    out[..piece.len()].copy_from_slice(&cipher[place..]);
+
+    let next = Stream {
+        words: state.words(),
+        phase: Phase::Text,
+        text_count,
+        place: unfilled.len() as u64,
+        ..stream
+    };
+    (0, state.rounds(), next)
+}
+
+/// Takes a piece of the ciphertext that is to be checked.
+pub fn check(stream: Stream, piece: &[u8]) -> Given {
+    let Some(set) = set_of_sound(&stream) else {
+        return refusal(8, stream);
+    };
+    if stream.phase == Phase::Ended || stream.direction != Direction::Checking {
+        return refusal(7, stream);
+    }
+    let text_count = stream.text_count + piece.len() as u64;
+    if text_count > TEXT_LIMIT as u64 {
+        return refusal(5, stream);
+    }
+
+    let (mut state, place) = state_at_text(set, &stream);
+    let mut joined = state.first(place).to_vec();
+    joined.extend(piece);
+    let blocks = cipher_blocks(set, &joined);
+    let (unfilled, filled) = blocks.split_last().expect("there is always a last block");
+    for block in filled {
+        state.replace_front(block);
+        state.run(set.middle);
+    }
+    state.replace_front(unfilled);
+
+    let next = Stream {
+        words: state.words(),
+        phase: Phase::Text,
+        text_count,
+        place: unfilled.len() as u64,
+        ..stream
+    };
+    (0, state.rounds(), next)
+}
+
+/// Finishes a sealing stream and puts the tag into its place; a refusal changes nothing there.
+pub fn finish_sealing(stream: Stream, tag_place: &mut [u8]) -> Given {
+    let Some(set) = set_of_sound(&stream) else {
+        return refusal(8, stream);
+    };
+    if stream.phase == Phase::Ended || stream.direction != Direction::Sealing {
+        return refusal(7, stream);
+    }
+    if tag_place.len() != set.key {
+        return refusal(4, stream);
+    }
+    let (tag, rounds) = tag_and_rounds(set, &stream);
+    tag_place.copy_from_slice(&tag);
+    (0, rounds, ENDED)
+}
+
+/// Finishes a checking stream and compares the tags; equal or not, the stream has ended.
+pub fn finish_checking(stream: Stream, tag: &[u8]) -> Given {
+    let Some(set) = set_of_sound(&stream) else {
+        return refusal(8, stream);
+    };
+    if stream.phase == Phase::Ended || stream.direction != Direction::Checking {
+        return refusal(7, stream);
+    }
+    if tag.len() != set.key {
+        return refusal(4, stream);
+    }
+    let (ours, rounds) = tag_and_rounds(set, &stream);
+    let number = if ours == tag { 0 } else { 9 };
+    (number, rounds, ENDED)
+}

@@ -1,0 +1,1108 @@
+//! Streams: cut messages, every refusal and its order, broken states, and the named cases.
+
+use second::calls;
+use second::cases::named_cases;
+use second::cipher::{set_of, Set};
+use second::permutation::run;
+use second::random::Random;
+use second::stream::{
+    ad, check, finish_checking, finish_sealing, is_broken, seal, start, Direction, Given, Phase,
+    Stream, ENDED,
+};
+use Direction::{Checking, Sealing};
+
+const SEED: u64 = 20_140_316;
+const BOTH: [Direction; 2] = [Sealing, Checking];
+const TWELVE: [u64; 12] = [
+    0xf0, 0xe1, 0xd2, 0xc3, 0xb4, 0xa5, 0x96, 0x87, 0x78, 0x69, 0x5a, 0x4b,
+];
+
+/// A whole message, sealed by the whole-message call.
+struct Message {
+    set: &'static Set,
+    key: Vec<u8>,
+    nonce: Vec<u8>,
+    ad: Vec<u8>,
+    text: Vec<u8>,
+    cipher: Vec<u8>,
+    tag: Vec<u8>,
+    rounds: u64,
+}
+
+/// Gives a pseudo-random message of the given lengths, sealed as a whole.
+fn message(random: &mut Random, number: u64, ad: usize, text: usize) -> Message {
+    let set = set_of(number).expect("a known set");
+    let key = random.bytes(set.key);
+    let nonce = random.bytes(set.key);
+    let ad = random.bytes(ad);
+    let text = random.bytes(text);
+    let mut cipher = vec![0; text.len()];
+    let mut tag = vec![0; set.key];
+    let answer = calls::seal(number, &key, &nonce, &ad, &text, &mut cipher, &mut tag);
+    assert_eq!(answer.number, 0);
+    let rounds = answer.rounds;
+    Message {
+        set,
+        key,
+        nonce,
+        ad,
+        text,
+        cipher,
+        tag,
+        rounds,
+    }
+}
+
+/// Gives the state of an answer that must be done with the given rounds.
+fn done(given: Given, rounds: u64) -> Stream {
+    assert_eq!((given.0, given.1), (0, rounds));
+    given.2
+}
+
+/// Gives a fresh stream of the message.
+fn fresh(m: &Message, direction: Direction) -> Stream {
+    done(start(direction, m.set.number, &m.key, &m.nonce), 12)
+}
+
+/// Gives the key with zeros after it up to 16 bytes.
+fn kept(key: &[u8]) -> [u8; 16] {
+    let mut all = [0; 16];
+    all[..key.len()].copy_from_slice(key);
+    all
+}
+
+/// Says what all parts but the words must be, after that much data and text of the message.
+fn expect_parts(m: &Message, s: &Stream, direction: Direction, phase: Phase, counts: [usize; 2]) {
+    let count = if phase == Phase::Data { 0 } else { 1 };
+    let place = counts[count] % m.set.block;
+    assert_eq!(
+        (s.set, s.direction, s.phase),
+        (m.set.number, direction, phase)
+    );
+    assert_eq!(s.key, kept(&m.key));
+    assert_eq!(
+        (s.ad_count, s.text_count),
+        (counts[0] as u64, counts[1] as u64)
+    );
+    assert_eq!(s.place, place as u64);
+    assert!(!is_broken(s));
+}
+
+/// Gives the middle rounds of the blocks filled between two counts.
+fn filling(m: &Message, before: usize, after: usize) -> u64 {
+    (m.set.middle * (after / m.set.block - before / m.set.block)) as u64
+}
+
+/// Gives the rounds of closing the message's data.
+fn closing(m: &Message) -> u64 {
+    if m.ad.is_empty() {
+        0
+    } else {
+        m.set.middle as u64
+    }
+}
+
+/// Makes one text call in either direction and gives its answer and what went out.
+fn text_call(random: &mut Random, s: Stream, piece: &[u8]) -> (Given, Vec<u8>) {
+    if s.direction == Checking {
+        return (check(s, piece), piece.to_vec());
+    }
+    let spare = random.below(4);
+    let before = random.bytes(piece.len() + spare);
+    let mut out = before.clone();
+    let given = seal(s, piece, &mut out);
+    assert_eq!(out[piece.len()..], before[piece.len()..]);
+    out.truncate(piece.len());
+    (given, out)
+}
+
+/// Runs the message through a stream in the given pieces and compares all with the whole message.
+fn run_cut(
+    random: &mut Random,
+    m: &Message,
+    direction: Direction,
+    data: &[Vec<u8>],
+    pieces: &[Vec<u8>],
+) {
+    let mut s = fresh(m, direction);
+    expect_parts(m, &s, direction, Phase::Data, [0, 0]);
+    let mut sum = 12;
+    let mut taken = 0;
+    for piece in data {
+        let rounds = filling(m, taken, taken + piece.len());
+        s = done(ad(s, piece), rounds);
+        sum += rounds;
+        taken += piece.len();
+        expect_parts(m, &s, direction, Phase::Data, [taken, 0]);
+    }
+    assert_eq!(taken, m.ad.len());
+
+    let mut went = Vec::new();
+    for (index, piece) in pieces.iter().enumerate() {
+        let mut rounds = filling(m, went.len(), went.len() + piece.len());
+        if index == 0 {
+            rounds += closing(m);
+        }
+        let (given, out) = text_call(random, s, piece);
+        s = done(given, rounds);
+        sum += rounds;
+        went.extend(out);
+        expect_parts(m, &s, direction, Phase::Text, [taken, went.len()]);
+    }
+    assert_eq!(went, m.cipher);
+
+    let last = if pieces.is_empty() {
+        12 + closing(m)
+    } else {
+        12
+    };
+    assert_eq!(sum + last, m.rounds);
+    if direction == Sealing {
+        let mut tag = random.bytes(m.set.key);
+        assert_eq!(finish_sealing(s, &mut tag), (0, last, ENDED));
+        assert_eq!(tag, m.tag);
+    } else {
+        assert_eq!(finish_checking(s, &m.tag), (0, last, ENDED));
+        let mut wrong = m.tag.clone();
+        wrong[random.below(m.set.key)] ^= 1 << random.below(8);
+        assert_eq!(finish_checking(s, &wrong), (9, last, ENDED));
+    }
+}
+
+/// Gives what a stream of the direction takes as text.
+fn body(m: &Message, direction: Direction) -> &[u8] {
+    match direction {
+        Sealing => &m.text,
+        Checking => &m.cipher,
+    }
+}
+
+const WAYS: usize = 6;
+
+/// Gives the bytes cut in one of six ways; two of them make no piece of empty bytes.
+fn cut(random: &mut Random, set: &Set, bytes: &[u8], way: usize) -> Vec<Vec<u8>> {
+    let owned = |parts: std::slice::Chunks<u8>| parts.map(|part| part.to_vec()).collect();
+    match way {
+        0 => vec![bytes.to_vec()],
+        1 => owned(bytes.chunks(1)),
+        2 => owned(bytes.chunks(set.block)),
+        3 => owned(bytes.chunks(set.block + 3)),
+        4 => vec![Vec::new(), bytes.to_vec(), Vec::new(), Vec::new()],
+        _ => {
+            let mut pieces = Vec::new();
+            let mut rest = bytes;
+            while !rest.is_empty() {
+                let (piece, after) = rest.split_at(random.below(rest.len().min(40) + 1));
+                pieces.push(piece.to_vec());
+                rest = after;
+            }
+            pieces
+        }
+    }
+}
+
+/// Says that messages around the block edges come out the same in all mixtures of cuts.
+#[test]
+fn cuts_of_many_kinds() {
+    let mut random = Random::new(SEED);
+    let mut ran = 0;
+    for number in [1, 2] {
+        let b = set_of(number).expect("a known set").block;
+        let edges = [0, 1, b - 1, b, b + 1, 2 * b, 3 * b - 1, 6 * b + 5];
+        for ad_length in edges {
+            for text_length in edges {
+                let m = message(&mut random, number, ad_length, text_length);
+                for direction in BOTH {
+                    for way in 0..WAYS * WAYS {
+                        let data = cut(&mut random, m.set, &m.ad, way / WAYS);
+                        let whole = body(&m, direction);
+                        let pieces = cut(&mut random, m.set, whole, way % WAYS);
+                        run_cut(&mut random, &m, direction, &data, &pieces);
+                        ran += 1;
+                    }
+                }
+            }
+        }
+    }
+    assert_eq!(ran, 2 * 64 * 2 * 36);
+}
+
+/// Says that no cut into two pieces makes a difference, nor any into three.
+#[test]
+fn every_cut_in_two_and_three() {
+    let mut random = Random::new(SEED + 1);
+    let mut ran = 0;
+    for number in [1, 2] {
+        let b = set_of(number).expect("a known set").block;
+        let length = 2 * b + 1;
+        let m = message(&mut random, number, length, length);
+        for direction in BOTH {
+            let whole = body(&m, direction);
+            for first in 0..=length {
+                for second in first..=length {
+                    let three = |bytes: &[u8]| {
+                        vec![
+                            bytes[..first].to_vec(),
+                            bytes[first..second].to_vec(),
+                            bytes[second..].to_vec(),
+                        ]
+                    };
+                    let two = vec![m.ad[..first].to_vec(), m.ad[first..].to_vec()];
+                    run_cut(&mut random, &m, direction, &two, &three(whole));
+                    let two = vec![whole[..second].to_vec(), whole[second..].to_vec()];
+                    run_cut(&mut random, &m, direction, &three(&m.ad), &two);
+                    ran += 2;
+                }
+            }
+        }
+    }
+    // With n bytes there are (n + 1)(n + 2) / 2 pairs of places; n is 17 and 33.
+    assert_eq!(ran, 2 * 2 * (18 * 19 / 2 + 34 * 35 / 2));
+}
+
+/// Says that the state depends on the bytes taken and not on the pieces.
+#[test]
+fn states_do_not_remember_the_pieces() {
+    let mut random = Random::new(SEED + 2);
+    let mut ran = 0;
+    for number in [1, 2] {
+        let m = message(&mut random, number, 53, 53);
+        for direction in BOTH {
+            let at_start = fresh(&m, direction);
+            let mut bytewise = at_start;
+            for (i, byte) in m.ad.iter().enumerate() {
+                bytewise = ad(bytewise, &[*byte]).2;
+                assert_eq!(bytewise, ad(at_start, &m.ad[..=i]).2);
+                ran += 1;
+            }
+            let at_text = bytewise;
+            let whole = body(&m, direction);
+            for (i, byte) in whole.iter().enumerate() {
+                bytewise = text_call(&mut random, bytewise, &[*byte]).0 .2;
+                assert_eq!(bytewise, text_call(&mut random, at_text, &whole[..=i]).0 .2);
+                ran += 1;
+            }
+        }
+    }
+    assert_eq!(ran, 2 * 2 * 106);
+}
+
+/// Gives `count` bytes counting up from `first`.
+fn counting(first: u8, count: u8) -> Vec<u8> {
+    (first..first + count).collect()
+}
+
+/// Says that the words in set 1 are those worked out here, within blocks too.
+#[test]
+fn words_by_hand_in_set_1() {
+    let (k0, k1) = (0x0001020304050607, 0x08090a0b0c0d0e0f);
+    let (n0, n1) = (0x1011121314151617, 0x18191a1b1c1d1e1f);
+    let mut ran = 0;
+    for direction in BOTH {
+        let mut x = run([0x800c060000000000, k0, k1, n0, n1], &TWELVE);
+        x[3] ^= k0;
+        x[4] ^= k1;
+        let s = done(start(direction, 1, &counting(0, 16), &counting(16, 16)), 12);
+        let wanted = Stream {
+            words: x,
+            set: 1,
+            direction,
+            phase: Phase::Data,
+            key: kept(&counting(0, 16)),
+            ad_count: 0,
+            text_count: 0,
+            place: 0,
+        };
+        assert_eq!(s, wanted);
+
+        x[0] ^= 0x2021220000000000;
+        let s = done(ad(s, &[0x20, 0x21, 0x22]), 0);
+        assert_eq!((s.words, s.ad_count, s.place), (x, 3, 3));
+        x[0] ^= 0x0000002324252627;
+        x = run(x, &TWELVE[..6]);
+        x[0] ^= 0x2800000000000000;
+        let s = done(ad(s, &counting(0x23, 6)), 6);
+        assert_eq!((s.words, s.ad_count, s.place), (x, 9, 1));
+
+        x[0] ^= 0x0080000000000000;
+        x = run(x, &TWELVE[..6]);
+        x[4] ^= 1;
+        let stream_bytes = x[0].to_be_bytes();
+        x[0] ^= 0x3031000000000000;
+        // Sealing takes text, checking the ciphertext of the same text.
+        let s = if direction == Sealing {
+            let mut out = [9; 3];
+            let s = done(seal(s, &[0x30, 0x31], &mut out), 6);
+            assert_eq!(out, [stream_bytes[0] ^ 0x30, stream_bytes[1] ^ 0x31, 9]);
+            s
+        } else {
+            let piece = [stream_bytes[0] ^ 0x30, stream_bytes[1] ^ 0x31];
+            done(check(s, &piece), 6)
+        };
+        assert_eq!((s.words, s.ad_count, s.text_count, s.place), (x, 9, 2, 2));
+        assert_eq!(s.phase, Phase::Text);
+
+        x[0] ^= 0x0000800000000000;
+        x[1] ^= k0;
+        x[2] ^= k1;
+        x = run(x, &TWELVE);
+        let tag = [(x[3] ^ k0).to_be_bytes(), (x[4] ^ k1).to_be_bytes()].concat();
+        if direction == Sealing {
+            let mut ours = [0; 16];
+            assert_eq!(finish_sealing(s, &mut ours), (0, 12, ENDED));
+            assert_eq!(ours.to_vec(), tag);
+        } else {
+            assert_eq!(finish_checking(s, &tag), (0, 12, ENDED));
+        }
+        ran += 1;
+    }
+    assert_eq!(ran, 2);
+}
+
+/// Says that the words in set 2 are those worked out here, within blocks too.
+#[test]
+fn words_by_hand_in_set_2() {
+    let mut ran = 0;
+    for direction in BOTH {
+        let first = [
+            0x600c080000000000,
+            0,
+            0x0001020304050607,
+            0x08090a0b10111213,
+            0x1415161718191a1b,
+        ];
+        let mut x = run(first, &TWELVE);
+        x[3] ^= 0x0000000000010203;
+        x[4] ^= 0x0405060708090a0b;
+        let s = done(start(direction, 2, &counting(0, 12), &counting(16, 12)), 12);
+        let wanted = Stream {
+            words: x,
+            set: 2,
+            direction,
+            phase: Phase::Data,
+            key: [0, 1, 2, 3, 4, 5, 6, 7, 8, 9, 10, 11, 0, 0, 0, 0],
+            ad_count: 0,
+            text_count: 0,
+            place: 0,
+        };
+        assert_eq!(s, wanted);
+
+        x[0] ^= 0x2021222324252627;
+        x[1] ^= 0x2829000000000000;
+        let s = done(ad(s, &counting(0x20, 10)), 0);
+        assert_eq!((s.words, s.ad_count, s.place), (x, 10, 10));
+        x[1] ^= 0x00002a2b2c2d2e2f;
+        x = run(x, &TWELVE[..8]);
+        let s = done(ad(s, &counting(0x2a, 6)), 8);
+        assert_eq!((s.words, s.ad_count, s.place), (x, 16, 0));
+
+        // A zero-length text call closes whole blocks of data with one block more.
+        x[0] ^= 0x8000000000000000;
+        x = run(x, &TWELVE[..8]);
+        x[4] ^= 1;
+        let s = match direction {
+            Sealing => done(seal(s, &[], &mut []), 8),
+            Checking => done(check(s, &[]), 8),
+        };
+        assert_eq!((s.words, s.text_count, s.place), (x, 0, 0));
+        assert_eq!(s.phase, Phase::Text);
+
+        x[0] ^= 0x8000000000000000;
+        x[2] ^= 0x0001020304050607;
+        x[3] ^= 0x08090a0b00000000;
+        x = run(x, &TWELVE);
+        x[3] ^= 0x0000000000010203;
+        x[4] ^= 0x0405060708090a0b;
+        let tag = [x[3].to_be_bytes(), x[4].to_be_bytes()].concat();
+        if direction == Sealing {
+            let mut ours = [0; 12];
+            assert_eq!(finish_sealing(s, &mut ours), (0, 12, ENDED));
+            assert_eq!(ours, tag[4..]);
+        } else {
+            assert_eq!(finish_checking(s, &tag[4..]), (0, 12, ENDED));
+        }
+        ran += 1;
+    }
+    assert_eq!(ran, 2);
+}
+
+/// Says that the named cases have their names, their order and the answers of the rules.
+#[test]
+fn the_named_cases() {
+    let wanted = [
+        ("65537 bytes of data", 5),
+        ("65536 bytes of data", 0),
+        ("1048576 bytes of text", 0),
+        ("1048577 bytes of text", 5),
+        ("1048577 bytes sealed", 5),
+        ("room one byte short", 6),
+        ("key of 15 bytes", 2),
+        ("key of 15 bytes, nonce of 15", 2),
+        ("finishing twice", 7),
+        ("data after an empty text call", 7),
+    ];
+    let wanted: Vec<(String, u64)> = wanted.map(|(name, n)| (name.to_string(), n)).into();
+    assert_eq!(named_cases(), wanted);
+}
+
+/// Says that a stream at both limits takes empty pieces, no byte more, and 835,614 rounds in all.
+#[test]
+fn both_limits_in_set_1() {
+    let mut random = Random::new(SEED + 3);
+    let m = message(&mut random, 1, 65_536, 1_048_576);
+    let mut s = fresh(&m, Sealing);
+    s = done(ad(s, &m.ad[..65_535]), 8_191 * 6);
+    assert_eq!(ad(s, &[1, 2]), (5, 0, s));
+    s = done(ad(s, &m.ad[65_535..]), 6);
+    assert_eq!(ad(s, &[1]), (5, 0, s));
+    s = done(ad(s, &[]), 0);
+    let mut out = vec![0; 1_048_576];
+    s = done(seal(s, &m.text[..1_048_575], &mut out), 6 + 131_071 * 6);
+    assert_eq!(seal(s, &[1, 2], &mut [0; 2]), (5, 0, s));
+    s = done(seal(s, &m.text[1_048_575..], &mut out[1_048_575..]), 6);
+    assert_eq!(seal(s, &[1], &mut [0]), (5, 0, s));
+    s = done(seal(s, &[], &mut []), 0);
+    assert_eq!(out, m.cipher);
+    let mut tag = [0; 16];
+    assert_eq!(finish_sealing(s, &mut tag), (0, 12, ENDED));
+    assert_eq!(tag.to_vec(), m.tag);
+    assert_eq!(m.rounds, 835_614);
+}
+
+/// Says the same of a checking stream in set 2, which takes 557,088 rounds.
+#[test]
+fn both_limits_in_set_2() {
+    let mut random = Random::new(SEED + 19);
+    let m = message(&mut random, 2, 65_536, 1_048_576);
+    let mut s = fresh(&m, Checking);
+    s = done(ad(s, &m.ad[..65_535]), 4_095 * 8);
+    assert_eq!(ad(s, &[1, 2]), (5, 0, s));
+    s = done(ad(s, &m.ad[65_535..]), 8);
+    assert_eq!(ad(s, &[1]), (5, 0, s));
+    s = done(ad(s, &[]), 0);
+    s = done(check(s, &m.cipher[..1_048_575]), 8 + 65_535 * 8);
+    assert_eq!(check(s, &[1, 2]), (5, 0, s));
+    s = done(check(s, &m.cipher[1_048_575..]), 8);
+    assert_eq!(check(s, &[1]), (5, 0, s));
+    s = done(check(s, &[]), 0);
+    assert_eq!(finish_checking(s, &m.tag), (0, 12, ENDED));
+    // 24 + 8 × (4,097 + 65,537 − 1).
+    assert_eq!(m.rounds, 557_088);
+}
+
+/// The five calls on a state.
+#[derive(Clone, Copy, Debug, PartialEq)]
+enum Call {
+    Ad,
+    Seal,
+    Check,
+    FinishSealing,
+    FinishChecking,
+}
+
+const CALLS: [Call; 5] = [
+    Call::Ad,
+    Call::Seal,
+    Call::Check,
+    Call::FinishSealing,
+    Call::FinishChecking,
+];
+
+/// Makes the call with as much of the parts as belongs to it.
+fn called(call: Call, s: Stream, piece: &[u8], out: &mut [u8], tag: &mut [u8]) -> Given {
+    match call {
+        Call::Ad => ad(s, piece),
+        Call::Seal => seal(s, piece, out),
+        Call::Check => check(s, piece),
+        Call::FinishSealing => finish_sealing(s, tag),
+        Call::FinishChecking => finish_checking(s, tag),
+    }
+}
+
+/// Says that the call is refused with the number, and leaves the state and the lent bytes alone.
+fn expect_refusal(number: u64, call: Call, s: Stream, piece: &[u8], room: usize, tag: &[u8]) {
+    let out_before: Vec<u8> = (0..room).map(|i| (i % 251) as u8 + 1).collect();
+    let mut out = out_before.clone();
+    let mut lent = tag.to_vec();
+    let given = called(call, s, piece, &mut out, &mut lent);
+    assert_eq!(given, (number, 0, s), "{call:?}");
+    assert!(out == out_before && lent == tag, "{call:?}");
+}
+
+/// Says that the state is broken, and that every call on it, fitting or not, answers 8.
+fn expect_broken(s: Stream) -> usize {
+    assert!(is_broken(&s), "{s:?}");
+    let length = set_of(s.set).map_or(16, |set| set.key);
+    for call in CALLS {
+        expect_refusal(8, call, s, &[1, 2, 3], 3, &vec![5; length]);
+        expect_refusal(8, call, s, &[], 0, &vec![5; length]);
+        expect_refusal(8, call, s, &[1, 2, 3], 2, &[5]);
+    }
+    1
+}
+
+/// Says that the state isn't broken, and that no call on it answers 8.
+fn expect_sound(s: Stream) -> usize {
+    assert!(!is_broken(&s), "{s:?}");
+    for call in CALLS {
+        let given = called(call, s, &[], &mut [], &mut [0; 16]);
+        assert_ne!(given.0, 8, "{call:?} {s:?}");
+    }
+    1
+}
+
+/// Gives sound open states: both sets, directions and phases, some counts of either kind.
+fn open_states(random: &mut Random) -> Vec<Stream> {
+    let mut states = Vec::new();
+    for number in [1, 2] {
+        for direction in BOTH {
+            for count in [0, 1, 8, 13, 16, 31, 32] {
+                let m = message(random, number, count, 21);
+                let data = ad(fresh(&m, direction), &m.ad).2;
+                states.push(data);
+                for length in [0, 3, 16, 21] {
+                    let piece = &body(&m, direction)[..length];
+                    states.push(text_call(random, data, piece).0 .2);
+                }
+            }
+        }
+    }
+    states
+}
+
+const OPEN: usize = 2 * 2 * 7 * 5;
+
+/// Gives the block of a state's set.
+fn block_of(s: &Stream) -> u64 {
+    set_of(s.set).expect("a known set").block as u64
+}
+
+/// Says that any other ended state than the one is broken, whichever part differs.
+#[test]
+fn broken_by_another_ended_state() {
+    let one = Stream {
+        words: [0, 0, 0, 0, 0],
+        set: 1,
+        direction: Sealing,
+        phase: Phase::Ended,
+        key: [0; 16],
+        ad_count: 0,
+        text_count: 0,
+        place: 0,
+    };
+    assert_eq!(ENDED, one);
+    let mut ran = 0;
+    ran += expect_sound(one);
+    for bit in 0..320 {
+        let mut s = one;
+        s.words[bit / 64] ^= 1 << (bit % 64);
+        ran += expect_broken(s);
+    }
+    for bit in 0..128 {
+        let mut s = one;
+        s.key[bit / 8] ^= 1 << (bit % 8);
+        ran += expect_broken(s);
+    }
+    for bit in 0..64 {
+        let number = 1 << bit;
+        ran += expect_broken(Stream {
+            ad_count: number,
+            ..one
+        });
+        ran += expect_broken(Stream {
+            text_count: number,
+            ..one
+        });
+        ran += expect_broken(Stream {
+            place: number,
+            ..one
+        });
+    }
+    ran += expect_broken(Stream { set: 2, ..one });
+    ran += expect_broken(Stream {
+        direction: Checking,
+        ..one
+    });
+    // An open state with nothing changed but its phase.
+    for s in open_states(&mut Random::new(SEED + 4)) {
+        let phase = Phase::Ended;
+        ran += expect_broken(Stream { phase, ..s });
+    }
+    assert_eq!(ran, 1 + 320 + 128 + 3 * 64 + 2 + OPEN);
+}
+
+/// Says that every place but the present count modulo the block is broken.
+#[test]
+fn broken_by_its_place() {
+    let mut ran = 0;
+    for s in open_states(&mut Random::new(SEED + 5)) {
+        ran += expect_sound(s);
+        for place in (0..=40).filter(|place| *place != s.place) {
+            ran += expect_broken(Stream { place, ..s });
+        }
+        let far = 1 << 32;
+        for place in [s.place + far, s.place.wrapping_sub(far), u64::MAX] {
+            ran += expect_broken(Stream { place, ..s });
+        }
+    }
+    assert_eq!(ran, OPEN * (1 + 40 + 3));
+}
+
+/// Says that in the text phase the data count doesn't decide the place, nor the other way round.
+#[test]
+fn broken_by_the_place_of_the_other_phase() {
+    let mut ran = 0;
+    for s in open_states(&mut Random::new(SEED + 6)) {
+        let block = block_of(&s);
+        if s.phase == Phase::Text && s.ad_count % block != s.place {
+            let place = s.ad_count % block;
+            ran += expect_broken(Stream { place, ..s });
+        }
+        if s.phase == Phase::Data && s.place > 0 {
+            // Sound again as a text state only with the text's place, here 0.
+            let phase = Phase::Text;
+            ran += expect_broken(Stream { phase, ..s });
+            expect_sound(Stream {
+                phase,
+                place: 0,
+                ..s
+            });
+        }
+    }
+    // Set 1 has 19 such text states and 3 data states in each direction, set 2 has 22 and 4.
+    assert_eq!(ran, 2 * (19 + 3 + 22 + 4));
+}
+
+/// Says that a text count before the text phase is broken, at a fitting place too.
+#[test]
+fn broken_by_early_text() {
+    let mut ran = 0;
+    for s in open_states(&mut Random::new(SEED + 7)) {
+        if s.phase != Phase::Data {
+            continue;
+        }
+        for text_count in [1, 8, 16, s.ad_count + 16, 1_048_576] {
+            ran += expect_broken(Stream { text_count, ..s });
+        }
+    }
+    assert_eq!(ran, OPEN / 5 * 5);
+}
+
+/// Says that counts past their limits are broken, and counts at them aren't.
+#[test]
+fn broken_by_a_count() {
+    let mut ran = 0;
+    for s in open_states(&mut Random::new(SEED + 8)) {
+        let block = block_of(&s);
+        let at = |ad_count: u64, text_count: u64| {
+            let place = match s.phase {
+                Phase::Data => ad_count % block,
+                _ => text_count % block,
+            };
+            Stream {
+                ad_count,
+                text_count,
+                place,
+                ..s
+            }
+        };
+        ran += expect_sound(at(65_535, s.text_count));
+        ran += expect_sound(at(65_536, s.text_count));
+        for count in [65_537, 65_552, 1_048_576, 1 << 32, u64::MAX] {
+            ran += expect_broken(at(count, s.text_count));
+        }
+        if s.phase == Phase::Text {
+            ran += expect_sound(at(s.ad_count, 1_048_575));
+            ran += expect_sound(at(s.ad_count, 1_048_576));
+            ran += expect_sound(at(65_536, 1_048_576));
+            for count in [1_048_577, 1_048_592, 1 << 32, u64::MAX] {
+                ran += expect_broken(at(s.ad_count, count));
+            }
+        }
+    }
+    assert_eq!(ran, OPEN * 7 + OPEN / 5 * 4 * 7);
+}
+
+/// Says that an unknown set is broken, with all else as in a sound state.
+#[test]
+fn broken_by_its_set() {
+    let mut ran = 0;
+    for s in open_states(&mut Random::new(SEED + 9)) {
+        for set in [0, 3, 16, 1 << 32 | 1, 1 << 32 | 2, u64::MAX] {
+            ran += expect_broken(Stream { set, ..s });
+        }
+    }
+    assert_eq!(ran, OPEN * 6);
+}
+
+/// Says that in set 2, and only there, a nonzero byte after the key is broken.
+#[test]
+fn broken_by_its_key() {
+    let mut ran = 0;
+    for s in open_states(&mut Random::new(SEED + 10)) {
+        for bit in 0..128 {
+            let mut other = s;
+            other.key[bit / 8] ^= 1 << (bit % 8);
+            ran += if s.set == 2 && bit >= 96 {
+                expect_broken(other)
+            } else {
+                assert!(!is_broken(&other));
+                1
+            };
+        }
+    }
+    assert_eq!(ran, OPEN * 128);
+}
+
+/// Says that any words and any fitting parts make a state that isn't broken.
+#[test]
+fn words_break_nothing() {
+    let mut random = Random::new(SEED + 11);
+    let mut ran = 0;
+    for s in open_states(&mut Random::new(SEED + 12)) {
+        let words = [(); 5].map(|()| random.number());
+        ran += expect_sound(Stream { words, ..s });
+    }
+    assert_eq!(ran, OPEN);
+}
+
+/// The faults of a call on a state.
+#[derive(Clone, Copy, Debug, PartialEq)]
+enum Fault {
+    Broken,
+    Phase,
+    Direction,
+    Tag,
+    Limit,
+    Room,
+    Mismatch,
+}
+
+/// Gives the faults that a call can have, in the order in which they are tested.
+fn faults_of(call: Call) -> Vec<(Fault, u64)> {
+    use Fault::*;
+    match call {
+        Call::Ad => vec![(Broken, 8), (Phase, 7), (Limit, 5)],
+        Call::Seal => vec![
+            (Broken, 8),
+            (Phase, 7),
+            (Direction, 7),
+            (Limit, 5),
+            (Room, 6),
+        ],
+        Call::Check => vec![(Broken, 8), (Phase, 7), (Direction, 7), (Limit, 5)],
+        Call::FinishSealing => vec![(Broken, 8), (Phase, 7), (Direction, 7), (Tag, 4)],
+        Call::FinishChecking => {
+            vec![
+                (Broken, 8),
+                (Phase, 7),
+                (Direction, 7),
+                (Tag, 4),
+                (Mismatch, 9),
+            ]
+        }
+    }
+}
+
+/// Gives the state that a call has no fault with, at a later or an earlier phase if both fit.
+fn fitting(random: &mut Random, m: &Message, call: Call, later: bool) -> Stream {
+    let direction = match call {
+        Call::Ad | Call::Seal | Call::FinishSealing => Sealing,
+        Call::Check | Call::FinishChecking => Checking,
+    };
+    let s = ad(fresh(m, direction), &m.ad).2;
+    if call == Call::Ad || !later {
+        return s;
+    }
+    text_call(random, s, body(m, direction)).0 .2
+}
+
+/// Makes one call with the given faults and says that the first one is answered.
+fn expect_first(random: &mut Random, number: u64, call: Call, way: usize, faults: &[(Fault, u64)]) {
+    let has = |fault: Fault| faults.iter().any(|(known, _)| *known == fault);
+    let later = way & 1 == 1;
+    let text_length = if later && call != Call::Ad { 5 } else { 0 };
+    let m = message(random, number, 13, text_length);
+    let mut s = fitting(random, &m, call, later);
+    let mut piece = vec![1; 5];
+    let mut tag = m.tag.clone();
+    if has(Fault::Mismatch) {
+        tag[way] ^= 1;
+    }
+    if has(Fault::Tag) {
+        let right = tag.len();
+        tag.resize([right - 1, right + 1, 0, 28 - right][way], 3);
+    }
+    let ended = has(Fault::Phase) && (call != Call::Ad || later);
+    if has(Fault::Limit) {
+        if way < 2 || ended || (call != Call::Ad && s.phase == Phase::Data) {
+            piece = vec![1; if call == Call::Ad { 65_537 } else { 1_048_577 }];
+        } else if call == Call::Ad {
+            s.ad_count = 65_532;
+            s.place = s.ad_count % block_of(&s);
+        } else {
+            s.text_count = 1_048_572;
+            s.place = s.text_count % block_of(&s);
+        }
+    }
+    if ended {
+        s = ENDED;
+    } else if has(Fault::Phase) {
+        s.phase = Phase::Text;
+        s.place = 0;
+    }
+    if has(Fault::Direction) && !ended {
+        s.direction = if s.direction == Sealing {
+            Checking
+        } else {
+            Sealing
+        };
+    }
+    if has(Fault::Broken) {
+        s.place += block_of(&s);
+    }
+    let room = if has(Fault::Room) {
+        piece.len() - 1
+    } else {
+        piece.len()
+    };
+
+    match faults.first() {
+        None | Some((_, 9)) => {
+            let mut out = vec![0; room];
+            let given = called(call, s, &piece, &mut out, &mut tag);
+            assert_eq!(given.0, faults.first().map_or(0, |(_, answer)| *answer));
+            let finishing = matches!(call, Call::FinishSealing | Call::FinishChecking);
+            assert_eq!(given.2 == ENDED, finishing);
+            assert!(given.1 > 0 || !finishing);
+        }
+        Some((_, answer)) => expect_refusal(*answer, call, s, &piece, room, &tag),
+    }
+}
+
+/// Says that every mixture of faults is answered with the earliest test that holds.
+#[test]
+fn every_mixture_of_faults() {
+    let mut random = Random::new(SEED + 13);
+    let mut ran = 0;
+    for number in [1, 2] {
+        for call in CALLS {
+            let all = faults_of(call);
+            for mixture in 0..1 << all.len() {
+                let chosen = all
+                    .iter()
+                    .enumerate()
+                    .filter(|(i, _)| mixture >> i & 1 == 1);
+                let faults: Vec<(Fault, u64)> = chosen.map(|(_, fault)| *fault).collect();
+                for way in 0..4 {
+                    expect_first(&mut random, number, call, way, &faults);
+                    ran += 1;
+                }
+            }
+        }
+    }
+    assert_eq!(ran, 2 * 4 * (8 + 32 + 16 + 16 + 32));
+}
+
+/// Says that every mixture of a start's faults is answered with the earliest, and has ended.
+#[test]
+fn every_mixture_of_faults_of_a_start() {
+    let mut ran = 0;
+    for number in [1, 2] {
+        let right = set_of(number).expect("a known set").key;
+        let lengths = [right, 0, right - 1, right + 1, 28 - right, 40];
+        for direction in BOTH {
+            for set in [number, 0, 3, 1 << 32 | number, u64::MAX] {
+                for key in lengths {
+                    for nonce in lengths {
+                        let (n, rounds, s) = start(direction, set, &vec![1; key], &vec![2; nonce]);
+                        let wanted = match (set == number, key == right, nonce == right) {
+                            (false, _, _) => 1,
+                            (true, false, _) => 2,
+                            (true, true, false) => 3,
+                            (true, true, true) => 0,
+                        };
+                        assert_eq!(n, wanted);
+                        assert_eq!(rounds, if n == 0 { 12 } else { 0 });
+                        assert_eq!(s == ENDED, n != 0);
+                        ran += 1;
+                    }
+                }
+            }
+        }
+    }
+    assert_eq!(ran, 2 * 2 * 5 * 6 * 6);
+}
+
+/// Says that text and finish calls of the other direction are 7 in both open phases.
+#[test]
+fn the_other_direction() {
+    let mut ran = 0;
+    for s in open_states(&mut Random::new(SEED + 14)) {
+        let tag = vec![4; set_of(s.set).expect("a known set").key];
+        let others = match s.direction {
+            Sealing => [Call::Check, Call::FinishChecking],
+            Checking => [Call::Seal, Call::FinishSealing],
+        };
+        for call in others {
+            expect_refusal(7, call, s, &[1, 2], 2, &tag);
+            expect_refusal(7, call, s, &[], 0, &tag);
+            ran += 2;
+        }
+    }
+    assert_eq!(ran, OPEN * 4);
+}
+
+/// Says that the ended state answers 7 to every call, whatever else is wrong.
+#[test]
+fn nothing_after_the_end() {
+    let mut ran = 0;
+    for call in CALLS {
+        for piece in [0, 1, 8, 1_048_577] {
+            for room in [0, 1, 1_048_577] {
+                for tag in [0, 12, 16, 17] {
+                    expect_refusal(7, call, ENDED, &vec![1; piece], room, &vec![2; tag]);
+                    ran += 1;
+                }
+            }
+        }
+    }
+    assert_eq!(ran, 5 * 4 * 3 * 4);
+}
+
+/// Says that a tag with any one bit wrong is 9 and ends the stream, from both open phases.
+#[test]
+fn a_wrong_tag_ends_the_stream() {
+    let mut random = Random::new(SEED + 15);
+    let mut ran = 0;
+    for number in [1, 2] {
+        for text_length in [0, 21] {
+            let m = message(&mut random, number, 5, text_length);
+            let mut s = ad(fresh(&m, Checking), &m.ad).2;
+            let mut rounds = 12 + closing(&m);
+            if text_length > 0 {
+                s = check(s, &m.cipher).2;
+                rounds = 12;
+            }
+            for bit in 0..m.set.key * 8 {
+                let mut tag = m.tag.clone();
+                tag[bit / 8] ^= 1 << (bit % 8);
+                let (answer, reported, next) = finish_checking(s, &tag);
+                assert_eq!((answer, reported), (9, rounds));
+                assert_eq!(next, ENDED);
+                expect_refusal(7, Call::FinishChecking, next, &[], 0, &m.tag);
+                expect_refusal(7, Call::Check, next, &[1], 0, &[]);
+                expect_refusal(7, Call::Ad, next, &[1], 0, &[]);
+                ran += 1;
+            }
+            assert_eq!(finish_checking(s, &m.tag), (0, rounds, ENDED));
+        }
+    }
+    assert_eq!(ran, 2 * (128 + 96));
+}
+
+/// Says that damaged or missing pieces are 9 at the end.
+#[test]
+fn damage_is_noticed() {
+    let mut random = Random::new(SEED + 16);
+    let mut ran = 0;
+    for number in [1, 2] {
+        let m = message(&mut random, number, 19, 37);
+        let judged = |data: &[u8], cipher: &[u8]| {
+            let s = ad(fresh(&m, Checking), data).2;
+            finish_checking(check(s, cipher).2, &m.tag).0
+        };
+        assert_eq!(judged(&m.ad, &m.cipher), 0);
+        for bit in 0..19 * 8 {
+            let mut data = m.ad.clone();
+            data[bit / 8] ^= 1 << (bit % 8);
+            assert_eq!(judged(&data, &m.cipher), 9);
+            ran += 1;
+        }
+        for bit in 0..37 * 8 {
+            let mut cipher = m.cipher.clone();
+            cipher[bit / 8] ^= 1 << (bit % 8);
+            assert_eq!(judged(&m.ad, &cipher), 9);
+            ran += 1;
+        }
+        assert_eq!(judged(&m.ad[..18], &m.cipher), 9);
+        assert_eq!(judged(&m.ad, &m.cipher[..36]), 9);
+        ran += 2;
+    }
+    assert_eq!(ran, 2 * (56 * 8 + 2));
+}
+
+/// Says that empty pieces do nothing, but that the first text call closes the data.
+#[test]
+fn empty_pieces() {
+    let mut random = Random::new(SEED + 17);
+    let mut ran = 0;
+    for s in open_states(&mut random) {
+        let (given, _) = text_call(&mut random, s, &[]);
+        if s.phase == Phase::Data {
+            assert_eq!(ad(s, &[]), (0, 0, s));
+            let middle = if s.set == 1 { 6 } else { 8 };
+            let closed = done(given, if s.ad_count == 0 { 0 } else { middle });
+            assert_eq!((closed.phase, closed.place), (Phase::Text, 0));
+            assert_eq!((closed.ad_count, closed.text_count), (s.ad_count, 0));
+            assert_ne!(closed.words, s.words);
+            expect_refusal(7, Call::Ad, closed, &[], 0, &[]);
+            expect_refusal(7, Call::Ad, closed, &[1], 0, &[]);
+            // With no data the only change is the lowest bit of x4.
+            if s.ad_count == 0 {
+                let mut words = s.words;
+                words[4] ^= 1;
+                assert_eq!(closed.words, words);
+            }
+        } else {
+            assert_eq!(given, (0, 0, s));
+            expect_refusal(7, Call::Ad, s, &[], 0, &[]);
+        }
+        ran += 1;
+    }
+    assert_eq!(ran, OPEN);
+}
+
+/// Says that a refused text call doesn't close the data, and that a refused finish ends nothing.
+#[test]
+fn refusals_change_nothing() {
+    let mut random = Random::new(SEED + 18);
+    let mut ran = 0;
+    for number in [1, 2] {
+        for direction in BOTH {
+            let m = message(&mut random, number, 20, 20);
+            let (front, back) = (m.ad[..7].to_vec(), m.ad[7..].to_vec());
+            let mut s = ad(fresh(&m, direction), &front).2;
+            let long = vec![0; 1_048_577];
+            let (text, finish) = match direction {
+                Sealing => (Call::Seal, Call::FinishSealing),
+                Checking => (Call::Check, Call::FinishChecking),
+            };
+            let refused = [
+                called(text, s, &long, &mut vec![0; long.len()], &mut []),
+                called(finish, s, &[], &mut [], &mut vec![0; m.set.key - 1]),
+                ad(s, &long[..65_530]),
+            ];
+            assert_eq!(refused, [(5, 0, s), (4, 0, s), (5, 0, s)]);
+            if direction == Sealing {
+                expect_refusal(6, Call::Seal, s, &[1; 9], 8, &[]);
+            }
+            for (answer, _, next) in refused {
+                assert_ne!(answer, 0);
+                s = next;
+            }
+            s = done(ad(s, &back), filling(&m, 7, 20));
+            let (given, out) = text_call(&mut random, s, body(&m, direction));
+            assert_eq!(out, m.cipher);
+            let mut tag = match direction {
+                Sealing => vec![0; m.set.key],
+                Checking => m.tag.clone(),
+            };
+            let ending = called(finish, given.2, &[], &mut [], &mut tag);
+            assert_eq!(ending, (0, 12, ENDED));
+            assert_eq!(tag, m.tag);
+            ran += 1;
+        }
+    }
+    assert_eq!(ran, 4);
+}
