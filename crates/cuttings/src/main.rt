@@ -374,6 +374,39 @@ fn try_limits(key: &[u8], nonce: &[u8], long: &[u8]) {
     say_number(b"1048577 bytes of text=", number_of(full.check(b"1")));
 }
 
+// The answers to calls on a sealing stream that the rules name: room one byte short, finishing twice, data after an empty text call.
+fn try_sealing(key: &[u8], nonce: &[u8], text: &[u8]) {
+    let mut out = [0; 52];
+    let mut tag = [0; 16];
+    let o = Stream::start(Direction::Sealing, 1, key, nonce);
+    let s = o.next;
+    say_number(b"room one byte short=", number_of(s.seal(text, &mut out)));
+    let o = s.finish_sealing(&mut tag);
+    let ended = o.next;
+    say_number(
+        b"finishing twice=",
+        number_of(ended.finish_sealing(&mut tag)),
+    );
+    let o = s.seal(b"", &mut out);
+    let closed = o.next;
+    say_number(
+        b"data after an empty text call=",
+        number_of(closed.ad(b"1")),
+    );
+}
+
+// The answers to starts with a short key.
+fn try_starts(key: &[u8], nonce: &[u8]) {
+    say_number(
+        b"key of 15 bytes=",
+        number_of(Stream::start(Direction::Sealing, 1, part(key, 0, 15), nonce)),
+    );
+    say_number(
+        b"key of 15 bytes, nonce of 15=",
+        number_of(Stream::start(Direction::Sealing, 1, part(key, 0, 15), part(nonce, 0, 15))),
+    );
+}
+
 // The number of an outcome.
 fn number_of(o: Outcome) -> u64 {
     let answer = o.answer;
@@ -498,4 +531,6 @@ fn main() {
     try_set(2, &key[..12], &nonce[..12], &ad, &text);
     let long = long();
     try_limits(&key, &nonce, &long);
+    try_sealing(&key, &nonce, &text);
+    try_starts(&key, &nonce);
 }

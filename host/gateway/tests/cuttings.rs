@@ -1,9 +1,22 @@
 //! What the program `cuttings` is held to, computed again by the second program.
 
-use second::{calls::seal, hex::written};
+use second::{calls::seal, cases::named_cases, hex::written};
 
 /// What the gate compares the program's output with.
 const EXPECTED: &str = include_str!("../../../crates/cuttings/stdout");
+
+/// The cases that the program prints behind its two messages, in its order.
+const PRINTED: [&str; 9] = [
+    "65537 bytes of data",
+    "65536 bytes of data",
+    "1048576 bytes of text",
+    "1048577 bytes of text",
+    "room one byte short",
+    "finishing twice",
+    "data after an empty text call",
+    "key of 15 bytes",
+    "key of 15 bytes, nonce of 15",
+];
 
 /// The program's message in a set, sealed by the second program, as the program has to print it.
 fn sealed(set: u64, length: usize) -> String {
@@ -31,11 +44,19 @@ fn sealed(set: u64, length: usize) -> String {
     )
 }
 
+/// A case by the second program's streams, as the program has to print it.
+fn case(name: &str, cases: &[(String, u64)]) -> String {
+    let found: Vec<_> = cases.iter().filter(|case| case.0 == name).collect();
+    assert_eq!(found.len(), 1, "{name}");
+    format!("{name}={}\n", found[0].1)
+}
+
 #[test]
-fn ciphertexts_tags_and_rounds_are_the_second_programs() {
-    let limits = "65537 bytes of data=5\n65536 bytes of data=0\n1048576 bytes of text=0\n1048577 bytes of text=5\n";
+fn messages_and_cases_are_the_second_programs() {
+    let cases = named_cases();
+    let printed: String = PRINTED.iter().map(|name| case(name, &cases)).collect();
     assert_eq!(
         EXPECTED,
-        format!("{}{}{limits}", sealed(1, 16), sealed(2, 12))
+        format!("{}{}{printed}", sealed(1, 16), sealed(2, 12))
     );
 }
