@@ -7,7 +7,7 @@ use Prim.Native.Nat.{ℕ, _+_, _-_, _≤_}
 use native.Mathlib.Omega.{arith}
 use lib.Dec.{eqb, leb}
 use lib.ListN.{length, drop}
-use borrow.Author.Tests.{ne-eqb, eqb-true}
+use borrow.Author.Tests.{eqb-true}
 use Rattle.answers.specs.declared.Answer.{Answer}
 use Rattle.answers.specs.declared.Answer.the-variants.{Done, UnknownSet, KeyLength, NonceLength, TagLength, PastLimit, NoRoom, OutOfPhase, BrokenState, TagDiffers, BrokenRecord}
 use Rattle.answers.specs.Numbers.{numberOf, isDone}
@@ -19,7 +19,7 @@ use Rattle.stream.specs.declared.Direction.{Direction}
 use Rattle.stream.specs.declared.Stream.{Stream}
 use Rattle.stream.specs.declared.Outcome.{Outcome}
 use Rattle.stream.specs.State.{isData, isOpen, isSealing, isChecking, ended, isSound}
-use Rattle.stream.specs.Calls.{decided, refused, startTest, pieceTest, finishTest, startCall, dataCall, tookData, tookText, Called, called, sealCall, checkCall, ownTag, finishedWith, finishSealingCall, finishCheckingCall, textWords}
+use Rattle.stream.specs.Calls.{decided, refused, startTest, pieceTest, finishTest, startCall, dataCall, tookText, called, sealCall, checkCall, ownTag, finishedWith, finishSealingCall, finishCheckingCall}
 use Rattle.message.specs.Message as message
 use Rattle.message.specs.Demands.{Choice, _when_, first, startFaults, faults, isNone}
 use Rattle.message.proofs.Demands.{answers-anything}

@@ -1,6 +1,6 @@
 -- A model that keeps the contracts is ours. Assumes nothing.
 use mathlib.Core.Path.{_≡_, refl}
-use mathlib.Core.List.{List, []}
+use mathlib.Core.List.{[]}
 use Prim.Native.Nat.{ℕ, zero, suc}
 use contract.Lifetimes.{Lfts}
 use Rattle.letter.specs.Model.{Model, ours, lent, Keeps}

@@ -2,14 +2,14 @@
 use mathlib.Core.Path.{_≡_, refl, sym, ap, _∙_}
 use mathlib.Core.Bool.{Bool, true, false, cond, _&&_, false≢true}
 use mathlib.Core.List.{List, _++_}
-use mathlib.Core.Logic.{_⊎_, inl, inr}
+use mathlib.Core.Logic.{inl, inr}
 use mathlib.Core.Option.{Option, some, none}
 use Prim.Native.Nat.{ℕ, _+_, _-_, _≤_}
 use native.Mathlib.Omega.{arith}
 use lib.Dec.{eqb, leb}
 use lib.ListN.{length, drop}
 use Rattle.answers.specs.declared.Answer.{Answer}
-use Rattle.answers.specs.declared.Answer.the-variants.{Done, TagLength, PastLimit, NoRoom, OutOfPhase, BrokenState, TagDiffers}
+use Rattle.answers.specs.declared.Answer.the-variants.{Done, TagLength, NoRoom, OutOfPhase, BrokenState, TagDiffers}
 use Rattle.answers.specs.Numbers.{numberOf, isDone}
 use Rattle.ascon.specs.Sets.{rowOf, dataLimit, textLimit}
 use Rattle.ascon.specs.Mode.{zeros, initialise, same, opened}

@@ -1,16 +1,15 @@
 -- Wrong answers that the contracts rule out, of the calls whose wrong versions are not tried as edits of the code (or only one of them is).
 use mathlib.Core.Bool.{true, false}
-use mathlib.Core.List.{List, [], _∷_}
-use Prim.Native.Nat.{ℕ}
+use mathlib.Core.List.{[], _∷_}
 use lib.ListN.{replicate}
-use Rattle.answers.specs.declared.Answer.the-variants.{Done, UnknownSet, KeyLength, NonceLength, TagLength, OutOfPhase, BrokenState, TagDiffers, BrokenRecord}
+use Rattle.answers.specs.declared.Answer.the-variants.{Done, UnknownSet, KeyLength, OutOfPhase, BrokenState, TagDiffers, BrokenRecord}
 use Rattle.permutation.specs.declared.Run.the-variants.{Twelve, FirstEight}
 use Rattle.ascon.specs.Mode.{zeros}
 use Rattle.stream.specs.declared.Direction.the-variants.{Sealing}
 use Rattle.stream.specs.declared.Phase.the-variants.{Data, Ended}
 use Rattle.stream.specs.State.{ended}
 use Rattle.digits.specs.declared.hex.Digit.the-variants.{Value}
-use Rattle.digits.specs.declared.hex.Pair.the-variants.{Byte, NoByte}
+use Rattle.digits.specs.declared.hex.Pair.the-variants.{Byte}
 use Rattle.record.specs.Form.{fieldOf, blank}
 use Rattle.report.specs.declared.Verdict.the-variants.{Equal}
 use Rattle.answers.proofs as answers
