@@ -1,5 +1,9 @@
 -- The letter is answered. Assumes nothing.
+use Rattle.ascon.specs.Sets.{rowOf}
+use Rattle.ascon.specs.Mode.{encrypted, sealed}
 use Rattle.ascon.proofs.Cases.{cases}
+use Rattle.ascon.proofs.Sealing.{bytes-tag, bytes-encrypted, bytes-decrypted}
+use Rattle.sets.proofs.Rows.{row-fits}
 use Rattle.ascon.proofs.Rounds.{runs-total}
 use Rattle.ascon.proofs.Marks.{runs-marked}
 use Rattle.letter.specs.Letter.{Letter}
@@ -12,6 +16,7 @@ use Rattle.letter.proofs.Worthless.{worthless}
 use Rattle.letter.proofs.Wrong.{wrong}
 
 pub letter : Letter
+unfolding sealed
 letter =
     record {
       first = first-demand;
@@ -22,6 +27,9 @@ letter =
       cases = cases;
       counted = runs-total;
       marked = runs-marked;
+      sealed-bytes = λ set K N A P key k h.
+          (bytes-encrypted (rowOf set) (row-fits set) K key N A k P h, bytes-tag (rowOf set) (row-fits set) K key k (encrypted (rowOf set) K N A P .state));
+      opened-bytes = λ set K N A C key k h. bytes-decrypted (rowOf set) (row-fits set) K key N A k C h;
       worthless = worthless;
       wrong = wrong;
     }

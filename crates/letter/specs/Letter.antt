@@ -3,7 +3,9 @@ use mathlib.Core.List.{List}
 use mathlib.Core.Path.{_≡_}
 use Prim.Native.Nat.{ℕ, _≤_, _<_}
 use lib.ListN.{length}
-use Rattle.ascon.specs.Sets.{ParameterSet}
+use Rattle.permutation.specs.Strings.{Bytes}
+use Rattle.ascon.specs.Sets.{ParameterSet, rowOf}
+use Rattle.ascon.specs.Mode.{decrypted, sealed}
 use Rattle.ascon.specs.Rounds.{runs, total, messageRounds, Marked}
 use Rattle.ascon.specs.Cases.{Cases}
 use Rattle.letter.specs.Model.{Model, ours, Keeps}
@@ -30,6 +32,10 @@ pub record Letter : Type 2 where
   -- the formula counts the runs of Algorithm 1, and the definition makes those runs
   pub counted : (set : ParameterSet) (A P : List ℕ) → total (runs set A P) ≡ messageRounds set (length A) (length P)
   pub marked : (r : ℕ) → 0 < r → (S A P : List ℕ) → r ≤ length S → Marked r S A P
+  -- bytes stay bytes
+  pub sealed-bytes : (set : ℕ) (K N A P : List ℕ) → length K ≡ rowOf set .key → Bytes K → Bytes P
+      → Bytes (sealed (rowOf set) K N A P .cipher) × Bytes (sealed (rowOf set) K N A P .tag)
+  pub opened-bytes : (set : ℕ) (K N A C : List ℕ) → length K ≡ rowOf set .key → Bytes K → Bytes C → Bytes (decrypted (rowOf set) K N A C .out)
   -- what the demands and the contracts shut out
   pub worthless : Worthless
   pub wrong : Wrong
