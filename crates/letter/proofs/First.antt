@@ -60,6 +60,7 @@ says answer Kept k = record { is = refl; kept = λ _. k }
 
 -- calls that give no byte out, by their three tests
 module _ (before : Stream) (done : Outcome) (e : done .answer ≡ Done) where
+  -- a start
   start-says : (a b c : Bool) → let outcome = decided (cond a (cond b (cond c Done NonceLength) KeyLength) UnknownSet) before done in
       Says (outcome .answer) (first Done (UnknownSet when not a ∷ KeyLength when not b ∷ NonceLength when not c ∷ []))
       ((outcome .next ≡ before) × (outcome .rounds ≡ 0))
@@ -68,6 +69,7 @@ module _ (before : Stream) (done : Outcome) (e : done .answer ≡ Done) where
   start-says true false c = says _ _ (refl, refl)
   start-says false b c = says _ _ (refl, refl)
 
+  -- a piece
   piece-says : (a b c : Bool) → let outcome = decided (cond a (cond b (cond c Done PastLimit) OutOfPhase) BrokenState) before done in
       Says (outcome .answer) (first Done (BrokenState when not a ∷ OutOfPhase when not b ∷ PastLimit when not c ∷ []))
       ((outcome .next ≡ before) × (outcome .rounds ≡ 0))
@@ -85,26 +87,31 @@ tested true true false = refl
 tested true false c = refl
 tested false b c = refl
 
+-- a start's tests are its list
 tested-start : (set key nonce : ℕ) → startTest set key nonce ≡ first Done (startFaults set key nonce)
 unfolding startTest
 tested-start set key nonce = tested (isSet set) (eqb key (rowOf set .key)) (eqb nonce (rowOf set .key))
 
+-- a start
 start-said : (d : Direction) (set : ℕ) (K N : List ℕ) → let outcome = startCall d set K N in
     Says (outcome .answer) (first Done (startFaults set (length K) (length N))) ((outcome .next ≡ ended) × (outcome .rounds ≡ 0))
 unfolding startCall startTest
 start-said d set K N = start-says ended _ refl (isSet set) (eqb (length K) (rowOf set .key)) (eqb (length N) (rowOf set .key))
 
+-- a piece of data
 ad-said : (s : Stream) (piece : List ℕ) → let outcome = dataCall s piece in
     Says (outcome .answer) (first Done (pieceFaults s (isData (s .phase)) (s .ad + length piece) dataLimit)) ((outcome .next ≡ s) × (outcome .rounds ≡ 0))
 unfolding dataCall pieceTest
 ad-said s piece = piece-says s _ refl (isSound s) (isData (s .phase)) (leb (s .ad + length piece) dataLimit)
 
+-- a piece of ciphertext
 check-said : (s : Stream) (piece : List ℕ) → let outcome = checkCall s piece in
     Says (outcome .answer) (first Done (pieceFaults s (isOpen (s .phase) && isChecking (s .direction)) (s .text + length piece) textLimit))
     ((outcome .next ≡ s) × (outcome .rounds ≡ 0))
 unfolding checkCall pieceTest tookText
 check-said s piece = piece-says s _ refl (isSound s) (isOpen (s .phase) && isChecking (s .direction)) (leb (s .text + length piece) textLimit)
 
+-- a piece of text, with its room
 seal-said : (s : Stream) (piece out : List ℕ) → let leaves = sealCall s piece out in
     Says (leaves .outcome .answer)
     (first Done
@@ -126,6 +133,7 @@ seal-said s piece out =
     go true false c room done given e = says _ _ (refl, refl, refl)
     go false b c room done given e = says _ _ (refl, refl, refl)
 
+-- the end of a sealing
 finish-sealing-said : (s : Stream) (tag : List ℕ) → let leaves = finishSealingCall s tag in
     Says (leaves .outcome .answer) (first Done (finishFaults s (isOpen (s .phase) && isSealing (s .direction)) (length tag)))
     ((leaves .lent ≡ tag) × (leaves .outcome .next ≡ s) × (leaves .outcome .rounds ≡ 0))
@@ -147,6 +155,7 @@ record SaysEnd (outcome : Outcome) (listed : Answer) (s : Stream) : Type 0 where
   said : Says (outcome .answer) listed ((outcome .next ≡ s) × (outcome .rounds ≡ 0))
   differs : outcome .answer ≡ TagDiffers → outcome .next ≡ ended
 
+-- the end of a checking
 finish-checking-said : (s : Stream) (tag : List ℕ)
     → SaysEnd (finishCheckingCall s tag)
     (first Done (finishFaults s (isOpen (s .phase) && isChecking (s .direction)) (length tag) ++ TagDiffers when not (same tag (ownTag s)) ∷ [])) s
@@ -185,6 +194,7 @@ before-last (c ∷ cs) t answer e r = go (c .holds) e (λ e. before-last cs t an
     go false e rest = rest e
 
 module _ (set : ℕ) (K N A P out tag : List ℕ) where
+  -- a refused sealing changes nothing
   seal-kept : let leaves = message.sealCall set K N A P out tag in
       Refused (leaves .outcome .answer) → (leaves .out ≡ out) × (leaves .tag ≡ tag) × (leaves .outcome .rounds ≡ 0)
   seal-kept r =
@@ -192,12 +202,14 @@ module _ (set : ℕ) (K N A P out tag : List ℕ) where
       (ap (λ (x : message.SealLeaves). x .out) e, ap (λ (x : message.SealLeaves). x .tag) e, ap (λ (x : message.SealLeaves). x .outcome .rounds) e)
 
 module _ (set : ℕ) (K N A C T out : List ℕ) where
+  -- nor does a refused opening
   open-kept : let leaves = message.openCall set K N A C T out in Refused (leaves .outcome .answer) → (leaves .out ≡ out) × (leaves .outcome .rounds ≡ 0)
   open-kept r =
       let test = before-last (faults set (length K) (length N) (length T) (length A) (length C) (length out)) (isNone (opened (rowOf set) K N A C T)) _ (answers-anything .open-answer set K N A C T out) r in
       let e = answers-anything .open-refused set K N A C T out _ test (undone _ r) in
       (ap (λ (x : message.OpenLeaves). x .out) e, ap (λ (x : message.OpenLeaves). x .outcome .rounds) e)
 
+  -- a differing tag leaves zeros
   open-cleared : let leaves = message.openCall set K N A C T out in
       leaves .outcome .answer ≡ TagDiffers
       → (leaves .out ≡ zeros (length C) ++ drop (length C) out) × (leaves .outcome .rounds ≡ messageRounds (rowOf set) (length A) (length C))
@@ -227,6 +239,7 @@ read-said text = go (reads-and-writes .answered text)
         let f = reads-and-writes .first-line text b in
         inr (b, f .0, f .1, f .2, f .3)
 
+-- a refused reading hands back nothing
 read-kept : (text : List ℕ) → Refused (readCall text .answer) → (readCall text .taken ≡ 0) × (readCall text .content ≡ blank)
 unfolding refusedAt
 read-kept text r = go (reads-and-writes .answered text)
@@ -241,6 +254,7 @@ record Writes (r : Record) (out : List ℕ) : Type 0 where
       ((writeCall r out .out ≡ out) × (writeCall r out .outcome .written ≡ 0))
   line : writeCall r out .outcome .line ≡ broken r
 
+-- a writing keeps its list
 write-said : (r : Record) (out : List ℕ) → Writes r out
 unfolding writeCall
 write-said r out = record { said = go (eqb (broken r) 0) (leb (length (textOf r)) (length out)); line = named (eqb (broken r) 0) (leb (length (textOf r)) (length out)) refl }
@@ -264,6 +278,7 @@ write-said r out = record { said = go (eqb (broken r) 0) (leb (length (textOf r)
     named true false e = sym (eqb-true (broken r) 0 e)
     named false room e = refl
 
+-- a report, by its one test
 report-said : (number : ℕ) (verdict : Verdict) (place : List ℕ) → let leaves = reportCall number verdict place in
     Says (leaves .outcome .answer) (first Done (NoRoom when not (leb (length (reportText number verdict)) (length place)) ∷ []))
     ((leaves .place ≡ place) × (leaves .outcome .written ≡ 0))
@@ -282,6 +297,7 @@ report-said number verdict place = go (leb (length (reportText number verdict)) 
 
 -- ---- verdicts and steps
 
+-- a verdict, by its four tests
 judge-said : (r : Record)
     → verdictOn r
     ≡ first Equal
@@ -331,6 +347,7 @@ reports step e (inl f) = true≢false (sym e ∙ ap isReport f)
 reports step e (inr (inl f)) = true≢false (sym e ∙ ap isReport f)
 reports step e (inr (inr f)) = true≢false (sym e ∙ ap isReport f)
 
+-- a step keeps its list
 steps-said : (window : List ℕ) (over : Bool) (number : ℕ) (place : List ℕ) → Steps window over number place
 unfolding stepCall reported stepBy reportCall isReport
 steps-said window over number place =
@@ -372,6 +389,7 @@ steps-said window over number place =
 
 -- ---- the demand
 
+-- each answer is listed
 listed : Listed ours
 listed =
     record {
@@ -394,6 +412,7 @@ listed =
       step = λ window over number place. steps-said window over number place .said;
     }
 
+-- each refusal changes nothing
 unchanged : Unchanged ours
 unchanged =
     record {
@@ -413,6 +432,7 @@ unchanged =
       step = λ window over number place. steps-said window over number place .kept;
     }
 
+-- save one
 mismatch : Mismatch ours
 mismatch =
     record {
@@ -425,5 +445,6 @@ mismatch =
 pub of-kept : (Says : Model → Type 0) → Says ours → (m : Model) → Keeps m → Says m
 of-kept Says s m k = subst Says (sym (is-ours m k)) s
 
+-- the first demand
 pub first-demand : First
 first-demand = record { answers = every-call; listed = of-kept Listed listed; unchanged = of-kept Unchanged unchanged; mismatch = of-kept Mismatch mismatch }

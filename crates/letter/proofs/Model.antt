@@ -10,6 +10,7 @@ abbrev lifetimes : (n : ℕ) → Lfts n
 lifetimes zero = tt
 lifetimes (suc n) = ([], lifetimes n)
 
+-- a model that keeps the contracts is ours, call by call
 pub is-ours : (m : Model) → Keeps m → m ≡ ours
 is-ours m k =
     λ j. record {

@@ -42,6 +42,7 @@ decided-done answer s done e = go (isDone answer) refl e
     go true f e = refl
     go false f e = absurd (false≢true (sym f ∙ ap isDone e))
 
+-- a start
 start-reports : (d : Direction) (set : ℕ) (K N : List ℕ) → let outcome = startCall d set K N in
     outcome .answer ≡ Done → (outcome .rounds ≡ 12) × (outcome .next .phase ≡ Data)
 unfolding startCall
@@ -63,11 +64,13 @@ start-reports d set K N e =
     let done = decided-done (startTest set (length K) (length N)) ended begun e in
     (ap (λ (x : Outcome). x .rounds) done, ap (λ (x : Outcome). x .next .phase) done)
 
+-- a piece of data
 ad-reports : (s : Stream) (piece : List ℕ) → dataCall s piece .answer ≡ Done → dataCall s piece .rounds ≡ filledRounds (rowOf (s .set)) (s .ad) (length piece)
 unfolding dataCall
 ad-reports s piece e =
     ap (λ (x : Outcome). x .rounds) (decided-done (pieceTest s (isData (s .phase)) (s .ad) (length piece) dataLimit) s (tookData s piece) e)
 
+-- a piece of ciphertext
 check-reports : (s : Stream) (piece : List ℕ) → let outcome = checkCall s piece in
     outcome .answer ≡ Done → (outcome .rounds ≡ closingRounds s + filledRounds (rowOf (s .set)) (s .text) (length piece)) × (outcome .next .phase ≡ Text)
 unfolding checkCall tookText
@@ -76,6 +79,7 @@ check-reports s piece e =
     let done = decided-done (pieceTest s (isOpen (s .phase) && isChecking (s .direction)) (s .text) (length piece) textLimit) s (tookText s words (length piece)) e in
     (ap (λ (x : Outcome). x .rounds) done, ap (λ (x : Outcome). x .next .phase) done)
 
+-- a piece of text
 seal-reports : (s : Stream) (piece out : List ℕ) → let outcome = sealCall s piece out .outcome in
     outcome .answer ≡ Done → (outcome .rounds ≡ closingRounds s + filledRounds (rowOf (s .set)) (s .text) (length piece)) × (outcome .next .phase ≡ Text)
 unfolding sealCall tookText
@@ -97,6 +101,7 @@ seal-reports s piece out =
         by true false f e = absurd (let z : _≡_ {A = ℕ} 6 0 = ap numberOf e in omega arith)
         by false room f e = absurd (false≢true (sym f ∙ ap isDone e))
 
+-- the end of a sealing
 finish-sealing-reports : (s : Stream) (tag : List ℕ) → let outcome = finishSealingCall s tag .outcome in
     outcome .answer ≡ Done → (outcome .rounds ≡ closingRounds s + 12) × (outcome .next ≡ ended)
 unfolding finishSealingCall
@@ -111,6 +116,7 @@ finish-sealing-reports s tag = go (finishTest s (isOpen (s .phase) && isSealing 
         by true f e = (refl, refl)
         by false f e = absurd (false≢true (sym f ∙ ap isDone e))
 
+-- the end of a checking
 finish-checking-reports : (s : Stream) (tag : List ℕ) → let outcome = finishCheckingCall s tag in
     Through (outcome .answer) → (outcome .rounds ≡ closingRounds s + 12) × (outcome .next ≡ ended)
 unfolding finishCheckingCall finishTest
@@ -124,10 +130,12 @@ finish-checking-reports s tag =
     go true false c end t = absurd (stopped OutOfPhase (λ e. omega (arith, e)) (λ e. omega (arith, e)) t)
     go false b c end t = absurd (stopped BrokenState (λ e. omega (arith, e)) (λ e. omega (arith, e)) t)
 
+-- a sealed message
 seal-message-reports : (set : ℕ) (K N A P out tag : List ℕ) → ours .seal set K N A P out tag .outcome .answer ≡ Done
     → ours .seal set K N A P out tag .outcome .rounds ≡ messageRounds (rowOf set) (length A) (length P)
 seal-message-reports set K N A P out tag e = ap (λ (x : SealLeaves). x .outcome .rounds) (is-published .seals set K N A P out tag e)
 
+-- an opened message
 open-message-reports : (set : ℕ) (K N A C T out : List ℕ) → Through (openCall set K N A C T out .outcome .answer)
     → openCall set K N A C T out .outcome .rounds ≡ messageRounds (rowOf set) (length A) (length C)
 unfolding openCall
@@ -151,6 +159,7 @@ open-message-reports set K N A C T out =
         by false f o (inl e) = absurd (false≢true (sym f ∙ ap isDone e))
         by false f o (inr e) = absurd (let nine : numberOf answer ≡ 9 = ap numberOf e in omega (arith, nine, small))
 
+-- each call of ours
 reported : Reported ours
 reported =
     record {
@@ -164,5 +173,6 @@ reported =
       unseal = open-message-reports;
     }
 
+-- and of each model that keeps the contracts
 pub reports : (m : Model) → Keeps m → Reported m
 reports = of-kept Reported reported

@@ -30,6 +30,7 @@ use Rattle.letter.proofs.First.{of-kept}
 -- ---- sealing
 
 module _ (set : ℕ) (K N A P out tag : List ℕ) where
+  -- a done sealing is the published one
   seal-published : let leaves = sealCall set K N A P out tag in
       leaves .outcome .answer ≡ Done
       → (take (length P) (leaves .out) ≡ sealed (rowOf set) K N A P .cipher)
@@ -49,9 +50,11 @@ module _ (set : ℕ) (K N A P out tag : List ℕ) where
 -- ---- opening
 
 module _ (set : ℕ) (K N A C T out : List ℕ) where
+  -- the opening's tests
   test : Answer
   test = messageTest set (length K) (length N) (length T) (length A) (length C) (length out)
 
+  -- they are its list
   test-is : test ≡ first Done (faults set (length K) (length N) (length T) (length A) (length C) (length out))
   unfolding test
   test-is = test-first set (length K) (length N) (length T) (length A) (length C) (length out)
@@ -78,6 +81,7 @@ module _ (set : ℕ) (K N A C T out : List ℕ) where
       let key = message-passed set (length K) (length N) (length T) (length A) (length C) (length out) e .key-fits in
       sym (length-cipher set K N A P key) ∙ ap (λ (w : Sealed). length (w .cipher)) s
 
+  -- an opening is done exactly where the published sealing is
   open-published : let leaves = openCall set K N A C T out in
       Unrefused (leaves .outcome .answer)
       → (P : List ℕ)
@@ -102,6 +106,7 @@ module _ (set : ℕ) (K N A C T out : List ℕ) where
           → (openCall set K N A C T out .outcome .answer ≡ Done) × (take (length C) (openCall set K N A C T out .out) ≡ P)
       from s = (ap (λ (x : OpenLeaves). x .outcome .answer) (is-published .hands set K N A C T out P none-holds s), handed P s)
 
+  -- and touches nothing beyond
   open-beyond : drop (length C) (openCall set K N A C T out .out) ≡ drop (length C) out
   unfolding openCall test
   open-beyond = go (isDone test) refl (opened (rowOf set) K N A C T) refl
@@ -118,6 +123,7 @@ module _ (set : ℕ) (K N A C T out : List ℕ) where
 
 -- ---- the demand
 
+-- our calls meet the demand
 second : Second ours
 second =
     record {
@@ -128,5 +134,6 @@ second =
       open-word = λ set K N A C T out. refl;
     }
 
+-- the second demand
 pub second-demand : (m : Model) → Keeps m → Second m
 second-demand = of-kept Second second

@@ -4,5 +4,6 @@ use Rattle.letter.specs.Model.{Model, Keeps}
 use Rattle.letter.specs.Third.{Third}
 use Rattle.letter.proofs.First.{of-kept}
 
+-- the third demand
 pub third-demand : (m : Model) → Keeps m → Third m
 third-demand = of-kept Third (record { cutting = cutting-does-not-matter; taken = never-refused })

@@ -64,9 +64,11 @@ pub record SealWord : Type 0 where
   pub out : List ℕ
   pub tag : List ℕ
 
+-- from its parts
 abbrev pub sealWord : ℕ → List ℕ → List ℕ → SealWord
 sealWord word out tag = record { word = word; out = out; tag = tag }
 
+-- what a sealing leaves
 abbrev pub sealWordCall : ℕ → List ℕ → List ℕ → List ℕ → List ℕ → List ℕ → List ℕ → SealWord
 sealWordCall set K N A P out tag = let leaves = sealCall set K N A P out tag in sealWord (wordOf (leaves .outcome)) (leaves .out) (leaves .tag)
 
@@ -75,9 +77,11 @@ pub record OpenWord : Type 0 where
   pub word : ℕ
   pub out : List ℕ
 
+-- from its parts
 abbrev pub openWord : ℕ → List ℕ → OpenWord
 openWord word out = record { word = word; out = out }
 
+-- what an opening leaves
 abbrev pub openWordCall : ℕ → List ℕ → List ℕ → List ℕ → List ℕ → List ℕ → List ℕ → OpenWord
 openWordCall set K N A C T out = let leaves = openCall set K N A C T out in openWord (wordOf (leaves .outcome)) (leaves .out)
 
@@ -87,6 +91,7 @@ pub record Part : Type 0 where
   pub block : ℕ
   pub place : ℕ
 
+-- of a slice
 abbrev pub partOf : Lent → Part
 partOf x = record { bytes = x .now; block = x .ptr .0; place = x .ptr .1 }
 
