@@ -3,8 +3,10 @@ use Rattle.history.specs.History.{NeverRefused}
 use Rattle.history.specs.Cuts.{CuttingDoesNotMatter}
 use Rattle.letter.specs.Model.{Model}
 
+-- In `history/specs/Cuts.antt`, in the order of the demand: `Message` is a message within the limits and a cutting of it (`Cut`) on a stream as a done start gives
+-- it, with room for each piece, empty pieces, and calls refused with 4 to 8 in between; `SealedWhole` is the joined output, the tag and the sum of the rounds;
+-- `CheckedWhole` is a checking's yes and the sum of its rounds; `states` says that two cuttings of one start hold equal states.
 pub record Third (m : Model) : Type 0 where
-  -- from a done start, data cut anywhere and then text cut anywhere, with empty pieces and refused calls in between: output and tag, a checking's yes, the rounds, the states
   pub cutting : CuttingDoesNotMatter (m .streams)
   -- the other half: a piece in its phase and direction, within the limits and with room, is taken
   pub taken : NeverRefused (m .streams)
