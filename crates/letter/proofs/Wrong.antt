@@ -13,8 +13,8 @@ use Rattle.sponge.specs.Sponge.{started, dataClosed}
 use Rattle.tags.specs.Tags.{sixteenOf, givenTag, sameTag}
 use Rattle.stream.specs.declared.Stream.{Stream}
 use Rattle.stream.specs.declared.Outcome.{Outcome}
-use Rattle.stream.specs.State.{isSoundEnded, isSound}
-use Rattle.stream.specs.Calls.{startTest, pieceTest, finishTest, finishCheckingCall}
+use Rattle.stream.specs.State.{isSoundOpen, isSoundEnded, isSound}
+use Rattle.stream.specs.Calls.{startTest, pieceTest, finishTest, startCall, dataCall, finishCheckingCall}
 use Rattle.stream.specs.Calls as streamed
 use Rattle.message.specs.Message.{messageTest, SealLeaves, sealCall, OpenLeaves, openCall}
 use Rattle.digits.specs.Hex.{digitOf, hexDigit}
@@ -33,7 +33,7 @@ off : _≡_ {A = ℕ} 0 1 → ⊥
 off e = omega (arith, e)
 
 pub wrong : Wrong
-unfolding readCall lineRead begins refusedAt valueRead name names withNumber keeps decimal.numberOf isNumeral broken isField fieldOf sealed encrypted pad count beforeText isSet rowOf table roundsOf constantsOf constants permuteCall dataClosed separate started initialise firstBlock p permute rounds round diffuse Σ₀ Σ₁ Σ₂ Σ₃ Σ₄ _⋙_ substitute substituted column fromBits bit sBox addConstant stringOf stateOf bytesOf numberOf sixteenOf givenTag sameTag isSound isSoundEnded startTest pieceTest finishTest streamed.sealCall finishCheckingCall messageTest sealCall openCall digitOf hexDigit places numeral lineOf put recordLine verdictLine fieldLine reportText reportCall
+unfolding readCall lineRead begins refusedAt valueRead name names withNumber keeps decimal.numberOf isNumeral broken isField fieldOf sealed encrypted pad count beforeText isSet rowOf table roundsOf constantsOf constants permuteCall dataClosed separate started initialise firstBlock p permute rounds round diffuse Σ₀ Σ₁ Σ₂ Σ₃ Σ₄ _⋙_ substitute substituted column fromBits bit sBox addConstant stringOf stateOf bytesOf numberOf sixteenOf givenTag sameTag isSound isSoundOpen isSoundEnded startCall dataCall startTest pieceTest finishTest streamed.sealCall finishCheckingCall messageTest sealCall openCall digitOf hexDigit places numeral lineOf put recordLine verdictLine fieldLine reportText reportCall
 wrong = record {
   number-done = λ κ e p. off (cc p);
   is-done-differs = λ κ e p. off (cc p);
@@ -59,6 +59,8 @@ wrong = record {
   give-tag-long = λ κ p. off (cc p);
   same-tag-long = λ κ e p. off (cc p);
   start-test-set = λ κ e p. off (cc p);
+  start-refused-open = λ κ e p. off (cc (ap (λ (x : Outcome). x .next .phase) p));
+  ad-key-tail = λ κ e p. off (cc (ap (λ (x : Outcome). x .answer) p));
   ended-open = λ κ e p. off (cc (ap (λ (x : Stream). x .phase) p));
   ended-set = λ κ e p. off (cc (ap (λ (x : Stream). x .set) p));
   finish-checking-ended = λ κ e p. off (cc (ap (λ (x : Outcome). x .answer) p));
@@ -82,6 +84,7 @@ wrong = record {
   number-length-nought = λ κ e p. off (cc p);
   put-number-ten = λ κ p. let first : _≡_ {A = ℕ} 0x30 0x31 = ap (λ (x : Laid). getD (x .place) 0 0) p in absurd (omega arith);
   put-number-room = λ κ e p. off (cc (ap (λ (x : Laid). x .count) p));
+  read-nothing = λ κ e p. let line : _≡_ {A = ℕ} 8 1 = ap (λ (x : Reading). x .line) p in absurd (omega arith);
   read-feed = λ κ e p. let line : _≡_ {A = ℕ} 2 1 = ap (λ (x : Reading). x .line) p in absurd (omega arith);
   first-broken-past = λ κ e p. off (cc p);
   report-room = λ κ e p. off (cc (ap (λ (x : ReportLeaves). x .outcome .answer) p));

@@ -1,6 +1,6 @@
 -- Wrong answers that the contracts rule out, of the calls whose wrong versions are not tried as edits of the code (or only one of them is).
 use mathlib.Core.Bool.{true, false}
-use mathlib.Core.List.{[], _∷_}
+use mathlib.Core.List.{[], _∷_, _++_}
 use lib.ListN.{replicate}
 use Rattle.answers.specs.declared.Answer.the-variants.{Done, UnknownSet, KeyLength, OutOfPhase, BrokenState, TagDiffers, BrokenRecord}
 use Rattle.permutation.specs.declared.Run.the-variants.{Twelve, FirstEight}
@@ -82,6 +82,16 @@ pub record Wrong : Type 0 where
   pub same-tag-long : Never tags.same_tag.Reads.Post (zeros 16, (lent (zeros 17), tt)) true
   -- 1 comes before 2
   pub start-test-set : Never stream.start_test.Reads.Post (3, (15, (16, tt))) KeyLength
+  -- a refused start does not give an open stream
+  pub start-refused-open : Never stream.Stream.start.Reads.Post (Sealing, (3, (lent [], (lent [], tt))))
+      (record {
+        answer = UnknownSet;
+        rounds = 0;
+        next = record { words = zeros 5; set = 1; direction = Sealing; phase = Data; key = zeros 16; ad = 0; text = 0; place = 0 };
+      })
+  -- a state of set 2 with a byte behind its key is broken
+  pub ad-key-tail : Never stream.Stream.ad.Reads.Post (record { words = zeros 5; set = 2; direction = Sealing; phase = Data; key = zeros 12 ++ (1 ∷ zeros 3); ad = 0; text = 0; place = 0 }, (lent [], tt))
+      (record { answer = Done; rounds = 0; next = record { words = zeros 5; set = 2; direction = Sealing; phase = Data; key = zeros 12 ++ (1 ∷ zeros 3); ad = 0; text = 0; place = 0 } })
   -- the ended state is not open
   pub ended-open : Never stream.Stream.ended.Reads.Post tt (record { words = zeros 5; set = 1; direction = Sealing; phase = Data; key = zeros 16; ad = 0; text = 0; place = 0 })
   -- nor of set 2
@@ -135,6 +145,8 @@ pub record Wrong : Type 0 where
   pub put-number-ten : NeverLeaves digits.put_number.Reads.Post (10, (lent (zeros 2), tt)) 2 (10, (lent (0x30 ∷ 0x31 ∷ []), tt))
   -- nor by one digit
   pub put-number-room : Never digits.put_number.Reads.Post (10, (lent (zeros 1), tt)) 1
+  -- nothing is broken at its first line, and not at its last
+  pub read-nothing : Never record-crate.read.Reads.Post (lent [], tt) (record { answer = BrokenRecord; line = 8; taken = 0; content = blank })
   -- a line that has no line feed is broken itself, and not the next one
   pub read-feed : Never record-crate.read.Reads.Post (lent (0x73 ∷ 0x65 ∷ 0x74 ∷ 0x3d ∷ 0x31 ∷ []), tt)
       (record { answer = BrokenRecord; line = 2; taken = 0; content = blank })
