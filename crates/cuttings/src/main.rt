@@ -374,25 +374,35 @@ fn try_limits(key: &[u8], nonce: &[u8], long: &[u8]) {
     say_number(b"1048577 bytes of text=", number_of(full.check(b"1")));
 }
 
-// The answers to calls on a sealing stream that the rules name: room one byte short, finishing twice, data after an empty text call.
-fn try_sealing(key: &[u8], nonce: &[u8], text: &[u8]) {
+// The answer to a text of 53 bytes with room for 52.
+fn short_room(stream: Stream, text: &[u8]) -> u64 {
     let mut out = [0; 52];
+    number_of(stream.seal(text, &mut out))
+}
+
+// The answer to finishing twice: the second.
+fn finished_twice(stream: Stream) -> u64 {
     let mut tag = [0; 16];
+    let o = stream.finish_sealing(&mut tag);
+    let ended = o.next;
+    number_of(ended.finish_sealing(&mut tag))
+}
+
+// The answer to data after an empty text call.
+fn data_after_text(stream: Stream) -> u64 {
+    let mut out = [0; 1];
+    let o = stream.seal(b"", &mut out);
+    let closed = o.next;
+    number_of(closed.ad(b"1"))
+}
+
+// The answers to calls on a sealing stream that the rules name.
+fn try_sealing(key: &[u8], nonce: &[u8], text: &[u8]) {
     let o = Stream::start(Direction::Sealing, 1, key, nonce);
     let s = o.next;
-    say_number(b"room one byte short=", number_of(s.seal(text, &mut out)));
-    let o = s.finish_sealing(&mut tag);
-    let ended = o.next;
-    say_number(
-        b"finishing twice=",
-        number_of(ended.finish_sealing(&mut tag)),
-    );
-    let o = s.seal(b"", &mut out);
-    let closed = o.next;
-    say_number(
-        b"data after an empty text call=",
-        number_of(closed.ad(b"1")),
-    );
+    say_number(b"room one byte short=", short_room(s, text));
+    say_number(b"finishing twice=", finished_twice(s));
+    say_number(b"data after an empty text call=", data_after_text(s));
 }
 
 // The answers to starts with a short key.
