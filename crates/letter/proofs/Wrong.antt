@@ -1,6 +1,6 @@
 -- The contracts rule the wrong answers out: each is computed in the checker. Assumes nothing.
 use Prim.Native.Nat.{ℕ}
-use mathlib.Core.Path.{_≡_, ap}
+use mathlib.Core.Path.{_≡_, sym, ap, _∙_}
 use native.Mathlib.Omega.{arith}
 use lib.ListN.{getD}
 use Rattle.permutation.specs.Round.{_⋙_, addConstant, sBox, bit, fromBits, column, substituted, substitute, Σ₀, Σ₁, Σ₂, Σ₃, Σ₄, diffuse, round}
@@ -14,7 +14,7 @@ use Rattle.tags.specs.Tags.{sixteenOf, givenTag, sameTag}
 use Rattle.stream.specs.declared.Stream.{Stream}
 use Rattle.stream.specs.declared.Outcome.{Outcome}
 use Rattle.stream.specs.State.{isSoundOpen, isSoundEnded, isSound}
-use Rattle.stream.specs.Calls.{startTest, pieceTest, finishTest, startCall, dataCall, finishCheckingCall}
+use Rattle.stream.specs.Calls.{startTest, pieceTest, finishTest, startCall, dataCall, tookText, checkCall, finishCheckingCall}
 use Rattle.stream.specs.Calls as streamed
 use Rattle.message.specs.Message.{messageTest, SealLeaves, sealCall, OpenLeaves, openCall}
 use Rattle.digits.specs.Hex.{digitOf, hexDigit}
@@ -22,9 +22,9 @@ use Rattle.digits.specs.Numbers.{isNumeral, places, numeral}
 use Rattle.digits.specs.Numbers as decimal
 use Rattle.digits.specs.Room.{lineOf, Laid, put}
 use Rattle.record.specs.declared.reading.Reading.{Reading}
-use Rattle.record.specs.Form.{fieldOf, isField, withNumber, keeps, broken}
+use Rattle.record.specs.Form.{fieldOf, isField, blank, withNumber, withField, keeps, broken}
 use Rattle.record.specs.Text.{names, name}
-use Rattle.record.specs.Calls.{begins, valueRead, lineRead, refusedAt, readCall}
+use Rattle.record.specs.Calls.{begins, valueRead, lineRead, refusedAt, readCall, WriteLeaves, writeCall}
 use Rattle.report.specs.Reports.{recordLine, verdictLine, fieldLine, reportText, ReportLeaves, reportCall}
 use Rattle.letter.specs.Wrong.{Wrong}
 
@@ -33,7 +33,7 @@ off : _≡_ {A = ℕ} 0 1 → ⊥
 off e = omega (arith, e)
 
 pub wrong : Wrong
-unfolding readCall lineRead begins refusedAt valueRead name names withNumber keeps decimal.numberOf isNumeral broken isField fieldOf sealed encrypted pad count beforeText isSet rowOf table roundsOf constantsOf constants permuteCall dataClosed separate started initialise firstBlock p permute rounds round diffuse Σ₀ Σ₁ Σ₂ Σ₃ Σ₄ _⋙_ substitute substituted column fromBits bit sBox addConstant stringOf stateOf bytesOf numberOf sixteenOf givenTag sameTag isSound isSoundOpen isSoundEnded startCall dataCall startTest pieceTest finishTest streamed.sealCall finishCheckingCall messageTest sealCall openCall digitOf hexDigit places numeral lineOf put recordLine verdictLine fieldLine reportText reportCall
+unfolding writeCall blank withField checkCall tookText readCall lineRead begins refusedAt valueRead name names withNumber keeps decimal.numberOf isNumeral broken isField fieldOf sealed encrypted pad count beforeText isSet rowOf table roundsOf constantsOf constants permuteCall dataClosed separate started initialise firstBlock p permute rounds round diffuse Σ₀ Σ₁ Σ₂ Σ₃ Σ₄ _⋙_ substitute substituted column fromBits bit sBox addConstant stringOf stateOf bytesOf numberOf sixteenOf givenTag sameTag isSound isSoundOpen isSoundEnded startCall dataCall startTest pieceTest finishTest streamed.sealCall finishCheckingCall messageTest sealCall openCall digitOf hexDigit places numeral lineOf put recordLine verdictLine fieldLine reportText reportCall
 wrong = record {
   number-done = λ κ e p. off (cc p);
   is-done-differs = λ κ e p. off (cc p);
@@ -61,6 +61,7 @@ wrong = record {
   start-test-set = λ κ e p. off (cc p);
   start-refused-open = λ κ e p. off (cc (ap (λ (x : Outcome). x .next .phase) p));
   ad-key-tail = λ κ e p. off (cc (ap (λ (x : Outcome). x .answer) p));
+  check-limit = λ κ e p. off (cc (ap (λ (x : Outcome). x .answer) p));
   ended-open = λ κ e p. off (cc (ap (λ (x : Stream). x .phase) p));
   ended-set = λ κ e p. off (cc (ap (λ (x : Stream). x .set) p));
   finish-checking-ended = λ κ e p. off (cc (ap (λ (x : Outcome). x .answer) p));
@@ -86,6 +87,11 @@ wrong = record {
   put-number-room = λ κ e p. off (cc (ap (λ (x : Laid). x .count) p));
   read-nothing = λ κ e p. let line : _≡_ {A = ℕ} 8 1 = ap (λ (x : Reading). x .line) p in absurd (omega arith);
   read-feed = λ κ e p. let line : _≡_ {A = ℕ} 2 1 = ap (λ (x : Reading). x .line) p in absurd (omega arith);
+  write-no-line = λ κ e p. let line : _≡_ {A = ℕ} 0 1 = ap (λ (x : WriteLeaves). x .outcome .line) p in absurd (omega arith);
+  write-touched = λ κ p. let byte : _≡_ {A = ℕ} 1 0 = ap (λ (x : WriteLeaves). getD (x .out) 0 0) p in absurd (omega arith);
+  read-name = λ κ e p. let line : _≡_ {A = ℕ} 4 3 = ap (λ (x : Reading). x .line) p in absurd (omega arith);
+  first-broken-text = λ κ e p. let line : _≡_ {A = ℕ} 6 5 = p in absurd (omega arith);
   first-broken-past = λ κ e p. off (cc p);
+  tail-short = λ part two κ e p. off (cc (sym two ∙ p .0));
   report-room = λ κ e p. off (cc (ap (λ (x : ReportLeaves). x .outcome .answer) p));
 }

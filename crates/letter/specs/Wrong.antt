@@ -1,12 +1,13 @@
 -- Wrong answers that the contracts rule out, of the calls whose wrong versions are not tried as edits of the code (or only one of them is).
 use mathlib.Core.Bool.{true, false}
 use mathlib.Core.List.{[], _∷_, _++_}
+use mathlib.Core.Path.{_≡_}
 use lib.ListN.{replicate}
-use Rattle.answers.specs.declared.Answer.the-variants.{Done, UnknownSet, KeyLength, OutOfPhase, BrokenState, TagDiffers, BrokenRecord}
+use Rattle.answers.specs.declared.Answer.the-variants.{Done, UnknownSet, KeyLength, PastLimit, OutOfPhase, BrokenState, TagDiffers, BrokenRecord}
 use Rattle.permutation.specs.declared.Run.the-variants.{Twelve, FirstEight}
 use Rattle.ascon.specs.Mode.{zeros}
-use Rattle.stream.specs.declared.Direction.the-variants.{Sealing}
-use Rattle.stream.specs.declared.Phase.the-variants.{Data, Ended}
+use Rattle.stream.specs.declared.Direction.the-variants.{Sealing, Checking}
+use Rattle.stream.specs.declared.Phase.the-variants.{Data, Text, Ended}
 use Rattle.stream.specs.State.{ended}
 use Rattle.digits.specs.declared.hex.Digit.the-variants.{Value}
 use Rattle.digits.specs.declared.hex.Pair.the-variants.{Byte}
@@ -22,7 +23,9 @@ use Rattle.message.proofs as message
 use Rattle.gateway.proofs as gateway
 use Rattle.digits.proofs as digits
 use Rattle.record.proofs as record-crate
+use Rattle.judge.proofs as judge
 use Rattle.report.proofs as report
+use Rattle.letter.specs.EveryCall.{Lent}
 use Rattle.letter.specs.Model.{lent}
 
 -- a contract does not allow a result, whatever comes back in the lent places
@@ -92,6 +95,8 @@ pub record Wrong : Type 0 where
   -- a state of set 2 with a byte behind its key is broken
   pub ad-key-tail : Never stream.Stream.ad.Reads.Post (record { words = zeros 5; set = 2; direction = Sealing; phase = Data; key = zeros 12 ++ (1 ∷ zeros 3); ad = 0; text = 0; place = 0 }, (lent [], tt))
       (record { answer = Done; rounds = 0; next = record { words = zeros 5; set = 2; direction = Sealing; phase = Data; key = zeros 12 ++ (1 ∷ zeros 3); ad = 0; text = 0; place = 0 } })
+  -- a piece that reaches the limit has not passed it
+  pub check-limit : Never stream.Stream.check.Reads.Post (record { words = zeros 5; set = 1; direction = Checking; phase = Text; key = zeros 16; ad = 0; text = 1_048_575; place = 7 }, (lent (zeros 1), tt)) (record { answer = PastLimit; rounds = 0; next = record { words = zeros 5; set = 1; direction = Checking; phase = Text; key = zeros 16; ad = 0; text = 1_048_575; place = 7 } })
   -- the ended state is not open
   pub ended-open : Never stream.Stream.ended.Reads.Post tt (record { words = zeros 5; set = 1; direction = Sealing; phase = Data; key = zeros 16; ad = 0; text = 0; place = 0 })
   -- nor of set 2
@@ -150,6 +155,28 @@ pub record Wrong : Type 0 where
   -- a line that has no line feed is broken itself, and not the next one
   pub read-feed : Never record-crate.read.Reads.Post (lent (0x73 ∷ 0x65 ∷ 0x74 ∷ 0x3d ∷ 0x31 ∷ []), tt)
       (record { answer = BrokenRecord; line = 2; taken = 0; content = blank })
+  -- a record that is refused in writing has its line named, and no byte written
+  pub write-no-line : Never record-crate.write.Reads.Post (blank, (lent [], tt)) (record { answer = BrokenRecord; line = 0; written = 0 })
+  pub write-touched : NeverLeaves record-crate.write.Reads.Post (blank, (lent (0 ∷ []), tt)) (record { answer = BrokenRecord; line = 1; written = 0 })
+      (blank, (lent (1 ∷ []), tt))
+  -- the third line is not called `nonse=`
+  pub read-name : Never record-crate.read.Reads.Post (lent (0x73 ∷ 0x65 ∷ 0x74 ∷ 0x3d ∷ 0x31 ∷ 0x0a ∷ 0x6b ∷ 0x65 ∷ 0x79 ∷ 0x3d ∷ (replicate 32 0x30 ++ (0x0a ∷ 0x6e ∷ 0x6f ∷ 0x6e ∷ 0x73 ∷ 0x65 ∷ 0x3d ∷ (replicate 32 0x30 ++ (0x0a ∷ []))))), tt)
+      (record { answer = BrokenRecord; line = 4; taken = 0; content = blank })
+  -- a text of 257 bytes breaks line 5, and not the cipher's
+  pub first-broken-text : Never record-crate.first_broken.Reads.Post (
+    record {
+      set = 1;
+      key = fieldOf (zeros 16);
+      nonce = fieldOf (zeros 16);
+      ad = fieldOf [];
+      text = record { bytes = zeros 256; size = 257 };
+      cipher = fieldOf [];
+      tag = fieldOf (zeros 16);
+      rounds = 24;
+    },
+    tt,
+  )
+      6
   -- a record with a byte past a field's length is not in form
   pub first-broken-past : Never record-crate.first_broken.Reads.Post (
     record {
@@ -165,5 +192,7 @@ pub record Wrong : Type 0 where
     tt,
   )
       0
+  -- a found text that is shorter has no tail
+  pub tail-short : (part : Lent) → part .now ≡ 2 ∷ [] → Never judge.difference_tail.Reads.Post (lent (1 ∷ 2 ∷ []), (lent (1 ∷ []), tt)) part
   -- a report without room is not done
   pub report-room : Never report.report.Reads.Post (1, (Equal, (lent [], tt))) (record { answer = Done; written = 0 })
