@@ -1,5 +1,5 @@
 -- Worthless versions are refuted, each at an input that the checker computes. Assumes nothing.
-use mathlib.Core.Path.{_≡_, refl, sym, ap, _∙_}
+use mathlib.Core.Path.{_≡_, refl, sym, ap, _∙_, subst}
 use mathlib.Core.Bool.{Bool, true, false, cond}
 use mathlib.Core.List.{List, [], _∷_, _++_}
 use Prim.Native.Nat.{ℕ, _+_, _≤_}
@@ -27,8 +27,8 @@ use Rattle.stream.specs.State.{ended, isSoundOpen, isSoundEnded, isSound}
 use Rattle.stream.specs.Calls.{startTest, pieceTest, finishTest, startCall, dataCall, tookText}
 use Rattle.stream.specs.Calls as streamed
 use Rattle.history.specs.History.{Streams, Call, giveAd, giveText, next}
-use Rattle.history.specs.Cuts.{TextCut.text-end, TextCut.text-piece, Cut.data-end, Cut.data-piece, Message}
-use Rattle.message.specs.Message.{messageTest, SealLeaves, OpenLeaves, sealCall}
+use Rattle.history.specs.Cuts.{TextCut.text-end, TextCut.text-piece, Cut.data-end, Cut.data-piece, Message, CuttingDoesNotMatter}
+use Rattle.message.specs.Message.{messageTest, SealLeaves, sealCall}
 use Rattle.message.specs.Demands.{isNone}
 use Rattle.message.proofs.Demands.{is-published}
 use Rattle.message.proofs.Promise.{length-cipher, length-sealed-tag}
@@ -37,7 +37,7 @@ use Rattle.letter.specs.First.{Listed}
 use Rattle.letter.specs.Second.{Unrefused, Second}
 use Rattle.letter.specs.Third.{Third}
 use Rattle.letter.specs.Reported.{Reported}
-use Rattle.letter.specs.Worthless.{withStreams, constant, laterCopied, emptyEnds, madeUpStreams, Worthless}
+use Rattle.letter.specs.Worthless.{laterCopied, emptyEnds, madeUpStreams, Worthless}
 use Rattle.letter.proofs.Model.{is-ours}
 
 -- a key, a nonce and a place for a tag, of set 1
@@ -68,11 +68,16 @@ unfolding isSet rowOf table
 refuses-streams m undone l = undone Sealing 1 sixteen sixteen (l .start Sealing 1 sixteen sixteen)
 
 -- two texts that differ have no sealing in common
-answers-same : (sealing : SealLeaves) (opening : OpenLeaves) → sealing .outcome .answer ≡ Done → Second (constant sealing opening) → ⊥
+answers-same : (m : Model) (leaves : SealLeaves) → ((set : ℕ) (K N A P out tag : List ℕ) → m .seal set K N A P out tag ≡ leaves)
+    → leaves .outcome .answer ≡ Done → Second m → ⊥
 unfolding rowOf table
-answers-same sealing opening done s =
-    let nought = s .seals 1 sixteen sixteen [] (0 ∷ []) (0 ∷ []) sixteen done in
-    let one = s .seals 1 sixteen sixteen [] (1 ∷ []) (0 ∷ []) sixteen done in
+answers-same m leaves always done s =
+    let given : (P : List ℕ) → m .seal 1 sixteen sixteen [] P (0 ∷ []) sixteen ≡ leaves = λ P. always 1 sixteen sixteen [] P (0 ∷ []) sixteen in
+    let seals : (P : List ℕ) → (take (length P) (leaves .out) ≡ sealed (rowOf 1) sixteen sixteen [] P .cipher) × (leaves .tag ≡ sealed (rowOf 1) sixteen sixteen [] P .tag) = λ P.
+    let g = s .seals 1 sixteen sixteen [] P (0 ∷ []) sixteen (ap (λ (x : SealLeaves). x .outcome .answer) (given P) ∙ done) in
+    (ap (λ (x : SealLeaves). take (length P) (x .out)) (sym (given P)) ∙ g .0, ap (λ (x : SealLeaves). x .tag) (sym (given P)) ∙ g .1) in
+    let nought = seals (0 ∷ []) in
+    let one = seals (1 ∷ []) in
     let both : sealed (rowOf 1) sixteen sixteen [] (0 ∷ []) ≡ sealed (rowOf 1) sixteen sixteen [] (1 ∷ []) =
     λ j. record { cipher = (sym (nought .0) ∙ one .0) j; tag = (sym (nought .1) ∙ one .1) j } in
     let differ : _≡_ {A = ℕ} 0 1 = ap (λ (x : List ℕ). getD x 0 0) (is-published .only 1 sixteen sixteen [] (0 ∷ []) (1 ∷ []) refl both) in
@@ -144,9 +149,10 @@ makes-up m n same k =
 -- ---- streams
 
 -- one text call after another: the second piece is copied
-copies-later : Third (withStreams laterCopied) → ⊥
+copies-later : (m : Model) → m .streams ≡ laterCopied → Third m → ⊥
 unfolding startCall startTest pieceTest isSound isSoundOpen tookText next given isSet rowOf table streamed.sealCall
-copies-later t =
+copies-later m e t =
+    let cutting : CuttingDoesNotMatter laterCopied = subst CuttingDoesNotMatter e (t .cutting) in
     let pieces : List Call = giveText (0 ∷ []) (0 ∷ []) ∷ giveText (0 ∷ []) (0 ∷ []) ∷ [] in
     let message : Message laterCopied Sealing 1 sixteen sixteen [] (zeros 2) pieces = record {
       started = refl;
@@ -156,14 +162,15 @@ copies-later t =
       text-within = lit≤ tt;
       cut = data-end (text-piece (0 ∷ []) (0 ∷ []) (lit≤ tt) (text-piece (0 ∷ []) (0 ∷ []) (lit≤ tt) text-end));
     } in
-    let whole = t .cutting .seals 1 sixteen sixteen [] (zeros 2) pieces sixteen message refl .out in
+    let whole = cutting .seals 1 sixteen sixteen [] (zeros 2) pieces sixteen message refl .out in
     let differ : _≡_ {A = ℕ} 0 0xe6 = ap (λ (x : List ℕ). getD x 1 0) (whole ∙ two-zeros) in
     omega arith
 
 -- a piece behind an empty one comes to nothing
-ends-early : Third (withStreams emptyEnds) → ⊥
+ends-early : (m : Model) → m .streams ≡ emptyEnds → Third m → ⊥
 unfolding startCall startTest pieceTest isSound isSoundEnded tookText next given isSet rowOf table streamed.sealCall
-ends-early t =
+ends-early m e t =
+    let cutting : CuttingDoesNotMatter emptyEnds = subst CuttingDoesNotMatter e (t .cutting) in
     let pieces : List Call = giveText [] [] ∷ giveText (zeros 2) (zeros 2) ∷ [] in
     let message : Message emptyEnds Sealing 1 sixteen sixteen [] (zeros 2) pieces = record {
       started = refl;
@@ -173,16 +180,17 @@ ends-early t =
       text-within = lit≤ tt;
       cut = data-end (text-piece [] [] (lit≤ tt) (text-piece (zeros 2) (zeros 2) (lit≤ tt) text-end));
     } in
-    let whole = t .cutting .seals 1 sixteen sixteen [] (zeros 2) pieces sixteen message refl .out in
+    let whole = cutting .seals 1 sixteen sixteen [] (zeros 2) pieces sixteen message refl .out in
     let differ : _≡_ {A = ℕ} 0 2 = ap length (whole ∙ two-zeros) in
     omega arith
 
 -- a byte of data and a block of it make the rounds differ
-makes-up-streams : (start piece text finish : ℕ) → Third (withStreams (madeUpStreams start piece text finish)) → ⊥
+makes-up-streams : (m : Model) (start piece text finish : ℕ) → m .streams ≡ madeUpStreams start piece text finish → Third m → ⊥
 unfolding startCall startTest pieceTest finishTest isSound isSoundOpen next isSet rowOf table dataCall streamed.finishSealingCall messageRounds dataBlocks textBlocks roundsOf constantsOf constants
-makes-up-streams start piece text finish t =
-    let m : Streams = madeUpStreams start piece text finish in
-    let message : (n : ℕ) → length (zeros n ++ []) ≤ dataLimit → Message m Sealing 1 sixteen sixteen (zeros n ++ []) [] (giveAd (zeros n) ∷ []) = λ n few. record {
+makes-up-streams m start piece text finish e t =
+    let streams : Streams = madeUpStreams start piece text finish in
+    let cutting : CuttingDoesNotMatter streams = subst CuttingDoesNotMatter e (t .cutting) in
+    let message : (n : ℕ) → length (zeros n ++ []) ≤ dataLimit → Message streams Sealing 1 sixteen sixteen (zeros n ++ []) [] (giveAd (zeros n) ∷ []) = λ n few. record {
       started = refl;
       key-bytes = bytes-zeros 16;
       bytes = (bytes-zeros n, bytes-none, tt);
@@ -190,8 +198,8 @@ makes-up-streams start piece text finish t =
       text-within = lit≤ tt;
       cut = data-piece (zeros n) (data-end text-end);
     } in
-    let one : start + piece + finish ≡ 30 = t .cutting .seals 1 sixteen sixteen (zeros 1) [] (giveAd (zeros 1) ∷ []) sixteen (message 1 (lit≤ tt)) refl .rounds in
-    let eight : start + piece + finish ≡ 36 = t .cutting .seals 1 sixteen sixteen (zeros 8) [] (giveAd (zeros 8) ∷ []) sixteen (message 8 (lit≤ tt)) refl .rounds in
+    let one : start + piece + finish ≡ 30 = cutting .seals 1 sixteen sixteen (zeros 1) [] (giveAd (zeros 1) ∷ []) sixteen (message 1 (lit≤ tt)) refl .rounds in
+    let eight : start + piece + finish ≡ 36 = cutting .seals 1 sixteen sixteen (zeros 8) [] (giveAd (zeros 8) ∷ []) sixteen (message 8 (lit≤ tt)) refl .rounds in
     omega arith
 
 -- a checking that always says yes takes the empty message under two tags

@@ -14,52 +14,14 @@ use Rattle.stream.specs.declared.Outcome.{Outcome}
 use Rattle.stream.specs.State.{ended}
 use Rattle.stream.specs.Calls.{called}
 use Rattle.history.specs.History.{Streams}
-use Rattle.message.specs.Message.{SealLeaves, OpenLeaves}
+use Rattle.message.specs.Message.{SealLeaves}
 use Rattle.letter.specs.Model.{Model, ours, Keeps}
 use Rattle.letter.specs.First.{Listed}
 use Rattle.letter.specs.Second.{Second}
 use Rattle.letter.specs.Third.{Third}
 use Rattle.letter.specs.Reported.{Reported}
 
--- ours, with other streams
-abbrev pub withStreams : Streams → Model
-withStreams streams =
-    record {
-      streams = streams;
-      startTest = ours .startTest;
-      seal = ours .seal;
-      unseal = ours .unseal;
-      sealWord = ours .sealWord;
-      openWord = ours .openWord;
-      read = ours .read;
-      write = ours .write;
-      judge = ours .judge;
-      report = ours .report;
-      step = ours .step;
-    }
-
--- ours, with other whole messages
-abbrev pub withMessages : (ℕ → List ℕ → List ℕ → List ℕ → List ℕ → List ℕ → List ℕ → SealLeaves) → (ℕ → List ℕ → List ℕ → List ℕ → List ℕ → List ℕ → List ℕ → OpenLeaves) → Model
-withMessages seal unseal =
-    record {
-      streams = ours .streams;
-      startTest = ours .startTest;
-      seal = seal;
-      unseal = unseal;
-      sealWord = ours .sealWord;
-      openWord = ours .openWord;
-      read = ours .read;
-      write = ours .write;
-      judge = ours .judge;
-      report = ours .report;
-      step = ours .step;
-    }
-
 -- ---- the versions
-
--- answers the same always
-abbrev pub constant : SealLeaves → OpenLeaves → Model
-constant sealing opening = withMessages (λ set K N A P out tag. sealing) (λ set K N A C T out. opening)
 
 -- works in the first piece of a text and copies the later ones
 abbrev pub laterCopied : Streams
@@ -109,13 +71,15 @@ pub record Worthless : Type 0 where
   pub refuses : (m : Model) → ((set : ℕ) (K N A P out tag : List ℕ) → m .seal set K N A P out tag .outcome .answer ≡ Done → ⊥) → Listed m → ⊥
   pub refuses-streams : (m : Model) → ((d : Direction) (set : ℕ) (K N : List ℕ) → m .streams .start d set K N .answer ≡ Done → ⊥) → Listed m → ⊥
   -- the same done answer always breaks the second demand, whatever it leaves
-  pub answers-same : (sealing : SealLeaves) (opening : OpenLeaves) → sealing .outcome .answer ≡ Done → Second (constant sealing opening) → ⊥
+  pub answers-same : (m : Model) (leaves : SealLeaves) → ((set : ℕ) (K N A P out tag : List ℕ) → m .seal set K N A P out tag ≡ leaves)
+      → leaves .outcome .answer ≡ Done → Second m → ⊥
   -- a done sealing that copies the text breaks the second demand
   pub copies : (m : Model)
       → ((set : ℕ) (K N A P out tag : List ℕ) → let leaves = m .seal set K N A P out tag in leaves .outcome .answer ≡ Done → take (length P) (leaves .out) ≡ P)
       → Listed m → Second m → ⊥
-  pub copies-later : Third (withStreams laterCopied) → ⊥
-  pub ends-early : Third (withStreams emptyEnds) → ⊥
+  -- such streams break the third demand, whatever the rest of the model is
+  pub copies-later : (m : Model) → m .streams ≡ laterCopied → Third m → ⊥
+  pub ends-early : (m : Model) → m .streams ≡ emptyEnds → Third m → ⊥
   -- an opening that takes every tag, or none, breaks the second demand; a checking that says yes always breaks the third
   pub takes-every-tag : (m : Model) → ((set : ℕ) (K N A C T out : List ℕ) → m .unseal set K N A C T out .outcome .answer ≡ TagDiffers → ⊥)
       → Listed m → Second m → ⊥
@@ -128,7 +92,7 @@ pub record Worthless : Type 0 where
   pub makes-up : (m : Model) (n : ℕ)
       → ((set : ℕ) (K N A P out tag : List ℕ) → let outcome = m .seal set K N A P out tag .outcome in outcome .answer ≡ Done → outcome .rounds ≡ n)
       → Keeps m → ⊥
-  pub makes-up-streams : (start piece text finish : ℕ) → Third (withStreams (madeUpStreams start piece text finish)) → ⊥
+  pub makes-up-streams : (m : Model) (start piece text finish : ℕ) → m .streams ≡ madeUpStreams start piece text finish → Third m → ⊥
   -- rounds that are right in the sum alone, and a finish that leaves the stream as it was, break what a call has to report and leave
   pub reports-late : (m : Model) → ((d : Direction) (set : ℕ) (K N : List ℕ) → m .streams .start d set K N .rounds ≡ 0) → Listed m → Reported m → ⊥
   pub stays-open : (m : Model)
