@@ -75,13 +75,29 @@ pub fn is_broken(stream: &Stream) -> bool {
     stream.key[set.key..].iter().any(|byte| *byte != 0)
 }
 
-/// Gives the set of a state, or none when the state is broken.
-fn set_of_sound(stream: &Stream) -> Option<&'static Set> {
+/// Gives the set of a state that is open in the given direction, or 8 or 7 if it isn't.
+fn fitting(stream: &Stream, direction: Direction) -> Result<&'static Set, u64> {
     if is_broken(stream) {
-        None
-    } else {
-        set_of(stream.set)
+        return Err(8);
     }
+    if stream.phase == Phase::Ended || stream.direction != direction {
+        return Err(7);
+    }
+    set_of(stream.set).ok_or(8)
+}
+
+/// Gives the set and the text count after a piece of that length, or 8, 7 or 5 if it can't come.
+fn fitting_text(
+    stream: &Stream,
+    direction: Direction,
+    length: usize,
+) -> Result<(&'static Set, u64), u64> {
+    let set = fitting(stream, direction)?;
+    let text_count = stream.text_count + length as u64;
+    if text_count > TEXT_LIMIT as u64 {
+        return Err(5);
+    }
+    Ok((set, text_count))
 }
 
 /// Gives the refusal of the given number, with the state as it came.
@@ -108,6 +124,18 @@ fn state_at_text(set: &Set, stream: &Stream) -> (State, usize) {
     }
     state.combine(39, &[1]);
     (state, 0)
+}
+
+/// Gives the answer to a text call that ends on the given state, that far into a block.
+fn text_taken(stream: Stream, state: &State, text_count: u64, place: usize) -> Given {
+    let next = Stream {
+        words: state.words(),
+        phase: Phase::Text,
+        text_count,
+        place: place as u64,
+        ..stream
+    };
+    (0, state.rounds(), next)
 }
 
 /// Ends the text of a sound open stream and gives the tag and the rounds of doing so.
@@ -147,8 +175,9 @@ pub fn start(direction: Direction, set: u64, key: &[u8], nonce: &[u8]) -> Given 
 
 /// Takes a piece of the associated data, in either direction.
 pub fn ad(stream: Stream, piece: &[u8]) -> Given {
-    let Some(set) = set_of_sound(&stream) else {
-        return refusal(8, stream);
+    let set = match fitting(&stream, stream.direction) {
+        Ok(set) => set,
+        Err(number) => return refusal(number, stream),
     };
     if stream.phase != Phase::Data {
         return refusal(7, stream);
@@ -180,16 +209,10 @@ pub fn ad(stream: Stream, piece: &[u8]) -> Given {
 
 /// Seals a piece of the text into the front of `out`; a refusal changes nothing there.
 pub fn seal(stream: Stream, piece: &[u8], out: &mut [u8]) -> Given {
-    let Some(set) = set_of_sound(&stream) else {
-        return refusal(8, stream);
+    let (set, text_count) = match fitting_text(&stream, Direction::Sealing, piece.len()) {
+        Ok(both) => both,
+        Err(number) => return refusal(number, stream),
     };
-    if stream.phase == Phase::Ended || stream.direction != Direction::Sealing {
-        return refusal(7, stream);
-    }
-    let text_count = stream.text_count + piece.len() as u64;
-    if text_count > TEXT_LIMIT as u64 {
-        return refusal(5, stream);
-    }
     if out.len() < piece.len() {
         return refusal(6, stream);
     }
@@ -210,28 +233,15 @@ pub fn seal(stream: Stream, piece: &[u8], out: &mut [u8]) -> Given {
     // The first bytes went out in an earlier call.
     out[..piece.len()].copy_from_slice(&cipher[place..]);
 
-    let next = Stream {
-        words: state.words(),
-        phase: Phase::Text,
-        text_count,
-        place: unfilled.len() as u64,
-        ..stream
-    };
-    (0, state.rounds(), next)
+    text_taken(stream, &state, text_count, unfilled.len())
 }
 
 /// Takes a piece of the ciphertext that is to be checked.
 pub fn check(stream: Stream, piece: &[u8]) -> Given {
-    let Some(set) = set_of_sound(&stream) else {
-        return refusal(8, stream);
+    let (set, text_count) = match fitting_text(&stream, Direction::Checking, piece.len()) {
+        Ok(both) => both,
+        Err(number) => return refusal(number, stream),
     };
-    if stream.phase == Phase::Ended || stream.direction != Direction::Checking {
-        return refusal(7, stream);
-    }
-    let text_count = stream.text_count + piece.len() as u64;
-    if text_count > TEXT_LIMIT as u64 {
-        return refusal(5, stream);
-    }
 
     let (mut state, place) = state_at_text(set, &stream);
     let mut joined = state.first(place).to_vec();
@@ -244,24 +254,15 @@ pub fn check(stream: Stream, piece: &[u8]) -> Given {
     }
     state.replace_front(unfilled);
 
-    let next = Stream {
-        words: state.words(),
-        phase: Phase::Text,
-        text_count,
-        place: unfilled.len() as u64,
-        ..stream
-    };
-    (0, state.rounds(), next)
+    text_taken(stream, &state, text_count, unfilled.len())
 }
 
 /// Finishes a sealing stream and puts the tag into its place; a refusal changes nothing there.
 pub fn finish_sealing(stream: Stream, tag_place: &mut [u8]) -> Given {
-    let Some(set) = set_of_sound(&stream) else {
-        return refusal(8, stream);
+    let set = match fitting(&stream, Direction::Sealing) {
+        Ok(set) => set,
+        Err(number) => return refusal(number, stream),
     };
-    if stream.phase == Phase::Ended || stream.direction != Direction::Sealing {
-        return refusal(7, stream);
-    }
     if tag_place.len() != set.key {
         return refusal(4, stream);
     }
@@ -272,12 +273,10 @@ pub fn finish_sealing(stream: Stream, tag_place: &mut [u8]) -> Given {
 
 /// Finishes a checking stream and compares the tags; equal or not, the stream has ended.
 pub fn finish_checking(stream: Stream, tag: &[u8]) -> Given {
-    let Some(set) = set_of_sound(&stream) else {
-        return refusal(8, stream);
+    let set = match fitting(&stream, Direction::Checking) {
+        Ok(set) => set,
+        Err(number) => return refusal(number, stream),
     };
-    if stream.phase == Phase::Ended || stream.direction != Direction::Checking {
-        return refusal(7, stream);
-    }
     if tag.len() != set.key {
         return refusal(4, stream);
     }

@@ -1,9 +1,11 @@
 //! Streams: cut messages, every refusal and its order, broken states, and the named cases.
 
-use second::calls;
+mod common;
+
+use common::{flipped, message, Message};
 use second::cases::named_cases;
 use second::cipher::{set_of, Set};
-use second::permutation::run;
+use second::permutation::{run, Words};
 use second::random::Random;
 use second::stream::{
     ad, check, finish_checking, finish_sealing, is_broken, seal, start, Direction, Given, Phase,
@@ -13,45 +15,10 @@ use Direction::{Checking, Sealing};
 
 const SEED: u64 = 20_140_316;
 const BOTH: [Direction; 2] = [Sealing, Checking];
+const KINDS: [(u64, Direction); 4] = [(1, Sealing), (1, Checking), (2, Sealing), (2, Checking)];
 const TWELVE: [u64; 12] = [
     0xf0, 0xe1, 0xd2, 0xc3, 0xb4, 0xa5, 0x96, 0x87, 0x78, 0x69, 0x5a, 0x4b,
 ];
-
-/// A whole message, sealed by the whole-message call.
-struct Message {
-    set: &'static Set,
-    key: Vec<u8>,
-    nonce: Vec<u8>,
-    ad: Vec<u8>,
-    text: Vec<u8>,
-    cipher: Vec<u8>,
-    tag: Vec<u8>,
-    rounds: u64,
-}
-
-/// Gives a pseudo-random message of the given lengths, sealed as a whole.
-fn message(random: &mut Random, number: u64, ad: usize, text: usize) -> Message {
-    let set = set_of(number).expect("a known set");
-    let key = random.bytes(set.key);
-    let nonce = random.bytes(set.key);
-    let ad = random.bytes(ad);
-    let text = random.bytes(text);
-    let mut cipher = vec![0; text.len()];
-    let mut tag = vec![0; set.key];
-    let answer = calls::seal(number, &key, &nonce, &ad, &text, &mut cipher, &mut tag);
-    assert_eq!(answer.number, 0);
-    let rounds = answer.rounds;
-    Message {
-        set,
-        key,
-        nonce,
-        ad,
-        text,
-        cipher,
-        tag,
-        rounds,
-    }
-}
 
 /// Gives the state of an answer that must be done with the given rounds.
 fn done(given: Given, rounds: u64) -> Stream {
@@ -62,6 +29,11 @@ fn done(given: Given, rounds: u64) -> Stream {
 /// Gives a fresh stream of the message.
 fn fresh(m: &Message, direction: Direction) -> Stream {
     done(start(direction, m.set.number, &m.key, &m.nonce), 12)
+}
+
+/// Gives a stream of the message that has taken all of its data.
+fn after_data(m: &Message, direction: Direction) -> Stream {
+    ad(fresh(m, direction), &m.ad).2
 }
 
 /// Gives the key with zeros after it up to 16 bytes.
@@ -103,17 +75,30 @@ fn closing(m: &Message) -> u64 {
 }
 
 /// Makes one text call in either direction and gives its answer and what went out.
-fn text_call(random: &mut Random, s: Stream, piece: &[u8]) -> (Given, Vec<u8>) {
+fn text_call(s: Stream, piece: &[u8]) -> (Given, Vec<u8>) {
     if s.direction == Checking {
         return (check(s, piece), piece.to_vec());
     }
-    let spare = random.below(4);
-    let before = random.bytes(piece.len() + spare);
-    let mut out = before.clone();
+    let mut out = vec![0; piece.len()];
     let given = seal(s, piece, &mut out);
-    assert_eq!(out[piece.len()..], before[piece.len()..]);
-    out.truncate(piece.len());
+    // Spare bytes after the piece's place stay as they were.
+    let mut longer = vec![9; piece.len() + 3];
+    assert_eq!(seal(s, piece, &mut longer), given);
+    assert_eq!(longer, [&out[..], &[9; 3]].concat());
     (given, out)
+}
+
+/// Says that the stream ends in its direction with the given tag and rounds.
+fn expect_end(s: Stream, tag: &[u8], rounds: u64) {
+    let mut ours = tag.to_vec();
+    let given = if s.direction == Sealing {
+        ours.fill(0xa5);
+        finish_sealing(s, &mut ours)
+    } else {
+        finish_checking(s, tag)
+    };
+    assert_eq!(given, (0, rounds, ENDED));
+    assert_eq!(ours, tag);
 }
 
 /// Runs the message through a stream in the given pieces and compares all with the whole message.
@@ -143,7 +128,7 @@ fn run_cut(
         if index == 0 {
             rounds += closing(m);
         }
-        let (given, out) = text_call(random, s, piece);
+        let (given, out) = text_call(s, piece);
         s = done(given, rounds);
         sum += rounds;
         went.extend(out);
@@ -151,20 +136,11 @@ fn run_cut(
     }
     assert_eq!(went, m.cipher);
 
-    let last = if pieces.is_empty() {
-        12 + closing(m)
-    } else {
-        12
-    };
+    let last = 12 + if pieces.is_empty() { closing(m) } else { 0 };
     assert_eq!(sum + last, m.rounds);
-    if direction == Sealing {
-        let mut tag = random.bytes(m.set.key);
-        assert_eq!(finish_sealing(s, &mut tag), (0, last, ENDED));
-        assert_eq!(tag, m.tag);
-    } else {
-        assert_eq!(finish_checking(s, &m.tag), (0, last, ENDED));
-        let mut wrong = m.tag.clone();
-        wrong[random.below(m.set.key)] ^= 1 << random.below(8);
+    expect_end(s, &m.tag, last);
+    if direction == Checking {
+        let wrong = flipped(&m.tag, random.below(m.set.key * 8));
         assert_eq!(finish_checking(s, &wrong), (9, last, ENDED));
     }
 }
@@ -201,26 +177,30 @@ fn cut(random: &mut Random, set: &Set, bytes: &[u8], way: usize) -> Vec<Vec<u8>>
     }
 }
 
+/// Gives the bytes cut at the given places, which go up.
+fn cut_at(bytes: &[u8], places: &[usize]) -> Vec<Vec<u8>> {
+    let from = [&[0], places].concat();
+    let to = [places, &[bytes.len()]].concat();
+    let pairs = from.into_iter().zip(to);
+    pairs.map(|(from, to)| bytes[from..to].to_vec()).collect()
+}
+
 /// Says that messages around the block edges come out the same in all mixtures of cuts.
 #[test]
 fn cuts_of_many_kinds() {
     let mut random = Random::new(SEED);
     let mut ran = 0;
-    for number in [1, 2] {
+    for (number, direction) in KINDS {
         let b = set_of(number).expect("a known set").block;
         let edges = [0, 1, b - 1, b, b + 1, 2 * b, 3 * b - 1, 6 * b + 5];
-        for ad_length in edges {
-            for text_length in edges {
-                let m = message(&mut random, number, ad_length, text_length);
-                for direction in BOTH {
-                    for way in 0..WAYS * WAYS {
-                        let data = cut(&mut random, m.set, &m.ad, way / WAYS);
-                        let whole = body(&m, direction);
-                        let pieces = cut(&mut random, m.set, whole, way % WAYS);
-                        run_cut(&mut random, &m, direction, &data, &pieces);
-                        ran += 1;
-                    }
-                }
+        for pair in 0..64 {
+            let m = message(&mut random, number, edges[pair / 8], edges[pair % 8]);
+            for way in 0..WAYS * WAYS {
+                let data = cut(&mut random, m.set, &m.ad, way / WAYS);
+                let whole = body(&m, direction);
+                let pieces = cut(&mut random, m.set, whole, way % WAYS);
+                run_cut(&mut random, &m, direction, &data, &pieces);
+                ran += 1;
             }
         }
     }
@@ -232,26 +212,18 @@ fn cuts_of_many_kinds() {
 fn every_cut_in_two_and_three() {
     let mut random = Random::new(SEED + 1);
     let mut ran = 0;
-    for number in [1, 2] {
+    for (number, direction) in KINDS {
         let b = set_of(number).expect("a known set").block;
         let length = 2 * b + 1;
         let m = message(&mut random, number, length, length);
-        for direction in BOTH {
-            let whole = body(&m, direction);
-            for first in 0..=length {
-                for second in first..=length {
-                    let three = |bytes: &[u8]| {
-                        vec![
-                            bytes[..first].to_vec(),
-                            bytes[first..second].to_vec(),
-                            bytes[second..].to_vec(),
-                        ]
-                    };
-                    let two = vec![m.ad[..first].to_vec(), m.ad[first..].to_vec()];
-                    run_cut(&mut random, &m, direction, &two, &three(whole));
-                    let two = vec![whole[..second].to_vec(), whole[second..].to_vec()];
-                    run_cut(&mut random, &m, direction, &three(&m.ad), &two);
-                    ran += 2;
+        let whole = body(&m, direction);
+        for first in 0..=length {
+            for second in first..=length {
+                let three = [first, second];
+                for (data, text) in [(&three[..1], &three[..]), (&three, &three[1..])] {
+                    let (data, pieces) = (cut_at(&m.ad, data), cut_at(whole, text));
+                    run_cut(&mut random, &m, direction, &data, &pieces);
+                    ran += 1;
                 }
             }
         }
@@ -265,23 +237,21 @@ fn every_cut_in_two_and_three() {
 fn states_do_not_remember_the_pieces() {
     let mut random = Random::new(SEED + 2);
     let mut ran = 0;
-    for number in [1, 2] {
+    for (number, direction) in KINDS {
         let m = message(&mut random, number, 53, 53);
-        for direction in BOTH {
-            let at_start = fresh(&m, direction);
-            let mut bytewise = at_start;
-            for (i, byte) in m.ad.iter().enumerate() {
-                bytewise = ad(bytewise, &[*byte]).2;
-                assert_eq!(bytewise, ad(at_start, &m.ad[..=i]).2);
-                ran += 1;
-            }
-            let at_text = bytewise;
-            let whole = body(&m, direction);
-            for (i, byte) in whole.iter().enumerate() {
-                bytewise = text_call(&mut random, bytewise, &[*byte]).0 .2;
-                assert_eq!(bytewise, text_call(&mut random, at_text, &whole[..=i]).0 .2);
-                ran += 1;
-            }
+        let at_start = fresh(&m, direction);
+        let mut bytewise = at_start;
+        for (i, byte) in m.ad.iter().enumerate() {
+            bytewise = ad(bytewise, &[*byte]).2;
+            assert_eq!(bytewise, ad(at_start, &m.ad[..=i]).2);
+            ran += 1;
+        }
+        let at_text = bytewise;
+        let whole = body(&m, direction);
+        for (i, byte) in whole.iter().enumerate() {
+            bytewise = text_call(bytewise, &[*byte]).0 .2;
+            assert_eq!(bytewise, text_call(at_text, &whole[..=i]).0 .2);
+            ran += 1;
         }
     }
     assert_eq!(ran, 2 * 2 * 106);
@@ -290,6 +260,21 @@ fn states_do_not_remember_the_pieces() {
 /// Gives `count` bytes counting up from `first`.
 fn counting(first: u8, count: u8) -> Vec<u8> {
     (first..first + count).collect()
+}
+
+/// Says that the stream is one just started, with the given words and key.
+fn expect_started(s: Stream, set: u64, direction: Direction, words: Words, key: &[u8]) {
+    let wanted = Stream {
+        words,
+        set,
+        direction,
+        phase: Phase::Data,
+        key: kept(key),
+        ad_count: 0,
+        text_count: 0,
+        place: 0,
+    };
+    assert_eq!(s, wanted);
 }
 
 /// Says that the words in set 1 are those worked out here, within blocks too.
@@ -303,17 +288,7 @@ fn words_by_hand_in_set_1() {
         x[3] ^= k0;
         x[4] ^= k1;
         let s = done(start(direction, 1, &counting(0, 16), &counting(16, 16)), 12);
-        let wanted = Stream {
-            words: x,
-            set: 1,
-            direction,
-            phase: Phase::Data,
-            key: kept(&counting(0, 16)),
-            ad_count: 0,
-            text_count: 0,
-            place: 0,
-        };
-        assert_eq!(s, wanted);
+        expect_started(s, 1, direction, x, &counting(0, 16));
 
         x[0] ^= 0x2021220000000000;
         let s = done(ad(s, &[0x20, 0x21, 0x22]), 0);
@@ -330,15 +305,14 @@ fn words_by_hand_in_set_1() {
         let stream_bytes = x[0].to_be_bytes();
         x[0] ^= 0x3031000000000000;
         // Sealing takes text, checking the ciphertext of the same text.
-        let s = if direction == Sealing {
-            let mut out = [9; 3];
-            let s = done(seal(s, &[0x30, 0x31], &mut out), 6);
-            assert_eq!(out, [stream_bytes[0] ^ 0x30, stream_bytes[1] ^ 0x31, 9]);
-            s
-        } else {
-            let piece = [stream_bytes[0] ^ 0x30, stream_bytes[1] ^ 0x31];
-            done(check(s, &piece), 6)
+        let cipher = [stream_bytes[0] ^ 0x30, stream_bytes[1] ^ 0x31];
+        let piece = match direction {
+            Sealing => [0x30, 0x31],
+            Checking => cipher,
         };
+        let (given, out) = text_call(s, &piece);
+        let s = done(given, 6);
+        assert_eq!(out, cipher);
         assert_eq!((s.words, s.ad_count, s.text_count, s.place), (x, 9, 2, 2));
         assert_eq!(s.phase, Phase::Text);
 
@@ -347,13 +321,7 @@ fn words_by_hand_in_set_1() {
         x[2] ^= k1;
         x = run(x, &TWELVE);
         let tag = [(x[3] ^ k0).to_be_bytes(), (x[4] ^ k1).to_be_bytes()].concat();
-        if direction == Sealing {
-            let mut ours = [0; 16];
-            assert_eq!(finish_sealing(s, &mut ours), (0, 12, ENDED));
-            assert_eq!(ours.to_vec(), tag);
-        } else {
-            assert_eq!(finish_checking(s, &tag), (0, 12, ENDED));
-        }
+        expect_end(s, &tag, 12);
         ran += 1;
     }
     assert_eq!(ran, 2);
@@ -375,17 +343,7 @@ fn words_by_hand_in_set_2() {
         x[3] ^= 0x0000000000010203;
         x[4] ^= 0x0405060708090a0b;
         let s = done(start(direction, 2, &counting(0, 12), &counting(16, 12)), 12);
-        let wanted = Stream {
-            words: x,
-            set: 2,
-            direction,
-            phase: Phase::Data,
-            key: [0, 1, 2, 3, 4, 5, 6, 7, 8, 9, 10, 11, 0, 0, 0, 0],
-            ad_count: 0,
-            text_count: 0,
-            place: 0,
-        };
-        assert_eq!(s, wanted);
+        expect_started(s, 2, direction, x, &counting(0, 12));
 
         x[0] ^= 0x2021222324252627;
         x[1] ^= 0x2829000000000000;
@@ -400,10 +358,7 @@ fn words_by_hand_in_set_2() {
         x[0] ^= 0x8000000000000000;
         x = run(x, &TWELVE[..8]);
         x[4] ^= 1;
-        let s = match direction {
-            Sealing => done(seal(s, &[], &mut []), 8),
-            Checking => done(check(s, &[]), 8),
-        };
+        let s = done(text_call(s, &[]).0, 8);
         assert_eq!((s.words, s.text_count, s.place), (x, 0, 0));
         assert_eq!(s.phase, Phase::Text);
 
@@ -414,13 +369,7 @@ fn words_by_hand_in_set_2() {
         x[3] ^= 0x0000000000010203;
         x[4] ^= 0x0405060708090a0b;
         let tag = [x[3].to_be_bytes(), x[4].to_be_bytes()].concat();
-        if direction == Sealing {
-            let mut ours = [0; 12];
-            assert_eq!(finish_sealing(s, &mut ours), (0, 12, ENDED));
-            assert_eq!(ours, tag[4..]);
-        } else {
-            assert_eq!(finish_checking(s, &tag[4..]), (0, 12, ENDED));
-        }
+        expect_end(s, &tag[4..], 12);
         ran += 1;
     }
     assert_eq!(ran, 2);
@@ -445,51 +394,6 @@ fn the_named_cases() {
     assert_eq!(named_cases(), wanted);
 }
 
-/// Says that a stream at both limits takes empty pieces, no byte more, and 835,614 rounds in all.
-#[test]
-fn both_limits_in_set_1() {
-    let mut random = Random::new(SEED + 3);
-    let m = message(&mut random, 1, 65_536, 1_048_576);
-    let mut s = fresh(&m, Sealing);
-    s = done(ad(s, &m.ad[..65_535]), 8_191 * 6);
-    assert_eq!(ad(s, &[1, 2]), (5, 0, s));
-    s = done(ad(s, &m.ad[65_535..]), 6);
-    assert_eq!(ad(s, &[1]), (5, 0, s));
-    s = done(ad(s, &[]), 0);
-    let mut out = vec![0; 1_048_576];
-    s = done(seal(s, &m.text[..1_048_575], &mut out), 6 + 131_071 * 6);
-    assert_eq!(seal(s, &[1, 2], &mut [0; 2]), (5, 0, s));
-    s = done(seal(s, &m.text[1_048_575..], &mut out[1_048_575..]), 6);
-    assert_eq!(seal(s, &[1], &mut [0]), (5, 0, s));
-    s = done(seal(s, &[], &mut []), 0);
-    assert_eq!(out, m.cipher);
-    let mut tag = [0; 16];
-    assert_eq!(finish_sealing(s, &mut tag), (0, 12, ENDED));
-    assert_eq!(tag.to_vec(), m.tag);
-    assert_eq!(m.rounds, 835_614);
-}
-
-/// Says the same of a checking stream in set 2, which takes 557,088 rounds.
-#[test]
-fn both_limits_in_set_2() {
-    let mut random = Random::new(SEED + 19);
-    let m = message(&mut random, 2, 65_536, 1_048_576);
-    let mut s = fresh(&m, Checking);
-    s = done(ad(s, &m.ad[..65_535]), 4_095 * 8);
-    assert_eq!(ad(s, &[1, 2]), (5, 0, s));
-    s = done(ad(s, &m.ad[65_535..]), 8);
-    assert_eq!(ad(s, &[1]), (5, 0, s));
-    s = done(ad(s, &[]), 0);
-    s = done(check(s, &m.cipher[..1_048_575]), 8 + 65_535 * 8);
-    assert_eq!(check(s, &[1, 2]), (5, 0, s));
-    s = done(check(s, &m.cipher[1_048_575..]), 8);
-    assert_eq!(check(s, &[1]), (5, 0, s));
-    s = done(check(s, &[]), 0);
-    assert_eq!(finish_checking(s, &m.tag), (0, 12, ENDED));
-    // 24 + 8 × (4,097 + 65,537 − 1).
-    assert_eq!(m.rounds, 557_088);
-}
-
 /// The five calls on a state.
 #[derive(Clone, Copy, Debug, PartialEq)]
 enum Call {
@@ -507,6 +411,22 @@ const CALLS: [Call; 5] = [
     Call::FinishSealing,
     Call::FinishChecking,
 ];
+
+/// Gives the text call and the finish call of a direction.
+fn calls_of(direction: Direction) -> [Call; 2] {
+    match direction {
+        Sealing => [Call::Seal, Call::FinishSealing],
+        Checking => [Call::Check, Call::FinishChecking],
+    }
+}
+
+/// Gives the other direction.
+fn other(direction: Direction) -> Direction {
+    match direction {
+        Sealing => Checking,
+        Checking => Sealing,
+    }
+}
 
 /// Makes the call with as much of the parts as belongs to it.
 fn called(call: Call, s: Stream, piece: &[u8], out: &mut [u8], tag: &mut [u8]) -> Given {
@@ -529,6 +449,43 @@ fn expect_refusal(number: u64, call: Call, s: Stream, piece: &[u8], room: usize,
     assert!(out == out_before && lent == tag, "{call:?}");
 }
 
+/// Takes a stream to both limits, with so many blocks filled before the last byte of each.
+fn expect_limits(seed: u64, s: (u64, Direction), middle: u64, filled: [u64; 2], rounds: u64) {
+    let m = message(&mut Random::new(seed), s.0, 65_536, 1_048_576);
+    let whole = body(&m, s.1);
+    let [text, _] = calls_of(s.1);
+    let mut s = fresh(&m, s.1);
+    s = done(ad(s, &m.ad[..65_535]), filled[0] * middle);
+    expect_refusal(5, Call::Ad, s, &[1, 2], 0, &[]);
+    s = done(ad(s, &m.ad[65_535..]), middle);
+    expect_refusal(5, Call::Ad, s, &[1], 0, &[]);
+    s = done(ad(s, &[]), 0);
+    let (given, mut out) = text_call(s, &whole[..1_048_575]);
+    s = done(given, middle + filled[1] * middle);
+    expect_refusal(5, text, s, &[1, 2], 2, &[]);
+    let (given, last) = text_call(s, &whole[1_048_575..]);
+    s = done(given, middle);
+    out.extend(last);
+    expect_refusal(5, text, s, &[1], 1, &[]);
+    s = done(text_call(s, &[]).0, 0);
+    assert!(out == m.cipher);
+    expect_end(s, &m.tag, 12);
+    assert_eq!(m.rounds, rounds);
+}
+
+/// Says that a stream at both limits takes empty pieces, no byte more, and 835,614 rounds in all.
+#[test]
+fn both_limits_in_set_1() {
+    expect_limits(SEED + 3, (1, Sealing), 6, [8_191, 131_071], 835_614);
+}
+
+/// Says the same of a checking stream in set 2, which takes 557,088 rounds.
+#[test]
+fn both_limits_in_set_2() {
+    // 24 + 8 × (4,097 + 65,537 − 1).
+    expect_limits(SEED + 19, (2, Checking), 8, [4_095, 65_535], 557_088);
+}
+
 /// Says that the state is broken, and that every call on it, fitting or not, answers 8.
 fn expect_broken(s: Stream) -> usize {
     assert!(is_broken(&s), "{s:?}");
@@ -539,6 +496,11 @@ fn expect_broken(s: Stream) -> usize {
         expect_refusal(8, call, s, &[1, 2, 3], 2, &[5]);
     }
     1
+}
+
+/// Says of every one of the states that it is broken, and gives how many they are.
+fn all_broken(states: impl IntoIterator<Item = Stream>) -> usize {
+    states.into_iter().map(expect_broken).sum()
 }
 
 /// Says that the state isn't broken, and that no call on it answers 8.
@@ -554,16 +516,14 @@ fn expect_sound(s: Stream) -> usize {
 /// Gives sound open states: both sets, directions and phases, some counts of either kind.
 fn open_states(random: &mut Random) -> Vec<Stream> {
     let mut states = Vec::new();
-    for number in [1, 2] {
-        for direction in BOTH {
-            for count in [0, 1, 8, 13, 16, 31, 32] {
-                let m = message(random, number, count, 21);
-                let data = ad(fresh(&m, direction), &m.ad).2;
-                states.push(data);
-                for length in [0, 3, 16, 21] {
-                    let piece = &body(&m, direction)[..length];
-                    states.push(text_call(random, data, piece).0 .2);
-                }
+    for (number, direction) in KINDS {
+        for count in [0, 1, 8, 13, 16, 31, 32] {
+            let m = message(random, number, count, 21);
+            let data = after_data(&m, direction);
+            states.push(data);
+            for length in [0, 3, 16, 21] {
+                let piece = &body(&m, direction)[..length];
+                states.push(text_call(data, piece).0 .2);
             }
         }
     }
@@ -575,6 +535,26 @@ const OPEN: usize = 2 * 2 * 7 * 5;
 /// Gives the block of a state's set.
 fn block_of(s: &Stream) -> u64 {
     set_of(s.set).expect("a known set").block as u64
+}
+
+/// Gives the open state with other counts and the place that goes with them.
+fn with_counts(mut s: Stream, ad_count: u64, text_count: u64) -> Stream {
+    (s.ad_count, s.text_count) = (ad_count, text_count);
+    let data = s.phase == Phase::Data;
+    s.place = if data { ad_count } else { text_count } % block_of(&s);
+    s
+}
+
+/// Gives the state with one bit of its key changed.
+fn with_key_bit(mut s: Stream, bit: usize) -> Stream {
+    s.key[bit / 8] ^= 1 << (bit % 8);
+    s
+}
+
+/// Runs a test on every open state, from the given seed on, and gives the sum of its counts.
+fn over_open(seed: u64, test: impl FnMut(Stream) -> usize) -> usize {
+    let states = open_states(&mut Random::new(seed));
+    states.into_iter().map(test).sum()
 }
 
 /// Says that any other ended state than the one is broken, whichever part differs.
@@ -598,25 +578,13 @@ fn broken_by_another_ended_state() {
         s.words[bit / 64] ^= 1 << (bit % 64);
         ran += expect_broken(s);
     }
-    for bit in 0..128 {
-        let mut s = one;
-        s.key[bit / 8] ^= 1 << (bit % 8);
-        ran += expect_broken(s);
-    }
+    ran += all_broken((0..128).map(|bit| with_key_bit(one, bit)));
     for bit in 0..64 {
-        let number = 1 << bit;
-        ran += expect_broken(Stream {
-            ad_count: number,
-            ..one
-        });
-        ran += expect_broken(Stream {
-            text_count: number,
-            ..one
-        });
-        ran += expect_broken(Stream {
-            place: number,
-            ..one
-        });
+        let mut s = [one; 3];
+        s[0].ad_count = 1 << bit;
+        s[1].text_count = 1 << bit;
+        s[2].place = 1 << bit;
+        ran += all_broken(s);
     }
     ran += expect_broken(Stream { set: 2, ..one });
     ran += expect_broken(Stream {
@@ -624,27 +592,19 @@ fn broken_by_another_ended_state() {
         ..one
     });
     // An open state with nothing changed but its phase.
-    for s in open_states(&mut Random::new(SEED + 4)) {
-        let phase = Phase::Ended;
-        ran += expect_broken(Stream { phase, ..s });
-    }
+    let phase = Phase::Ended;
+    ran += over_open(SEED + 4, |s| expect_broken(Stream { phase, ..s }));
     assert_eq!(ran, 1 + 320 + 128 + 3 * 64 + 2 + OPEN);
 }
 
 /// Says that every place but the present count modulo the block is broken.
 #[test]
 fn broken_by_its_place() {
-    let mut ran = 0;
-    for s in open_states(&mut Random::new(SEED + 5)) {
-        ran += expect_sound(s);
-        for place in (0..=40).filter(|place| *place != s.place) {
-            ran += expect_broken(Stream { place, ..s });
-        }
-        let far = 1 << 32;
-        for place in [s.place + far, s.place.wrapping_sub(far), u64::MAX] {
-            ran += expect_broken(Stream { place, ..s });
-        }
-    }
+    let ran = over_open(SEED + 5, |s| {
+        let near = (0..=40).filter(|place| *place != s.place);
+        let far = [s.place + (1 << 32), s.place.wrapping_sub(1 << 32), u64::MAX];
+        expect_sound(s) + all_broken(near.chain(far).map(|place| Stream { place, ..s }))
+    });
     assert_eq!(ran, OPEN * (1 + 40 + 3));
 }
 
@@ -676,15 +636,13 @@ fn broken_by_the_place_of_the_other_phase() {
 /// Says that a text count before the text phase is broken, at a fitting place too.
 #[test]
 fn broken_by_early_text() {
-    let mut ran = 0;
-    for s in open_states(&mut Random::new(SEED + 7)) {
+    let ran = over_open(SEED + 7, |s| {
         if s.phase != Phase::Data {
-            continue;
+            return 0;
         }
-        for text_count in [1, 8, 16, s.ad_count + 16, 1_048_576] {
-            ran += expect_broken(Stream { text_count, ..s });
-        }
-    }
+        let counts = [1, 8, 16, s.ad_count + 16, 1_048_576];
+        all_broken(counts.map(|text_count| Stream { text_count, ..s }))
+    });
     assert_eq!(ran, OPEN / 5 * 5);
 }
 
@@ -693,31 +651,17 @@ fn broken_by_early_text() {
 fn broken_by_a_count() {
     let mut ran = 0;
     for s in open_states(&mut Random::new(SEED + 8)) {
-        let block = block_of(&s);
-        let at = |ad_count: u64, text_count: u64| {
-            let place = match s.phase {
-                Phase::Data => ad_count % block,
-                _ => text_count % block,
-            };
-            Stream {
-                ad_count,
-                text_count,
-                place,
-                ..s
-            }
-        };
+        let at = |ad_count, text_count| with_counts(s, ad_count, text_count);
         ran += expect_sound(at(65_535, s.text_count));
         ran += expect_sound(at(65_536, s.text_count));
-        for count in [65_537, 65_552, 1_048_576, 1 << 32, u64::MAX] {
-            ran += expect_broken(at(count, s.text_count));
-        }
+        let over = [65_537, 65_552, 1_048_576, 1 << 32, u64::MAX];
+        ran += all_broken(over.map(|count| at(count, s.text_count)));
         if s.phase == Phase::Text {
             ran += expect_sound(at(s.ad_count, 1_048_575));
             ran += expect_sound(at(s.ad_count, 1_048_576));
             ran += expect_sound(at(65_536, 1_048_576));
-            for count in [1_048_577, 1_048_592, 1 << 32, u64::MAX] {
-                ran += expect_broken(at(s.ad_count, count));
-            }
+            let over = [1_048_577, 1_048_592, 1 << 32, u64::MAX];
+            ran += all_broken(over.map(|count| at(s.ad_count, count)));
         }
     }
     assert_eq!(ran, OPEN * 7 + OPEN / 5 * 4 * 7);
@@ -726,12 +670,10 @@ fn broken_by_a_count() {
 /// Says that an unknown set is broken, with all else as in a sound state.
 #[test]
 fn broken_by_its_set() {
-    let mut ran = 0;
-    for s in open_states(&mut Random::new(SEED + 9)) {
-        for set in [0, 3, 16, 1 << 32 | 1, 1 << 32 | 2, u64::MAX] {
-            ran += expect_broken(Stream { set, ..s });
-        }
-    }
+    let ran = over_open(SEED + 9, |s| {
+        let sets = [0, 3, 16, 1 << 32 | 1, 1 << 32 | 2, u64::MAX];
+        all_broken(sets.map(|set| Stream { set, ..s }))
+    });
     assert_eq!(ran, OPEN * 6);
 }
 
@@ -741,8 +683,7 @@ fn broken_by_its_key() {
     let mut ran = 0;
     for s in open_states(&mut Random::new(SEED + 10)) {
         for bit in 0..128 {
-            let mut other = s;
-            other.key[bit / 8] ^= 1 << (bit % 8);
+            let other = with_key_bit(s, bit);
             ran += if s.set == 2 && bit >= 96 {
                 expect_broken(other)
             } else {
@@ -758,11 +699,10 @@ fn broken_by_its_key() {
 #[test]
 fn words_break_nothing() {
     let mut random = Random::new(SEED + 11);
-    let mut ran = 0;
-    for s in open_states(&mut Random::new(SEED + 12)) {
+    let ran = over_open(SEED + 12, |s| {
         let words = [(); 5].map(|()| random.number());
-        ran += expect_sound(Stream { words, ..s });
-    }
+        expect_sound(Stream { words, ..s })
+    });
     assert_eq!(ran, OPEN);
 }
 
@@ -781,40 +721,28 @@ enum Fault {
 /// Gives the faults that a call can have, in the order in which they are tested.
 fn faults_of(call: Call) -> Vec<(Fault, u64)> {
     use Fault::*;
-    match call {
-        Call::Ad => vec![(Broken, 8), (Phase, 7), (Limit, 5)],
-        Call::Seal => vec![
-            (Broken, 8),
-            (Phase, 7),
-            (Direction, 7),
-            (Limit, 5),
-            (Room, 6),
-        ],
-        Call::Check => vec![(Broken, 8), (Phase, 7), (Direction, 7), (Limit, 5)],
-        Call::FinishSealing => vec![(Broken, 8), (Phase, 7), (Direction, 7), (Tag, 4)],
-        Call::FinishChecking => {
-            vec![
-                (Broken, 8),
-                (Phase, 7),
-                (Direction, 7),
-                (Tag, 4),
-                (Mismatch, 9),
-            ]
-        }
+    let mut faults = vec![(Broken, 8), (Phase, 7)];
+    if call != Call::Ad {
+        faults.push((Direction, 7));
     }
+    faults.extend(match call {
+        Call::Ad | Call::Check => vec![(Limit, 5)],
+        Call::Seal => vec![(Limit, 5), (Room, 6)],
+        Call::FinishSealing => vec![(Tag, 4)],
+        Call::FinishChecking => vec![(Tag, 4), (Mismatch, 9)],
+    });
+    faults
 }
 
 /// Gives the state that a call has no fault with, at a later or an earlier phase if both fit.
-fn fitting(random: &mut Random, m: &Message, call: Call, later: bool) -> Stream {
-    let direction = match call {
-        Call::Ad | Call::Seal | Call::FinishSealing => Sealing,
-        Call::Check | Call::FinishChecking => Checking,
-    };
-    let s = ad(fresh(m, direction), &m.ad).2;
+fn fitting(m: &Message, call: Call, later: bool) -> Stream {
+    let checks = calls_of(Checking).contains(&call);
+    let direction = if checks { Checking } else { Sealing };
+    let s = after_data(m, direction);
     if call == Call::Ad || !later {
         return s;
     }
-    text_call(random, s, body(m, direction)).0 .2
+    text_call(s, body(m, direction)).0 .2
 }
 
 /// Makes one call with the given faults and says that the first one is answered.
@@ -823,7 +751,7 @@ fn expect_first(random: &mut Random, number: u64, call: Call, way: usize, faults
     let later = way & 1 == 1;
     let text_length = if later && call != Call::Ad { 5 } else { 0 };
     let m = message(random, number, 13, text_length);
-    let mut s = fitting(random, &m, call, later);
+    let mut s = fitting(&m, call, later);
     let mut piece = vec![1; 5];
     let mut tag = m.tag.clone();
     if has(Fault::Mismatch) {
@@ -838,11 +766,9 @@ fn expect_first(random: &mut Random, number: u64, call: Call, way: usize, faults
         if way < 2 || ended || (call != Call::Ad && s.phase == Phase::Data) {
             piece = vec![1; if call == Call::Ad { 65_537 } else { 1_048_577 }];
         } else if call == Call::Ad {
-            s.ad_count = 65_532;
-            s.place = s.ad_count % block_of(&s);
+            s = with_counts(s, 65_532, s.text_count);
         } else {
-            s.text_count = 1_048_572;
-            s.place = s.text_count % block_of(&s);
+            s = with_counts(s, s.ad_count, 1_048_572);
         }
     }
     if ended {
@@ -852,20 +778,12 @@ fn expect_first(random: &mut Random, number: u64, call: Call, way: usize, faults
         s.place = 0;
     }
     if has(Fault::Direction) && !ended {
-        s.direction = if s.direction == Sealing {
-            Checking
-        } else {
-            Sealing
-        };
+        s.direction = other(s.direction);
     }
     if has(Fault::Broken) {
         s.place += block_of(&s);
     }
-    let room = if has(Fault::Room) {
-        piece.len() - 1
-    } else {
-        piece.len()
-    };
+    let room = piece.len() - usize::from(has(Fault::Room));
 
     match faults.first() {
         None | Some((_, 9)) => {
@@ -889,11 +807,8 @@ fn every_mixture_of_faults() {
         for call in CALLS {
             let all = faults_of(call);
             for mixture in 0..1 << all.len() {
-                let chosen = all
-                    .iter()
-                    .enumerate()
-                    .filter(|(i, _)| mixture >> i & 1 == 1);
-                let faults: Vec<(Fault, u64)> = chosen.map(|(_, fault)| *fault).collect();
+                let chosen = (0..all.len()).filter(|i| mixture >> i & 1 == 1);
+                let faults: Vec<(Fault, u64)> = chosen.map(|i| all[i]).collect();
                 for way in 0..4 {
                     expect_first(&mut random, number, call, way, &faults);
                     ran += 1;
@@ -908,25 +823,23 @@ fn every_mixture_of_faults() {
 #[test]
 fn every_mixture_of_faults_of_a_start() {
     let mut ran = 0;
-    for number in [1, 2] {
+    for (number, direction) in KINDS {
         let right = set_of(number).expect("a known set").key;
         let lengths = [right, 0, right - 1, right + 1, 28 - right, 40];
-        for direction in BOTH {
-            for set in [number, 0, 3, 1 << 32 | number, u64::MAX] {
-                for key in lengths {
-                    for nonce in lengths {
-                        let (n, rounds, s) = start(direction, set, &vec![1; key], &vec![2; nonce]);
-                        let wanted = match (set == number, key == right, nonce == right) {
-                            (false, _, _) => 1,
-                            (true, false, _) => 2,
-                            (true, true, false) => 3,
-                            (true, true, true) => 0,
-                        };
-                        assert_eq!(n, wanted);
-                        assert_eq!(rounds, if n == 0 { 12 } else { 0 });
-                        assert_eq!(s == ENDED, n != 0);
-                        ran += 1;
-                    }
+        for set in [number, 0, 3, 1 << 32 | number, u64::MAX] {
+            for key in lengths {
+                for nonce in lengths {
+                    let (n, rounds, s) = start(direction, set, &vec![1; key], &vec![2; nonce]);
+                    let wanted = match (set == number, key == right, nonce == right) {
+                        (false, _, _) => 1,
+                        (true, false, _) => 2,
+                        (true, true, false) => 3,
+                        (true, true, true) => 0,
+                    };
+                    assert_eq!(n, wanted);
+                    assert_eq!(rounds, if n == 0 { 12 } else { 0 });
+                    assert_eq!(s == ENDED, n != 0);
+                    ran += 1;
                 }
             }
         }
@@ -940,11 +853,7 @@ fn the_other_direction() {
     let mut ran = 0;
     for s in open_states(&mut Random::new(SEED + 14)) {
         let tag = vec![4; set_of(s.set).expect("a known set").key];
-        let others = match s.direction {
-            Sealing => [Call::Check, Call::FinishChecking],
-            Checking => [Call::Seal, Call::FinishSealing],
-        };
-        for call in others {
+        for call in calls_of(other(s.direction)) {
             expect_refusal(7, call, s, &[1, 2], 2, &tag);
             expect_refusal(7, call, s, &[], 0, &tag);
             ran += 2;
@@ -978,21 +887,18 @@ fn a_wrong_tag_ends_the_stream() {
     for number in [1, 2] {
         for text_length in [0, 21] {
             let m = message(&mut random, number, 5, text_length);
-            let mut s = ad(fresh(&m, Checking), &m.ad).2;
+            let mut s = after_data(&m, Checking);
             let mut rounds = 12 + closing(&m);
             if text_length > 0 {
                 s = check(s, &m.cipher).2;
                 rounds = 12;
             }
             for bit in 0..m.set.key * 8 {
-                let mut tag = m.tag.clone();
-                tag[bit / 8] ^= 1 << (bit % 8);
-                let (answer, reported, next) = finish_checking(s, &tag);
-                assert_eq!((answer, reported), (9, rounds));
-                assert_eq!(next, ENDED);
-                expect_refusal(7, Call::FinishChecking, next, &[], 0, &m.tag);
-                expect_refusal(7, Call::Check, next, &[1], 0, &[]);
-                expect_refusal(7, Call::Ad, next, &[1], 0, &[]);
+                let given = finish_checking(s, &flipped(&m.tag, bit));
+                assert_eq!(given, (9, rounds, ENDED));
+                for call in [Call::FinishChecking, Call::Check, Call::Ad] {
+                    expect_refusal(7, call, given.2, &[1], 0, &m.tag);
+                }
                 ran += 1;
             }
             assert_eq!(finish_checking(s, &m.tag), (0, rounds, ENDED));
@@ -1014,15 +920,11 @@ fn damage_is_noticed() {
         };
         assert_eq!(judged(&m.ad, &m.cipher), 0);
         for bit in 0..19 * 8 {
-            let mut data = m.ad.clone();
-            data[bit / 8] ^= 1 << (bit % 8);
-            assert_eq!(judged(&data, &m.cipher), 9);
+            assert_eq!(judged(&flipped(&m.ad, bit), &m.cipher), 9);
             ran += 1;
         }
         for bit in 0..37 * 8 {
-            let mut cipher = m.cipher.clone();
-            cipher[bit / 8] ^= 1 << (bit % 8);
-            assert_eq!(judged(&m.ad, &cipher), 9);
+            assert_eq!(judged(&m.ad, &flipped(&m.cipher, bit)), 9);
             ran += 1;
         }
         assert_eq!(judged(&m.ad[..18], &m.cipher), 9);
@@ -1038,7 +940,7 @@ fn empty_pieces() {
     let mut random = Random::new(SEED + 17);
     let mut ran = 0;
     for s in open_states(&mut random) {
-        let (given, _) = text_call(&mut random, s, &[]);
+        let (given, _) = text_call(s, &[]);
         if s.phase == Phase::Data {
             assert_eq!(ad(s, &[]), (0, 0, s));
             let middle = if s.set == 1 { 6 } else { 8 };
@@ -1068,41 +970,30 @@ fn empty_pieces() {
 fn refusals_change_nothing() {
     let mut random = Random::new(SEED + 18);
     let mut ran = 0;
-    for number in [1, 2] {
-        for direction in BOTH {
-            let m = message(&mut random, number, 20, 20);
-            let (front, back) = (m.ad[..7].to_vec(), m.ad[7..].to_vec());
-            let mut s = ad(fresh(&m, direction), &front).2;
-            let long = vec![0; 1_048_577];
-            let (text, finish) = match direction {
-                Sealing => (Call::Seal, Call::FinishSealing),
-                Checking => (Call::Check, Call::FinishChecking),
-            };
-            let refused = [
-                called(text, s, &long, &mut vec![0; long.len()], &mut []),
-                called(finish, s, &[], &mut [], &mut vec![0; m.set.key - 1]),
-                ad(s, &long[..65_530]),
-            ];
-            assert_eq!(refused, [(5, 0, s), (4, 0, s), (5, 0, s)]);
-            if direction == Sealing {
-                expect_refusal(6, Call::Seal, s, &[1; 9], 8, &[]);
-            }
-            for (answer, _, next) in refused {
-                assert_ne!(answer, 0);
-                s = next;
-            }
-            s = done(ad(s, &back), filling(&m, 7, 20));
-            let (given, out) = text_call(&mut random, s, body(&m, direction));
-            assert_eq!(out, m.cipher);
-            let mut tag = match direction {
-                Sealing => vec![0; m.set.key],
-                Checking => m.tag.clone(),
-            };
-            let ending = called(finish, given.2, &[], &mut [], &mut tag);
-            assert_eq!(ending, (0, 12, ENDED));
-            assert_eq!(tag, m.tag);
-            ran += 1;
+    for (number, direction) in KINDS {
+        let m = message(&mut random, number, 20, 20);
+        let (front, back) = (m.ad[..7].to_vec(), m.ad[7..].to_vec());
+        let mut s = ad(fresh(&m, direction), &front).2;
+        let long = vec![0; 1_048_577];
+        let [text, finish] = calls_of(direction);
+        let refused = [
+            called(text, s, &long, &mut vec![0; long.len()], &mut []),
+            called(finish, s, &[], &mut [], &mut vec![0; m.set.key - 1]),
+            ad(s, &long[..65_530]),
+        ];
+        assert_eq!(refused, [(5, 0, s), (4, 0, s), (5, 0, s)]);
+        if direction == Sealing {
+            expect_refusal(6, Call::Seal, s, &[1; 9], 8, &[]);
         }
+        for (answer, _, next) in refused {
+            assert_ne!(answer, 0);
+            s = next;
+        }
+        s = done(ad(s, &back), filling(&m, 7, 20));
+        let (given, out) = text_call(s, body(&m, direction));
+        assert_eq!(out, m.cipher);
+        expect_end(given.2, &m.tag, 12);
+        ran += 1;
     }
     assert_eq!(ran, 4);
 }

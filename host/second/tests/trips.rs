@@ -1,24 +1,15 @@
 //! Pseudo-random messages sealed, opened, and opened after damage.
 
-use second::calls::{open, seal, Answer};
+mod common;
+
+use common::{flipped, message, Message};
+use second::calls::{open, Answer};
 use second::cipher::{set_of, Set};
 use second::formula::rounds_by_formula;
 use second::random::Random;
 
 const SEED: u64 = 20_140_315;
 const PER_PAIR: usize = 12;
-
-/// A sealed message with all that belongs to it.
-struct Message {
-    set: &'static Set,
-    key: Vec<u8>,
-    nonce: Vec<u8>,
-    ad: Vec<u8>,
-    text: Vec<u8>,
-    cipher: Vec<u8>,
-    tag: Vec<u8>,
-    rounds: u64,
-}
 
 /// Gives the lengths around the first block edges of a set, one for each place in the list.
 fn edges(set: &Set) -> [usize; 10] {
@@ -35,33 +26,6 @@ fn edges(set: &Set) -> [usize; 10] {
         3 * b - 1,
         4 * b,
     ]
-}
-
-/// Gives a pseudo-random message of the given lengths, sealed into a longer output.
-fn sealed(random: &mut Random, set: &'static Set, ad: usize, text: usize) -> Message {
-    let key = random.bytes(set.key);
-    let nonce = random.bytes(set.key);
-    let ad = random.bytes(ad);
-    let text = random.bytes(text);
-    let spare = random.below(4);
-    let before = random.bytes(text.len() + spare);
-    let mut out = before.clone();
-    let mut tag = random.bytes(set.key);
-    let answer = seal(set.number, &key, &nonce, &ad, &text, &mut out, &mut tag);
-    let rounds = rounds_by_formula(set, ad.len(), text.len());
-    assert_eq!(answer, Answer { number: 0, rounds });
-    assert_eq!(out[text.len()..], before[text.len()..]);
-    out.truncate(text.len());
-    Message {
-        set,
-        key,
-        nonce,
-        ad,
-        text,
-        cipher: out,
-        tag,
-        rounds,
-    }
 }
 
 /// Opens into an output with spare bytes and gives the answer and the front of the output.
@@ -112,7 +76,7 @@ fn trips_with_damage() {
             for text_length in edges(set) {
                 for _ in 0..PER_PAIR {
                     let random = &mut random;
-                    let m = sealed(random, set, ad_length, text_length);
+                    let m = message(random, number, ad_length, text_length);
                     let (answer, out) = opened(random, &m, &m.ad, &m.cipher, &m.tag);
                     let rounds = m.rounds;
                     assert_eq!(answer, Answer { number: 0, rounds });
@@ -139,12 +103,9 @@ fn every_tag_bit_counts() {
     let mut random = Random::new(SEED + 1);
     let mut ran = 0;
     for number in [1, 2] {
-        let set = set_of(number).expect("a known set");
-        let m = sealed(&mut random, set, 5, 21);
-        for place in 0..set.key * 8 {
-            let mut tag = m.tag.clone();
-            tag[place / 8] ^= 1 << (place % 8);
-            refused(&mut random, &m, &m.ad, &m.cipher, &tag);
+        let m = message(&mut random, number, 5, 21);
+        for bit in 0..m.set.key * 8 {
+            refused(&mut random, &m, &m.ad, &m.cipher, &flipped(&m.tag, bit));
             ran += 1;
         }
     }
@@ -157,9 +118,8 @@ fn other_lengths_are_refused() {
     let mut random = Random::new(SEED + 2);
     let mut ran = 0;
     for number in [1, 2] {
-        let set = set_of(number).expect("a known set");
         for text_length in 1..=40 {
-            let m = sealed(&mut random, set, 3, text_length);
+            let m = message(&mut random, number, 3, text_length);
             let shorter = m.cipher[..text_length - 1].to_vec();
             refused(&mut random, &m, &m.ad, &shorter, &m.tag);
             let mut longer = m.cipher.clone();
