@@ -1,2 +1,4 @@
--- Laws of the window.
-pub mod Windows
+-- Laws of the places.
+pub mod Lines
+pub mod Views
+pub mod Looks

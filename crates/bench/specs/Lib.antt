@@ -1,2 +1,3 @@
--- The program's window.
-pub mod Windows
+-- The program's places, and how they show its run.
+pub mod Lines
+pub mod Progress

@@ -1,81 +1,36 @@
-// The bench: judges the records that stand one after another on standard input, and writes three lines on each to standard output. A read or a write that fails
-// is said on standard error, and ends it; a record that a failed read cut off gets no report.
+// The bench: judges the records that stand one after another on standard input, writes three lines on each to standard output, and at its proper end says on
+// standard error how many it judged, and how. What fails is said there in its place; a record that a failed read cut off gets no report.
+mod progress;
+mod tally;
+
 ghost use mathlib.Core.Path.{_≡_};
-ghost use mathlib.Core.Bool.{false};
 ghost use Prim.Native.Nat.{_-_, _≤_, _<_};
 ghost use lib.ListN.{length, take, drop};
-ghost use Rattle.bench.specs.Windows.{Within, More, begun, stopped, behind};
-use judge::Step;
+ghost use Rattle.turns.specs.Tallies.{recordsOf, largest};
+ghost use Rattle.turns.specs.Run.{looked, judged};
+ghost use Rattle.bench.specs.Progress.{movedBy, front, Sound, view, More, Less, Closed};
+ghost use Rattle.turns.specs.Laws.{Answered, Turned, Ran};
 use libc::STDIN_FILENO;
-use libc::STDOUT_FILENO;
+use progress::Heard;
+use progress::Progress;
+use turns::Ending;
+use turns::Stage;
 
-// How far the program is. The window is the buffer from `start` to `filled`; `ended` says that it is all that is left of the input; `number` is the number of its
-// first record; `over` says that nothing is left to do.
-struct Progress {
-    start: usize,
-    filled: usize,
-    ended: bool,
-    number: u64,
-    over: bool,
-}
-
-// Writes a report, or says why it cannot, and gives whether it was written.
-fn say(report: &[u8]) -> bool {
-    let written = io::write_all(STDOUT_FILENO, report);
-    if !written {
-        os::fail(b"bench: writing failed");
-    }
-    written
-}
-
-// Says on standard error why the program stops, where it has no more numbers or no room.
-fn give_up(what: &[u8]) {
-    io::write_all(libc::STDERR_FILENO, what);
-}
-
-// The end of the program.
-fn end(p: Progress) -> Progress
-    ensures { λ r. ⌜ r ≡ stopped p ⌝ }
+// One read from standard input into a place that has room, so that no byte means its end.
+fn read_some(room: &mut [u8]) -> Heard
+    requires { ⌜ 1 ≤ length (now room) ⌝ }
+    ensures { λ r. ⌜ movedBy r ≤ length (now (room .entry)) ⌝ }
 {
-    Progress {
-        start: p.start,
-        filled: p.filled,
-        ended: p.ended,
-        number: p.number,
-        over: true,
-    }
+    let count = libc::read(STDIN_FILENO, room);
+    progress::hear(count, os::errno())
 }
 
-// Where the program begins: nothing is read, and the first record has the number 1.
-fn begin() -> Progress
-    ensures { λ r. ⌜ r ≡ begun ⌝ }
+// One write of bytes to a descriptor.
+fn write_some(to: i32, bytes: &[u8]) -> Heard
+    ensures { λ r. ⌜ movedBy r ≤ length (now (bytes .entry)) ⌝ }
 {
-    Progress {
-        start: 0,
-        filled: 0,
-        ended: false,
-        number: 1,
-        over: false,
-    }
-}
-
-// The next record, behind one that took so many bytes, where its report was written.
-fn next_record(p: Progress, taken: usize, written: bool) -> Progress
-    requires { ⌜ taken ≤ p .filled - p .start ⌝ }
-    requires { ⌜ p .start ≤ p .filled ⌝ }
-    ensures { λ r. ⌜ r ≡ behind p taken written ⌝ }
-{
-    if p.number == u64::MAX {
-        give_up(b"bench: too many records\n");
-        return end(p);
-    }
-    Progress {
-        start: p.start + taken,
-        filled: p.filled,
-        ended: p.ended,
-        number: p.number + 1,
-        over: !written,
-    }
+    let count = libc::write(to, bytes);
+    progress::hear(count, os::errno())
 }
 
 // Moves the window to the front of the buffer.
@@ -92,85 +47,168 @@ fn move_to_front(buffer: &mut [u8], start: usize, filled: usize)
     }
 }
 
-// The window of so many bytes at the front of the buffer, after a read that failed, which is not the end of the input: one that a signal broke off is tried
-// again, any other is said, and nothing is left to do.
-fn failed_read(p: Progress, size: usize) -> Progress
-    ensures { λ r. ⌜ (r .start ≡ 0) × (r .filled ≡ size) × (r .ended ≡ false) × (r .number ≡ p .number) ⌝ }
+// The progress with its window at the front of the buffer.
+fn at_front(p: Progress) -> Progress
+    requires { ⌜ p .start ≤ p .filled ⌝ }
+    ensures { λ r. ⌜ r ≡ front p ⌝ }
 {
-    let again = os::errno() == libc::EINTR;
-    if !again {
-        os::fail(b"bench: reading failed");
-    }
-    Progress {
-        start: 0,
-        filled: size,
-        ended: false,
-        number: p.number,
-        over: !again,
-    }
+    let mut q = p;
+    q.start = 0;
+    q.filled = p.filled - p.start;
+    q
 }
 
-// Reads more of the input behind a window that leaves room, so that no byte means that the input has ended.
+// Reads more of the input behind the window.
 fn read_more(buffer: &mut [u8], p: Progress) -> Progress
-    requires { ⌜ Within p (now buffer) ⌝ }
+    requires { ⌜ p .start ≤ p .filled ⌝ }
+    requires { ⌜ p .filled ≤ length (now buffer) ⌝ }
     requires { ⌜ p .filled - p .start < length (now buffer) ⌝ }
-    ensures { λ r. ⌜ Within r (now (buffer .exit)) ⌝ }
     ensures { λ r. ⌜ More p (now (buffer .entry)) r (now (buffer .exit)) ⌝ }
 {
     let start = p.start;
     let filled = p.filled;
     move_to_front(&mut *buffer, start, filled);
     let size = filled - start;
-    let got = libc::read(STDIN_FILENO, &mut buffer[size..]);
-    if got < 0 {
-        return failed_read(p, size);
-    }
-    let more = io::count(got, &buffer[size..]);
-    Progress {
-        start: 0,
-        filled: size + more,
-        ended: got == 0,
-        number: p.number,
-        over: false,
-    }
+    let heard = read_some(&mut buffer[size..]);
+    progress::after_read(at_front(p), heard)
 }
 
-// One turn: a report on the next record, or more of the input, or the end.
-fn turn(buffer: &mut [u8], p: Progress) -> Progress
-    requires { ⌜ Within p (now buffer) ⌝ }
-    ensures { λ r. ⌜ Within r (now (buffer .exit)) ⌝ }
+// Writes what is left of the text, to standard output or to standard error.
+fn write_more(text: &[u8], p: Progress) -> Progress
+    requires { ⌜ p .from ≤ p .size ⌝ }
+    requires { ⌜ p .size ≤ length (now text) ⌝ }
+    ensures { λ r. ⌜ Less p r ⌝ }
 {
-    let mut text = [0; 80];
+    let from = p.from;
+    let size = p.size;
+    let stage = p.stage;
+    let heard = write_some(progress::descriptor(stage), &text[from..size]);
+    progress::after_write(p, heard)
+}
+
+// The one call to the operating system that is next, where there is one.
+fn call(buffer: &mut [u8], text: &[u8], p: Progress) -> Progress
+    requires { ⌜ Sound p (now buffer) (now text) ⌝ }
+    ensures { λ r. ⌜ Sound r (now (buffer .exit)) (now (text .entry)) ⌝ }
+    ensures { λ r. ⌜ Answered (view p (now (buffer .entry)) (now (text .entry))) (view r (now (buffer .exit)) (now (text .entry))) ⌝ }
+{
+    let stage = p.stage;
+    if progress::is_reading(stage) {
+        return read_more(buffer, p);
+    }
+    if progress::is_writing(stage) {
+        return write_more(text, p);
+    }
+    p
+}
+
+// Judges what stands in the window and puts the report into the text; a record that can't be read was the last.
+fn judge_next(buffer: &[u8], text: &mut [u8], p: Progress) -> Progress
+    requires { ⌜ Sound p (now buffer) (now text) ⌝ }
+    ensures { λ r. ⌜ Sound r (now (buffer .entry)) (now (text .exit)) ⌝ }
+    ensures { λ r. ⌜ view r (now (buffer .entry)) (now (text .exit)) ≡ looked (view p (now (buffer .entry)) (now (text .entry))) ⌝ }
+{
+    let tally = p.tally;
+    if tally.unread != 0 {
+        return progress::at_stage(p, Stage::Close);
+    }
+    let number = tally::records(tally) + 1;
+    if number == u64::MAX {
+        return progress::at_stage(p, Stage::Over(Ending::TooMany));
+    }
     let start = p.start;
     let filled = p.filled;
-    let step = judge::judge_window(&buffer[start..filled], p.ended, p.number, &mut text);
-    match step {
-        Step::Judged { taken, written } => next_record(p, taken, say(&text[..written])),
-        Step::Stopped { written } => {
-            say(&text[..written]);
-            end(p)
+    let step = judge::judge_window(&buffer[start..filled], p.ended, number, text);
+    progress::after_step(p, step)
+}
+
+// Judges, where that is next.
+fn look(buffer: &[u8], text: &mut [u8], p: Progress) -> Progress
+    requires { ⌜ Sound p (now buffer) (now text) ⌝ }
+    ensures { λ r. ⌜ Sound r (now (buffer .entry)) (now (text .exit)) ⌝ }
+    ensures { λ r. ⌜ view r (now (buffer .entry)) (now (text .exit)) ≡ judged (view p (now (buffer .entry)) (now (text .entry))) ⌝ }
+{
+    let stage = p.stage;
+    if progress::is_judging(stage) {
+        return judge_next(buffer, text, p);
+    }
+    p
+}
+
+// Puts the line that ends the run into the text, where that is next.
+fn close(text: &mut [u8], p: Progress) -> Progress
+    requires { ⌜ recordsOf (p .tally) < largest ⌝ }
+    requires { ⌜ 128 ≤ length (now text) ⌝ }
+    ensures { λ r. ⌜ Closed p (now (text .entry)) r (now (text .exit)) ⌝ }
+{
+    let stage = p.stage;
+    if progress::is_closing(stage) {
+        let tally = p.tally;
+        let size = tally::put_end(tally, text);
+        return progress::saying(p, size);
+    }
+    p
+}
+
+// One turn: a call to the operating system, and what follows from its answer.
+fn turn(buffer: &mut [u8], text: &mut [u8], p: Progress) -> Progress
+    requires { ⌜ Sound p (now buffer) (now text) ⌝ }
+    ensures { λ r. ⌜ Sound r (now (buffer .exit)) (now (text .exit)) ⌝ }
+    ensures { λ r. ⌜ Turned (view p (now (buffer .entry)) (now (text .entry))) (view r (now (buffer .exit)) (now (text .exit))) ⌝ }
+{
+    let called = call(&mut *buffer, text, p);
+    let looked = look(buffer, &mut *text, called);
+    close(text, looked)
+}
+
+// Turn after turn until nothing is left to do. A proved loop has to end, and nothing says that the input does: it counts its turns down, from a number that no run
+// uses up.
+fn run(buffer: &mut [u8], text: &mut [u8]) -> Progress
+    requires { ⌜ 1688 < length (now buffer) ⌝ }
+    requires { ⌜ 128 ≤ length (now text) ⌝ }
+    ensures { λ r. ⌜ Ran (view r (now (buffer .exit)) (now (text .exit))) ⌝ }
+{
+    let mut p = progress::begin();
+    let mut turns = u64::MAX;
+    while 0 < turns {
+        let stage = p.stage;
+        if progress::is_over(stage) {
+            return p;
         }
-        Step::Wait => read_more(buffer, p),
-        Step::End => end(p),
-        Step::Short => {
-            give_up(b"bench: no room for a report\n");
-            end(p)
-        }
+        p = turn(&mut *buffer, &mut *text, p);
+        turns -= 1;
+    }
+    p
+}
+
+// Says on standard error why a run came to no proper end.
+fn explain(stage: Stage) {
+    match stage {
+        Stage::Over(ending) => match ending {
+            Ending::Said => {}
+            Ending::ReadFailed => os::fail(b"bench: reading failed"),
+            Ending::WriteFailed => os::fail(b"bench: writing failed"),
+            Ending::SayFailed => os::fail(b"bench: writing failed"),
+            Ending::TooMany => tell(b"bench: too many records\n"),
+        },
+        Stage::Judge => tell(b"bench: too many turns\n"),
+        Stage::Close => tell(b"bench: too many turns\n"),
+        Stage::Read => tell(b"bench: too many turns\n"),
+        Stage::Write => tell(b"bench: too many turns\n"),
+        Stage::Say => tell(b"bench: too many turns\n"),
     }
 }
 
-// A proved loop has to end, and nothing says that the input does: it counts its turns down, from a number that no run uses up.
+fn tell(what: &[u8]) {
+    io::write_all(libc::STDERR_FILENO, what);
+}
+
 fn main() {
     let mut space = io::large_buffer();
+    let mut report = [0; 128];
     let buffer: &mut [u8] = &mut space;
-    let mut p = begin();
-    let mut turns = u64::MAX;
-    while 0 < turns {
-        if p.over {
-            return;
-        }
-        p = turn(&mut *buffer, p);
-        turns -= 1;
-    }
-    give_up(b"bench: too many turns\n");
+    let text: &mut [u8] = &mut report;
+    let p = run(buffer, text);
+    let stage = p.stage;
+    explain(stage);
 }

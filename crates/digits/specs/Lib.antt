@@ -2,3 +2,4 @@
 pub mod Room
 pub mod Hex
 pub mod Numbers
+pub mod Ascii

@@ -1,7 +1,7 @@
 -- What the verdicts and the steps promise. Assumes nothing.
 use Rattle.judge.specs.Laws.{Judges}
 use Rattle.judge.proofs.Tails.{tail-begins}
-use Rattle.judge.proofs.Verdicts.{equal-agrees, agrees-equal}
+use Rattle.judge.proofs.Verdicts.{equal-agrees, agrees-equal, read-verdict, unread-verdict, report-short}
 use Rattle.judge.proofs.Windows.{final-window, final-step}
 use Rattle.judge.proofs.Sizes.{step-inside, step-waits}
 use Rattle.judge.proofs.Outputs.{no-output, goes-on, stops}
@@ -16,6 +16,9 @@ judges =
       step = final-step;
       inside = step-inside;
       waits = step-waits;
+      read = read-verdict;
+      unread = unread-verdict;
+      short = report-short;
       nothing = no-output;
       goes-on = goes-on;
       stops = stops;

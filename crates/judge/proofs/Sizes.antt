@@ -62,7 +62,7 @@ reported-goes window number place = go (isDone (reportCall number (verdictRead (
     written : ℕ
     written = reportCall number (verdictRead (readCall window)) place .outcome .written
 
-    go : (t d : Bool) → cond t (cond d (Judged (readCall window .taken) written) (Stopped written)) Short ≡ Wait → ⊥
+    go : (t d : Bool) → cond t (cond d (Judged (verdictRead (readCall window)) (readCall window .taken) written) (Stopped (readCall window .line) written)) Short ≡ Wait → ⊥
     go true true e = let z : _≡_ {A = ℕ} 0 1 = cc in omega arith
     go true false e = let z : _≡_ {A = ℕ} 0 1 = cc in omega arith
     go false d e = let z : _≡_ {A = ℕ} 0 1 = cc in omega arith

@@ -1,15 +1,26 @@
--- The verdict is equal exactly where rounds, cipher and tag agree. Assumes nothing.
-use mathlib.Core.Path.{_≡_, refl}
+-- The verdict is equal exactly where rounds, cipher and tag agree, and unread exactly where a text can not be read.
+use mathlib.Core.Path.{_≡_, refl, ap}
 use mathlib.Core.Bool.{Bool, true, false, cond}
-use Prim.Native.Nat.{ℕ}
+use mathlib.Core.List.{List}
+use mathlib.Core.Logic.{_⊎_, inl, inr}
+use Prim.Native.Nat.{ℕ, _≤_, _<_, _^_}
 use native.Mathlib.Omega.{arith}
 use lib.Dec.{eqb}
+use lib.ListN.{length}
 use borrow.Author.Tests.{eqb-true, eq-eqb}
+use Rattle.answers.specs.declared.Answer.the-variants.{Done, BrokenRecord}
+use Rattle.answers.specs.Numbers.{isDone}
 use Rattle.record.specs.declared.lines.Record.{Record}
+use Rattle.record.specs.declared.reading.Reading.{Reading}
+use Rattle.record.specs.Calls.{refusedAt, readCall}
+use Rattle.record.proofs.Laws.{reads-and-writes}
 use Rattle.record.specs.Form.{held, broken}
 use Rattle.report.specs.declared.Verdict.the-variants.{Equal, Rounds, Cipher, Tag, Unread}
+use Rattle.report.specs.Reports.{reportText}
+use Rattle.report.proofs.Lengths.{report-most}
 use Rattle.judge.specs.Tail.{agree}
 use Rattle.judge.specs.Verdicts.{sealing, rounds, compared, verdictOn}
+use Rattle.judge.specs.Steps.{verdictRead}
 use Rattle.judge.specs.Laws.{Agrees}
 use Rattle.judge.proofs.Tails.{agree-no-tail}
 
@@ -38,3 +49,38 @@ equal-agrees r =
 pub agrees-equal : (r : Record) → Agrees r → verdictOn r ≡ Equal
 unfolding verdictOn compared
 agrees-equal r a = rw (a .in-form, eq-eqb (r .rounds) (rounds r) (a .rounds-agree), a .cipher-agrees, a .tag-agrees)
+
+-- a record in form is not unread
+compared-read : (r : Record) (line : ℕ) → compared r ≡ Unread line → ⊥
+unfolding compared
+compared-read r line = go (eqb (r .rounds) (rounds r)) (agree (sealing r .cipher) (held (r .cipher))) (agree (sealing r .tag) (held (r .tag)))
+  where
+    go : (t u v : Bool) → cond t (cond u (cond v Equal Tag) Cipher) Rounds ≡ Unread line → ⊥
+    go true true true e = let z : _≡_ {A = ℕ} 0 1 = cc in omega arith
+    go true true false e = let z : _≡_ {A = ℕ} 0 1 = cc in omega arith
+    go true false v e = let z : _≡_ {A = ℕ} 0 1 = cc in omega arith
+    go false u v e = let z : _≡_ {A = ℕ} 0 1 = cc in omega arith
+
+-- a text that is read is not unread
+pub read-verdict : (text : List ℕ) (line : ℕ) → readCall text .answer ≡ Done → verdictRead (readCall text) ≡ Unread line → ⊥
+unfolding verdictRead verdictOn
+read-verdict text line d e = compared-read (readCall text .content) line (rw (d, reads-and-writes .read-in-form text d .0) at e)
+
+-- a text that is not is unread at its line
+pub unread-verdict : (text : List ℕ) → isDone (readCall text .answer) ≡ false → verdictRead (readCall text) ≡ Unread (readCall text .line)
+unfolding verdictRead
+unread-verdict text d = rw d
+
+-- a report has at most 70 bytes
+pub report-short : (text : List ℕ) (number : ℕ) → number < 2 ^ 64 → length (reportText number (verdictRead (readCall text))) ≤ 70
+unfolding refusedAt
+report-short text number h = report-most number (verdictRead (readCall text)) h (λ line e. small line e (reads-and-writes .answered text))
+  where
+    small : (line : ℕ) → verdictRead (readCall text) ≡ Unread line → (readCall text .answer ≡ Done) ⊎ (readCall text ≡ refusedAt (readCall text .line)) → line < 2 ^ 64
+    small line e (inl d) = absurd (read-verdict text line d e)
+    small line e (inr r) =
+        let refused : readCall text .answer ≡ BrokenRecord = ap (λ (q : Reading). q .answer) r in
+        let first = reads-and-writes .first-line text refused .1 in
+        let unread = unread-verdict text (ap isDone refused) in
+        let same : line ≡ readCall text .line = cc in
+        omega arith

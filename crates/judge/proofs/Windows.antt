@@ -38,7 +38,7 @@ pub final-step : (text : List ℕ) (size : ℕ) (ended : Bool) (number : ℕ) (p
     → let report = reportText number (verdictRead (readCall text)) in
     length report ≤ length place
     → stepCall (take size text) ended number place
-    ≡ stepLeaves (cond (isDone (readCall text .answer)) (Judged (readCall text .taken) (length report)) (Stopped (length report))) (report ++ drop (length report) place)
+    ≡ stepLeaves (cond (isDone (readCall text .answer)) (Judged (verdictRead (readCall text)) (readCall text .taken) (length report)) (Stopped (readCall text .line) (length report))) (report ++ drop (length report) place)
 unfolding stepCall reported stepBy reportCall
 final-step text size ended number place all some final room =
     rw (

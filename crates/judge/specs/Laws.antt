@@ -3,7 +3,7 @@ use mathlib.Core.Bool.{Bool, true, false, cond}
 use mathlib.Core.List.{List, [], _++_}
 use mathlib.Core.Logic.{_↔_, _⊎_}
 use mathlib.Core.Path.{_≡_}
-use Prim.Native.Nat.{ℕ, _+_, _≤_, _<_}
+use Prim.Native.Nat.{ℕ, _+_, _^_, _≤_, _<_}
 use lib.ListN.{length, getD, take, drop}
 use Rattle.answers.specs.declared.Answer.the-variants.{Done, BrokenRecord}
 use Rattle.answers.specs.Numbers.{isDone}
@@ -11,7 +11,7 @@ use Rattle.record.specs.declared.lines.Record.{Record}
 use Rattle.record.specs.Form.{held, broken}
 use Rattle.record.specs.Calls.{readCall}
 use Rattle.record.specs.Text.{mostBytes}
-use Rattle.report.specs.declared.Verdict.the-variants.{Equal}
+use Rattle.report.specs.declared.Verdict.the-variants.{Equal, Unread}
 use Rattle.report.specs.Reports.{reportText}
 use Rattle.judge.specs.declared.stepping.Step.the-variants.{Judged, Stopped, Wait}
 use Rattle.judge.specs.Tail.{tailOf}
@@ -46,13 +46,18 @@ pub record Judges : Type 0 where
       → let report = reportText number (verdictRead (readCall text)) in
       length report ≤ length place
       → stepCall (take size text) ended number place
-      ≡ stepLeaves (cond (isDone (readCall text .answer)) (Judged (readCall text .taken) (length report)) (Stopped (length report))) (report ++ drop (length report) place)
+      ≡ stepLeaves (cond (isDone (readCall text .answer)) (Judged (verdictRead (readCall text)) (readCall text .taken) (length report)) (Stopped (readCall text .line) (length report))) (report ++ drop (length report) place)
   -- a step takes no more than its window, writes no more than its place, and the place keeps its length
   pub inside : (window : List ℕ) (ended : Bool) (number : ℕ) (place : List ℕ) → let leaves = stepCall window ended number place in
       (takenBy (leaves .step) ≤ length window) × (writtenBy (leaves .step) ≤ length place) × (length (leaves .place) ≡ length place)
   -- a step waits only for an input that has not ended, in a window that has less than the most bytes of a record
   pub waits : (window : List ℕ) (ended : Bool) (number : ℕ) (place : List ℕ) → stepCall window ended number place .step ≡ Wait
       → (length window < mostBytes) × (ended ≡ false)
+  -- a text that is read is never unread, and one that is not is unread at its line
+  pub read : (text : List ℕ) (line : ℕ) → readCall text .answer ≡ Done → verdictRead (readCall text) ≡ Unread line → ⊥
+  pub unread : (text : List ℕ) → isDone (readCall text .answer) ≡ false → verdictRead (readCall text) ≡ Unread (readCall text .line)
+  -- a report has at most 70 bytes, where its number has 64 bits
+  pub short : (text : List ℕ) (number : ℕ) → number < 2 ^ 64 → length (reportText number (verdictRead (readCall text))) ≤ 70
   -- the output of no input is nothing
   pub nothing : (number : ℕ) → outputFrom number [] ≡ []
   -- a record that is read gives its report, and then what is left gives its own

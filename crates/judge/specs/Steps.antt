@@ -1,6 +1,6 @@
 -- One step of the program: from a window of the input to a report, and the whole output of an input.
 use mathlib.Core.Bool.{Bool, cond, _||_}
-use mathlib.Core.List.{List, [], _++_}
+use mathlib.Core.List.{List, [], _∷_, _++_}
 use Prim.Native.Nat.{ℕ, zero, suc, _+_}
 use lib.Dec.{eqb, leb}
 use lib.ListN.{length, drop}
@@ -38,7 +38,7 @@ unfoldable pub stepBy : Reading → ReportLeaves → StepLeaves
 stepBy reading report =
     stepLeaves
     (cond (isDone (report .outcome .answer))
-    (cond (isDone (reading .answer)) (Judged (reading .taken) (report .outcome .written)) (Stopped (report .outcome .written)))
+    (cond (isDone (reading .answer)) (Judged (verdictRead reading) (reading .taken) (report .outcome .written)) (Stopped (reading .line) (report .outcome .written)))
     Short)
     (report .place)
 
@@ -54,30 +54,38 @@ stepCall window ended number place =
 
 -- how many bytes of the window a step takes
 abbrev pub takenBy : Step → ℕ
-takenBy (Judged taken written) = taken
-takenBy (Stopped written) = 0
+takenBy (Judged verdict taken written) = taken
+takenBy (Stopped line written) = 0
 takenBy Wait = 0
 takenBy End = 0
 takenBy Short = 0
 
 -- how many bytes of the place its report has
 abbrev pub writtenBy : Step → ℕ
-writtenBy (Judged taken written) = written
-writtenBy (Stopped written) = written
+writtenBy (Judged verdict taken written) = written
+writtenBy (Stopped line written) = written
 writtenBy Wait = 0
 writtenBy End = 0
 writtenBy Short = 0
 
 -- ---- the whole output
 
--- the reports on an input's records, in so many steps, numbered from one on: the first that can not be read is the last
-abbrev pub outputIn : ℕ → ℕ → List ℕ → List ℕ
-outputIn zero number text = []
-outputIn (suc steps) number text =
+-- the verdicts on an input's records, in so many steps: one that can not be read is the last
+abbrev pub verdictsIn : ℕ → List ℕ → List Verdict
+verdictsIn zero text = []
+verdictsIn (suc steps) text =
     cond (eqb (length text) 0) []
-    (reportText number (verdictRead (readCall text))
-    ++ cond (isDone (readCall text .answer)) (outputIn steps (number + 1) (drop (readCall text .taken) text)) [])
+    (verdictRead (readCall text) ∷ cond (isDone (readCall text .answer)) (verdictsIn steps (drop (readCall text .taken) text)) [])
 
--- the output of the program: no more steps than bytes
+-- the verdicts on an input's records: no more steps than bytes
+unfoldable pub verdictsOf : List ℕ → List Verdict
+verdictsOf text = verdictsIn (length text) text
+
+-- the reports on verdicts, numbered from one on
+abbrev pub reportsFrom : ℕ → List Verdict → List ℕ
+reportsFrom number [] = []
+reportsFrom number (verdict ∷ verdicts) = reportText number verdict ++ reportsFrom (number + 1) verdicts
+
+-- the output of the program
 unfoldable pub outputFrom : ℕ → List ℕ → List ℕ
-outputFrom number text = outputIn (length text) number text
+outputFrom number text = reportsFrom number (verdictsOf text)

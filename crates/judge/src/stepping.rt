@@ -7,10 +7,17 @@ use report::Verdict;
 
 // What a step does.
 pub enum Step {
-    // A record was judged: how many bytes of the window it took, and how many its report has.
-    Judged { taken: usize, written: usize },
-    // What stands in the window can't be read: how many bytes its report has, which is the last.
-    Stopped { written: usize },
+    // A record was judged: its verdict, how many bytes of the window it took, and how many its report has.
+    Judged {
+        verdict: Verdict,
+        taken: usize,
+        written: usize,
+    },
+    // What stands in the window can't be read: its first broken line, and how many bytes its report has, which is the last.
+    Stopped {
+        line: usize,
+        written: usize,
+    },
     // More of the input is wanted.
     Wait,
     // The input ended where a record would start.
@@ -35,7 +42,8 @@ fn verdict_on(reading: Reading) -> Verdict
 fn report_on(reading: Reading, number: u64, place: &mut [u8]) -> Step
     ensures { λ r. ⌜ stepLeaves r (now (place .exit)) ≡ reported reading number (now (place .entry)) ⌝ }
 {
-    let done = report::report(number, verdict_on(reading), place);
+    let verdict = verdict_on(reading);
+    let done = report::report(number, verdict, place);
     let answer = done.answer;
     if !answers::is_done(answer) {
         return Step::Short;
@@ -43,11 +51,13 @@ fn report_on(reading: Reading, number: u64, place: &mut [u8]) -> Step
     let answer = reading.answer;
     if answers::is_done(answer) {
         return Step::Judged {
+            verdict,
             taken: reading.taken,
             written: done.written,
         };
     }
     Step::Stopped {
+        line: reading.line,
         written: done.written,
     }
 }

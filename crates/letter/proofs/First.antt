@@ -323,19 +323,19 @@ record Steps (window : List ℕ) (over : Bool) (number : ℕ) (place : List ℕ)
   said : let reading = readCall window in
       let size = length (reportText number (verdictRead reading)) in
       stepCall window over number place .step
-      ≡ first (Judged (reading .taken) size)
+      ≡ first (Judged (verdictRead reading) (reading .taken) size)
       (End when (eqb (length window) 0 && over)
       ∷ Wait when (eqb (length window) 0 || not (isFinal window over))
       ∷ Short when not (leb size (length place))
-      ∷ Stopped size when not (isDone (reading .answer))
+      ∷ Stopped (reading .line) size when not (isDone (reading .answer))
       ∷ [])
   kept : let leaves = stepCall window over number place in
       (leaves .step ≡ End) ⊎ ((leaves .step ≡ Wait) ⊎ (leaves .step ≡ Short)) → leaves .place ≡ place
 
 -- whether a step has a report
 isReport : Step → Bool
-isReport (Judged taken written) = true
-isReport (Stopped written) = true
+isReport (Judged verdict taken written) = true
+isReport (Stopped line written) = true
 isReport Wait = false
 isReport End = false
 isReport Short = false
@@ -369,23 +369,23 @@ steps-said window over number place =
         (cond final
         (stepLeaves
         (cond (isDone (written room .outcome .answer))
-        (cond done (Judged (readCall window .taken) (written room .outcome .written)) (Stopped (written room .outcome .written)))
+        (cond done (Judged (verdictRead (readCall window)) (readCall window .taken) (written room .outcome .written)) (Stopped (readCall window .line) (written room .outcome .written)))
         Short)
         (written room .place))
         (stepLeaves Wait place))
 
     go : (empty o final room done : Bool)
         → (leaves empty o final room done .step
-        ≡ first (Judged (readCall window .taken) size)
-        (End when (empty && o) ∷ Wait when (empty || not final) ∷ Short when not room ∷ Stopped size when not done ∷ []))
+        ≡ first (Judged (verdictRead (readCall window)) (readCall window .taken) size)
+        (End when (empty && o) ∷ Wait when (empty || not final) ∷ Short when not room ∷ Stopped (readCall window .line) size when not done ∷ []))
         × ((leaves empty o final room done .step ≡ End) ⊎ ((leaves empty o final room done .step ≡ Wait) ⊎ (leaves empty o final room done .step ≡ Short))
         → leaves empty o final room done .place ≡ place)
     go true true final room done = (refl, λ _. refl)
     go true false final room done = (refl, λ _. refl)
     go false o false room done = (refl, λ _. refl)
     go false o true false done = (refl, λ _. refl)
-    go false o true true true = (refl, λ c. absurd (reports (Judged (readCall window .taken) size) refl c))
-    go false o true true false = (refl, λ c. absurd (reports (Stopped size) refl c))
+    go false o true true true = (refl, λ c. absurd (reports (Judged (verdictRead (readCall window)) (readCall window .taken) size) refl c))
+    go false o true true false = (refl, λ c. absurd (reports (Stopped (readCall window .line) size) refl c))
 
 -- ---- the demand
 

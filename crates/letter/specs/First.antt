@@ -95,11 +95,11 @@ pub record Listed (m : Model) : Type 0 where
   pub step : (window : List ℕ) (over : Bool) (number : ℕ) (place : List ℕ) → let reading = readCall window in
       let size = length (reportText number (verdictRead reading)) in
       m .step window over number place .step
-      ≡ first (Judged (reading .taken) size)
+      ≡ first (Judged (verdictRead reading) (reading .taken) size)
       (End when (eqb (length window) 0 && over)
       ∷ Wait when (eqb (length window) 0 || not (isFinal window over))
       ∷ Short when not (leb size (length place))
-      ∷ Stopped size when not (isDone (reading .answer))
+      ∷ Stopped (reading .line) size when not (isDone (reading .answer))
       ∷ [])
 
 -- ---- what a refusal leaves

@@ -42,7 +42,7 @@ same-length-2 c = search needs
 returns-2 : tie.Need-returns-2
 unfolding stepBy
 returns-2 c =
-    sym (sym (by-report (c .before .before .before .before .before .before)) ∙ rw (sym (c .before .before .before .is-done .ensures) ∙ not-false _ (c .before .before .if1 .left), sym (c .before .is-done2 .ensures) ∙ c .if2 .taken))
+    sym (sym (by-report (c .before .before .before .before .before .before)) ∙ rw (sym (c .before .before .before .is-done .ensures) ∙ not-false _ (c .before .before .if1 .left), sym (c .before .is-done2 .ensures) ∙ c .if2 .taken, sym (c .before .before .before .before .before .before .before .before .verdict-on .ensures)))
 
 same-length-3 : tie.Need-same-length-3
 same-length-3 c = search needs

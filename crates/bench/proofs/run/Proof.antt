@@ -1,0 +1,115 @@
+-- `bench::run` meets its contract. The loop's invariant: the places are within their bounds, they are what turns from the beginning give, and the lent slices keep their
+-- lengths. The measure is the number of turns left.
+use mathlib.Core.Path.{_≡_, refl, sym, subst, _∙_}
+use mathlib.Core.List.{List, []}
+use Prim.Native.Nat.{ℕ, _≤_, _<_}
+use native.Mathlib.Omega.{arith}
+use lib.ListN.{length}
+use borrow.Author.Needs.{needs}
+use Rattle.bench.specs.declared.progress.Progress.{Progress}
+use Rattle.turns.specs.Laws.{Ran}
+use Rattle.bench.specs.Progress.{fresh, Sound, view}
+use Rattle.turns.proofs.Turns.{ran-more}
+use Rattle.bench.proofs.run.Statement.{statement}
+use Rattle.bench.proofs.run.Tie as tie
+
+-- what holds before each turn
+record Going (buffer₀ text₀ buffer text : List ℕ) (p : Progress) : Type 0 where
+  sound : Sound p buffer text
+  ran : Ran (view p buffer text)
+  same-buffer : length buffer ≡ length buffer₀
+  same-text : length text ≡ length text₀
+
+-- the beginning is within the bounds
+fresh-sound : (buffer text : List ℕ) → 1_688 < length buffer → 128 ≤ length text → Sound fresh buffer text
+fresh-sound buffer text wide long =
+    record {
+      begins = omega arith;
+      inside = omega arith;
+      wide = wide;
+      room = λ e. omega arith;
+      from-size = omega arith;
+      size-text = omega arith;
+      long = long;
+      few = omega arith;
+    }
+
+abbrev Inv-loop : tie.InvT-loop
+Inv-loop buffer₀ text₀ p₀ turns₀ buffer text p turns = Going buffer₀ text₀ buffer text p
+
+abbrev μ-loop : tie.MeasureT-loop
+μ-loop buffer₀ text₀ p₀ turns₀ buffer text p turns = turns
+
+begin-requires : tie.Need-begin-requires Inv-loop μ-loop
+begin-requires c κs = search needs
+
+loop-holds : tie.Need-loop-holds Inv-loop μ-loop
+loop-holds c =
+    let s = c .before .before .before in
+    record {
+      sound = subst (λ (p : Progress). Sound p (s .args .buffer .now) (s .args .text .now)) (sym (c .begin .ensures)) (fresh-sound (s .args .buffer .now) (s .args .text .now) (s .pre .0) (s .pre .1));
+      ran = subst (λ (p : Progress). Ran (view p (s .args .buffer .now) (s .args .text .now))) (sym (c .begin .ensures)) (record { replies = []; is = refl });
+      same-buffer = refl;
+      same-text = refl;
+    }
+
+is-over-requires : tie.Need-is-over-requires Inv-loop μ-loop
+is-over-requires c κs = search needs
+
+same-length : tie.Need-same-length Inv-loop μ-loop
+same-length c = c .before .before .before .loop .inv .same-buffer
+
+same-length-2 : tie.Need-same-length-2 Inv-loop μ-loop
+same-length-2 c = c .before .before .before .loop .inv .same-text
+
+returns : tie.Need-returns Inv-loop μ-loop
+returns c = c .before .before .before .loop .inv .ran
+
+turn-requires : tie.Need-turn-requires Inv-loop μ-loop
+turn-requires c κs = c .before .before .before .before .before .loop .inv .sound
+
+sub-turns : tie.Need-sub-turns Inv-loop μ-loop
+sub-turns c = omega (arith, c .before .before .before .before .before .before .before .before .before .loop-test .taken)
+
+loop-less : tie.Need-loop-less Inv-loop μ-loop
+loop-less c = omega (arith, c .before .before .before .before .before .before .before .before .before .loop-test .taken)
+
+loop-again : tie.Need-loop-again Inv-loop μ-loop
+loop-again c =
+    let inv = c .before .before .before .before .before .before .before .before .before .before .loop .inv in
+    let turned = c .before .before .before .before .turn .ensures in
+    record {
+      sound = turned .0;
+      ran = ran-more (inv .ran) (turned .1);
+      same-buffer = c .before .before .before .buffer .given ∙ inv .same-buffer;
+      same-text = c .before .text .given ∙ inv .same-text;
+    }
+
+same-length-3 : tie.Need-same-length-3 Inv-loop μ-loop
+same-length-3 c = c .before .loop .inv .same-buffer
+
+same-length-4 : tie.Need-same-length-4 Inv-loop μ-loop
+same-length-4 c = c .before .loop .inv .same-text
+
+returns-2 : tie.Need-returns-2 Inv-loop μ-loop
+returns-2 c = c .before .loop .inv .ran
+
+pub run-spec : {M : Type 1} → statement M
+run-spec =
+    tie.close
+    (tie.spec
+    Inv-loop
+    μ-loop
+    begin-requires
+    loop-holds
+    is-over-requires
+    same-length
+    same-length-2
+    returns
+    turn-requires
+    sub-turns
+    loop-less
+    loop-again
+    same-length-3
+    same-length-4
+    returns-2)

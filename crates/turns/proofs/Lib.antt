@@ -1,0 +1,6 @@
+-- Laws of the run.
+pub mod Tallies
+pub mod Stages
+pub mod Turns
+pub mod Keeps
+pub mod Runs

@@ -1,0 +1,44 @@
+-- How many records were judged, and how.
+use mathlib.Core.List.{List, [], _∷_, _++_}
+use Prim.Native.Nat.{ℕ, _+_}
+use Rattle.digits.specs.Ascii.{ascii}
+use Rattle.digits.specs.Numbers.{numeral}
+use Rattle.report.specs.declared.Verdict.{Verdict}
+use Rattle.report.specs.declared.Verdict.the-variants.{Equal, Rounds, Cipher, Tag, Unread}
+use Rattle.turns.specs.declared.Tally.{Tally}
+
+-- no record yet
+abbrev pub none : Tally
+none = record { equal = 0; differ = 0; unread = 0 }
+
+-- one verdict more
+abbrev pub countedWith : Tally → Verdict → Tally
+countedWith t Equal = record { equal = t .equal + 1; differ = t .differ; unread = t .unread }
+countedWith t Rounds = record { equal = t .equal; differ = t .differ + 1; unread = t .unread }
+countedWith t Cipher = record { equal = t .equal; differ = t .differ + 1; unread = t .unread }
+countedWith t Tag = record { equal = t .equal; differ = t .differ + 1; unread = t .unread }
+countedWith t (Unread line) = record { equal = t .equal; differ = t .differ; unread = t .unread + 1 }
+
+-- verdicts one after another
+abbrev pub countedAll : Tally → List Verdict → Tally
+countedAll t [] = t
+countedAll t (verdict ∷ verdicts) = countedAll (countedWith t verdict) verdicts
+
+-- how many records were judged
+abbrev pub recordsOf : Tally → ℕ
+recordsOf t = t .equal + t .differ + t .unread
+
+-- the largest number of a record
+abbrev pub largest : ℕ
+largest = 18_446_744_073_709_551_615
+
+-- a text and a number behind it
+unfoldable pub numbered : List ℕ → ℕ → List ℕ
+numbered text number = text ++ numeral number
+
+-- the line that ends a run
+unfoldable pub endLine : Tally → List ℕ
+endLine t =
+    numbered (ascii "bench: ") (recordsOf t)
+    ++ (numbered (ascii " records: ") (t .equal)
+    ++ (numbered (ascii " equal, ") (t .differ) ++ (numbered (ascii " differ, ") (t .unread) ++ ascii " unread\n")))
