@@ -2,7 +2,8 @@
 //! second program and, where a case says it by itself, from the case.
 //!
 //! The program is what `host/run bench` runs; the variable `KVISTMAUR_BENCH` names another
-//! executable in its place, by a whole path.
+//! executable in its place, by a whole path. `KVISTMAUR_REWRITING` does so for `rewriting`, the
+//! program that writes records again.
 
 pub mod classes;
 pub mod folder;

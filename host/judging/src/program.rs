@@ -20,26 +20,41 @@ pub fn root() -> PathBuf {
     Path::new(env!("CARGO_MANIFEST_DIR")).join("../..")
 }
 
-/// Gives the words that start the program.
-fn words() -> Vec<PathBuf> {
-    match stand_in() {
+/// Gives the words that start the program of a name, or what stands in for it.
+fn words(name: &str, stand_in: Option<PathBuf>) -> Vec<PathBuf> {
+    match stand_in {
         Some(path) => vec![path],
-        None => vec![root().join("host/run"), "bench".into()],
+        None => vec![root().join("host/run"), name.into()],
     }
 }
 
-/// Gives the command that starts the program.
-pub fn program() -> Command {
-    let words = words();
+/// Gives the words that start the bench.
+fn bench() -> Vec<PathBuf> {
+    words("bench", stand_in())
+}
+
+/// Gives the command of these words.
+fn command(words: Vec<PathBuf>) -> Command {
     let mut command = Command::new(&words[0]);
     command.args(&words[1..]);
     command
 }
 
+/// Gives the command that starts the program.
+pub fn program() -> Command {
+    command(bench())
+}
+
+/// Gives the command that starts the program which writes records again.
+pub fn rewriting() -> Command {
+    let stand_in = std::env::var_os("KVISTMAUR_REWRITING").map(PathBuf::from);
+    command(words("rewriting", stand_in))
+}
+
 /// Gives the command that has a shell run the script, in which `"$@"` are the program's words.
 pub fn program_in_shell(script: &str) -> Command {
     let mut command = Command::new("sh");
-    command.args(["-c", script, "sh"]).args(words());
+    command.args(["-c", script, "sh"]).args(bench());
     command
 }
 
