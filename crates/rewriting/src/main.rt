@@ -90,7 +90,7 @@ fn attempt(entry: Record, room: usize)
     requires { ⌜ room ≤ 1700 ⌝ }
 {
     let before = marked();
-    let mut places = marked();
+    let mut places = before;
     let writing = write_in(entry, &mut places, room);
     say_count(b": room=", room);
     say_writing(writing, &before, &places);
