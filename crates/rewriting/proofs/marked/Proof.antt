@@ -1,6 +1,6 @@
 -- `rewriting::marked` is safe and ends: the measure is the number of places left. Assumes nothing.
 use mathlib.Core.Path.{_≡_}
-use Prim.Native.Nat.{_-_, _≤_}
+use Prim.Native.Nat.{_-_}
 use lib.ListN.{length}
 use borrow.Author.Needs.{needs}
 use Rattle.rewriting.proofs.marked.Statement.{statement}

@@ -1,4 +1,4 @@
-//! The classes of records that the program is given, each with the number of records that it has to come to.
+//! The classes of records that the program is given, each with the numbers of inputs and records that it has to come to.
 
 use judging::lines::Lines;
 use second::cipher::{Set, SETS};
@@ -12,9 +12,10 @@ const EDGES: [usize; 10] = [0, 1, 7, 8, 9, 15, 16, 17, 255, 256];
 /// How many records an input has at most; so many always fit into what the program takes.
 const AT_A_TIME: usize = 25;
 
-/// A class: what it is, how many records it has, and what makes its inputs.
+/// A class: what it is, how many inputs and records it has, and what makes its inputs.
 pub struct Class {
     pub name: &'static str,
+    pub inputs: usize,
     pub records: usize,
     pub make: fn() -> Vec<Vec<u8>>,
 }
@@ -22,14 +23,14 @@ pub struct Class {
 /// All classes; the numbers are written down so that a class that shrinks is noticed.
 #[rustfmt::skip]
 pub const CLASSES: [Class; 8] = [
-    Class { name: "data and text at the edges", records: 200, make: right },
-    Class { name: "data, text and cipher of the same bytes", records: 180, make: uniform },
-    Class { name: "pseudo-random messages", records: 200, make: pseudo_random },
-    Class { name: "rounds of every length", records: 42, make: rounds },
-    Class { name: "a cipher of another length than the text", records: 20, make: ciphers },
-    Class { name: "behind a record one that can't be read", records: 8, make: broken },
-    Class { name: "no record", records: 0, make: none },
-    Class { name: "more than the program takes", records: 38, make: too_many },
+    Class { name: "data and text at the edges", inputs: 8, records: 200, make: right },
+    Class { name: "data, text and cipher of the same bytes", inputs: 8, records: 180, make: uniform },
+    Class { name: "pseudo-random messages", inputs: 8, records: 200, make: pseudo_random },
+    Class { name: "rounds of every length", inputs: 2, records: 42, make: rounds },
+    Class { name: "a cipher of another length than the text", inputs: 1, records: 20, make: ciphers },
+    Class { name: "behind a record one that can't be read", inputs: 8, records: 8, make: broken },
+    Class { name: "no record", inputs: 3, records: 0, make: none },
+    Class { name: "more than the program takes", inputs: 1, records: 38, make: too_many },
 ];
 
 /// Gives right records in both sets with data and text of every pair of edges.

@@ -57,8 +57,10 @@ fn the_writer_writes_what_the_second_program_writes() {
 /// Runs the program on the inputs of a class, panics where it prints anything else than it should, and gives how many
 /// records it read.
 fn run_class(class: &Class, answers: &mut Answers) -> usize {
+    let inputs = (class.make)();
+    assert_eq!(inputs.len(), class.inputs, "inputs of: {}", class.name);
     let mut records = 0;
-    for (number, input) in (1..).zip((class.make)()) {
+    for (number, input) in (1..).zip(inputs) {
         let output = compare(rewriting(), &input, "rewriting")
             .unwrap_or_else(|why| panic!("{}, input {number}: {why}", class.name));
         for line in String::from_utf8_lossy(&output).lines() {
