@@ -1,4 +1,4 @@
--- An answer that is done is Done. Assumes nothing.
+-- An answer that is done is Done.
 use mathlib.Core.Path.{_≡_, refl}
 use mathlib.Core.Bool.{true, false≢true}
 use Rattle.answers.specs.declared.Answer.{Answer}

@@ -1,5 +1,5 @@
 -- The two views of a text are one: block by block, as the document prints it, and byte by byte, as a stream meets it; for every block size r, every run pᵇ
--- that keeps the state's length, and both directions. Assumes nothing.
+-- that keeps the state's length, and both directions.
 use mathlib.Core.Path.{_≡_, refl, sym, ap, ap₂, _∙_}
 use mathlib.Core.List.{List, [], _∷_, _++_, append-assoc}
 use Prim.Native.Nat.{ℕ, zero, suc, _+_, _-_, _*_, _/_, _%_, _≤_, _<_}

@@ -1,4 +1,4 @@
--- Numbers and their numerals: each reading undoes its writing, and the other way round. Assumes nothing.
+-- Numbers and their numerals: each reading undoes its writing, and the other way round.
 use mathlib.Core.Path.{_≡_, refl, sym, ap, _∙_, subst}
 use mathlib.Core.Bool.{Bool, true, false, cond, not, false≢true}
 use mathlib.Core.List.{List, [], _∷_, _++_, append-nil}
@@ -185,7 +185,7 @@ numeral-value (c ∷ d ∷ text) s z e =
     let f : c ≡ 0x30 → ⊥ = λ q. false≢true (sym (rw (eq-eqb c 0x30 q, le-leb 2 (length (c ∷ d ∷ text)) (omega arith)) at z)) in
     numeral-on (0 + (c - 0x30)) (d ∷ text) (omega arith) (b .1) ∙ rw (numeral-digit c (d ∷ text) e)
 
--- what k digits go on to from a number is below the next number, ten to the k times
+-- n with k digits behind it is a number below (n + 1) · 10 ^ k
 value-lt : (n : ℕ) (text : List ℕ) → allDecimal text ≡ true → valueFrom n text < suc n * 10 ^ length text
 value-lt n [] e = omega arith
 value-lt n (c ∷ text) e =

@@ -1,4 +1,4 @@
--- Text in a place: where there is room, and where there is not. Assumes nothing.
+-- Text in a place: where there is room, and where there is not.
 use mathlib.Core.Path.{_≡_, refl, sym, ap, ap₂, _∙_}
 use mathlib.Core.Bool.{Bool, true, false, cond}
 use mathlib.Core.List.{List, [], _++_, append-assoc, append-nil}
@@ -20,7 +20,7 @@ pub put-short : (text place : List ℕ) → length place < length text → laid 
 unfolding put
 put-short text place h = rw (lt-leb (length text) (length place) h)
 
--- so much was put, and so the place stands
+-- a count and a place that are those of a text put
 pub put-is : (text before after : List ℕ) (count : ℕ) → count ≡ length text → count ≤ length before → after ≡ text ++ drop count before
     → laid count after ≡ put text before
 put-is text before after count size room e =

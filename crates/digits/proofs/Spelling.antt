@@ -1,4 +1,4 @@
--- Hex digits and bytes: each reading undoes its writing, and the other way round. Assumes nothing.
+-- Hex digits and bytes: each reading undoes its writing, and the other way round.
 use mathlib.Core.Path.{_≡_, refl, sym, ap}
 use mathlib.Core.Bool.{Bool, true, false, cond, _&&_, false≢true}
 use mathlib.Core.List.{List, [], _∷_}

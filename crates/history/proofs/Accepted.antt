@@ -1,4 +1,4 @@
--- The other half of the history law: what fits is never refused. Assumes nothing.
+-- The other half of the history law: what fits is never refused.
 use mathlib.Core.Path.{_≡_, refl, sym, ap, _∙_}
 use mathlib.Core.Bool.{Bool, true, false, false≢true}
 use mathlib.Core.List.{List, []}

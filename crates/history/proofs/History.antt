@@ -1,5 +1,5 @@
 -- The history law: while a stream is not ended, its state is a function of the start, the phase, the joined data and the joined text; the joined output is the
--- published ciphertext; the rounds add up. Assumes nothing.
+-- published ciphertext; the rounds add up.
 use mathlib.Core.Path.{_≡_, refl, sym, ap, ap₂, _∙_, subst}
 use mathlib.Core.Bool.{Bool, true, false, cond, _&&_, false≢true}
 use mathlib.Core.List.{List, [], _∷_, _++_, append-nil}
@@ -161,7 +161,7 @@ module _ (direction : Direction) (set : ℕ) (K N : List ℕ) (done : isDone (st
   shut : {s : Stream} → s ≡ ended → isOpen (s .phase) ≡ false
   shut e = ap (λ (x : Stream). isOpen (x .phase)) e
 
-  -- a history that is what another is
+  -- what is reached by a history is reached by one equal to it
   moved : (h g : History) → h ≡ g → Reached g → Reached h
   moved h g e r = subst (λ (x : History). Reached x) (sym e) r
 

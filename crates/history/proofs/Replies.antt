@@ -1,4 +1,4 @@
--- What a call answers where its tests passed, and where they did not. Assumes nothing.
+-- What a call answers where its tests passed, and where they did not.
 use mathlib.Core.Path.{_≡_, refl, ap, _∙_}
 use mathlib.Core.Bool.{Bool, true, false, cond, _&&_, true≢false}
 use mathlib.Core.List.{List, [], _++_, append-nil}
@@ -25,7 +25,7 @@ use Rattle.history.specs.History.{ours, Call, giveText, reply, adOf, tex
 
 -- ---- one call more
 
--- by what it answers
+-- the history after a call, by what the call answers
 pub next-is : (h : History) (call : Call) (r : Outcome) (b : Bool) → reply ours (h .stream) call ≡ r → isDone (r .answer) ≡ b
     → next ours h call
     ≡ record {

@@ -1,4 +1,4 @@
--- What the verdicts and the steps promise. Assumes nothing.
+-- What the verdicts and the steps promise.
 use Rattle.judge.specs.Laws.{Judges}
 use Rattle.judge.proofs.Tails.{tail-begins}
 use Rattle.judge.proofs.Verdicts.{equal-agrees, agrees-equal, read-verdict, unread-verdict, report-short}

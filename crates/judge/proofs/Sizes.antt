@@ -1,4 +1,4 @@
--- A step takes no more than its window, and writes no more than its place. Assumes nothing.
+-- A step takes no more than its window, and writes no more than its place.
 use mathlib.Core.Path.{_≡_, refl}
 use mathlib.Core.Bool.{Bool, true, false, cond, _||_}
 use mathlib.Core.List.{List, _++_}

@@ -1,4 +1,4 @@
--- The difference tail: where it begins, and when it is called empty. Assumes nothing.
+-- The difference tail: where it begins, and when it is called empty.
 use mathlib.Core.Path.{_≡_, refl, sym}
 use mathlib.Core.Bool.{Bool, true, false}
 use mathlib.Core.List.{List, [], _∷_}

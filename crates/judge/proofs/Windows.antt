@@ -1,4 +1,4 @@
--- A final window tells what the whole input tells. Assumes nothing.
+-- A final window tells what the whole input tells.
 use mathlib.Core.Path.{_≡_, refl, sym, ap, _∙_}
 use mathlib.Core.Bool.{Bool, true, false, cond, _||_, false≢true}
 use mathlib.Core.List.{List, _++_}

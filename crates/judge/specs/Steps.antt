@@ -70,7 +70,7 @@ writtenBy Short = 0
 
 -- ---- the whole output
 
--- the verdicts on an input's records, in so many steps: one that can not be read is the last
+-- the verdicts on an input's records, in at most `steps` steps: the first record that can not be read is the last
 abbrev pub verdictsIn : ℕ → List ℕ → List Verdict
 verdictsIn zero text = []
 verdictsIn (suc steps) text =
@@ -81,7 +81,7 @@ verdictsIn (suc steps) text =
 unfoldable pub verdictsOf : List ℕ → List Verdict
 verdictsOf text = verdictsIn (length text) text
 
--- the reports on verdicts, numbered from one on
+-- the reports on verdicts, counted up from a number
 abbrev pub reportsFrom : ℕ → List Verdict → List ℕ
 reportsFrom number [] = []
 reportsFrom number (verdict ∷ verdicts) = reportText number verdict ++ reportsFrom (number + 1) verdicts

@@ -1,4 +1,4 @@
--- Every public call is proved, asks nothing, and has one outcome. Assumes nothing.
+-- Every public call is proved, asks nothing, and has one outcome.
 use mathlib.Core.Path.{_≡_, sym, ap, _∙_}
 use Prim.Native.Nat.{ℕ, _+_, _-_}
 use native.Mathlib.Omega.{arith}

@@ -1,4 +1,4 @@
--- The first demand: an answer to anything. Assumes nothing.
+-- The first demand: an answer to anything.
 use mathlib.Core.Path.{_≡_, refl, sym, ap, _∙_, subst}
 use mathlib.Core.Bool.{Bool, true, false, cond, not, _&&_, _||_, true≢false}
 use mathlib.Core.List.{List, [], _∷_, _++_}

@@ -1,4 +1,4 @@
--- The letter is answered. Assumes nothing.
+-- The letter is answered.
 use Rattle.ascon.specs.Sets.{rowOf}
 use Rattle.ascon.specs.Mode.{encrypted, sealed}
 use Rattle.ascon.proofs.Cases.{cases}

@@ -1,4 +1,4 @@
--- A model that keeps the contracts is ours. Assumes nothing.
+-- A model that keeps the contracts is ours.
 use mathlib.Core.Path.{_≡_, refl}
 use mathlib.Core.List.{[]}
 use Prim.Native.Nat.{ℕ, zero, suc}

@@ -1,4 +1,4 @@
--- What a call that is done, or answers 9, reports and leaves. Assumes nothing.
+-- What a call that is done, or answers 9, reports and leaves.
 use mathlib.Core.Path.{_≡_, refl, sym, ap, _∙_}
 use mathlib.Core.Bool.{Bool, true, false, cond, _&&_, false≢true}
 use mathlib.Core.List.{List, _++_}

@@ -1,4 +1,4 @@
--- The second demand: the published cipher. Assumes nothing.
+-- The second demand: the published cipher.
 use mathlib.Core.Path.{_≡_, refl, sym, ap, _∙_}
 use mathlib.Core.Bool.{Bool, true, false, cond}
 use mathlib.Core.List.{List}

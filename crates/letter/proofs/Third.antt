@@ -1,4 +1,4 @@
--- The third demand: the cut does not matter. Assumes nothing.
+-- The third demand: the cut does not matter.
 use Rattle.history.proofs.Cuts.{never-refused, cutting-does-not-matter}
 use Rattle.letter.specs.Model.{Model, Keeps}
 use Rattle.letter.specs.Third.{Third}

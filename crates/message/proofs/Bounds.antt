@@ -1,4 +1,4 @@
--- A message runs few rounds. Assumes nothing.
+-- A message runs few rounds.
 use mathlib.Core.Path.{_≡_, refl}
 use mathlib.Core.Bool.{Bool, true, false, cond}
 use mathlib.Core.List.{List}

@@ -1,4 +1,4 @@
--- Whole messages answer anything, and are the published cipher: the demands, from what the calls give. Assumes nothing.
+-- Whole messages answer anything, and are the published cipher: the demands, from what the calls give.
 use mathlib.Core.Path.{_≡_, refl, sym, ap, _∙_}
 use mathlib.Core.Bool.{Bool, true, false, cond, not, _&&_, _||_}
 use mathlib.Core.List.{List, [], _∷_, _++_}

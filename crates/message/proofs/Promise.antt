@@ -1,4 +1,4 @@
--- What a caller may count on who seals with right lengths. Assumes nothing.
+-- What a caller may count on who seals with right lengths.
 use mathlib.Core.Path.{_≡_, _∙_}
 use mathlib.Core.Bool.{true}
 use mathlib.Core.List.{List, _++_}

@@ -1,4 +1,4 @@
--- What the passed tests of a message say. Assumes nothing.
+-- What the passed tests of a message say.
 use mathlib.Core.Path.{_≡_, refl, sym, _∙_}
 use mathlib.Core.Bool.{Bool, true, false, cond, _&&_, false≢true}
 use Prim.Native.Nat.{ℕ, _≤_}

@@ -1,4 +1,4 @@
--- The sponge over a whole message gives the published text and tag, in either direction. Assumes nothing.
+-- The sponge over a whole message gives the published text and tag, in either direction.
 use mathlib.Core.Path.{_≡_, sym, ap, ap₂, _∙_}
 use mathlib.Core.List.{List, [], _++_}
 use Prim.Native.Nat.{ℕ, _-_, _≤_}

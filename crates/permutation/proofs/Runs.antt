@@ -1,4 +1,4 @@
--- A run, one round after the other, with the constants as the code computes them. Assumes nothing.
+-- A run, one round after the other, with the constants as the code computes them.
 use mathlib.Core.Path.{_≡_}
 use Prim.Native.Nat.{ℕ, _+_, _-_, _*_, _≤_, _<_}
 use native.Mathlib.Omega.{arith}

@@ -1,4 +1,4 @@
--- A number and its bytes, a state and its 40 bytes, are each other's inverse. Assumes nothing.
+-- A number and its bytes, a state and its 40 bytes, are each other's inverse.
 use mathlib.Core.Path.{_≡_, refl, sym, ap, ap₂, _∙_}
 use mathlib.Core.List.{List, [], _∷_, _++_}
 use Prim.Native.Nat.{ℕ, zero, suc, _+_, _-_, _*_, _/_, _%_, _^_, _≤_, _<_}

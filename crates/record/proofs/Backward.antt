@@ -1,4 +1,4 @@
--- Lines that are read stand in the record after them as they were written. Assumes nothing.
+-- Lines that are read stand in the record after them as they were written.
 use mathlib.Core.Path.{_≡_, refl, sym, ap, _∙_}
 use mathlib.Core.Bool.{Bool, true, false}
 use mathlib.Core.List.{List, _++_, append-assoc}
@@ -18,7 +18,7 @@ use Rattle.record.proofs.Steps.{Passed, line-passed}
 use Rattle.record.proofs.Chains.{text-snoc, text-alike, Sound}
 use Rattle.record.proofs.Reach.{onward, stepped, reach}
 
--- the first lines of a text, so many, are those of the record that they were read into
+-- the first k lines of a text are those of the record that they were read into
 pub record Far (k : ℕ) (text : List ℕ) (s : Line) : Type 0 where
   pub typed : Typed (s .next)
   pub rule : Sound k 1 (s .next)

@@ -1,4 +1,4 @@
--- How long lines that keep their rules can be. Assumes nothing.
+-- How long lines that keep their rules can be.
 use mathlib.Core.Path.{_≡_, refl}
 use mathlib.Core.Bool.{Bool, true, false, cond, _&&_}
 use mathlib.Core.List.{[], _∷_}
@@ -62,7 +62,7 @@ line-most =
     (λ r k. omega (arith, line-length 7 r, key-hex-most (r .tag) (r .set) k))
     (λ r k. omega (arith, line-length 8 r, length-numeral (r .rounds), places-least (r .rounds) 6 (omega (arith, leb-true (r .rounds) 9_999_999 k))))
 
--- the most bytes of so many lines, from one on
+-- the most bytes that k lines can have, from a line on
 abbrev room : ℕ → ℕ → ℕ
 room zero line = 0
 room (suc k) line = most line + room k (line + 1)

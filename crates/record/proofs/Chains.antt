@@ -1,4 +1,4 @@
--- Lines one after another: their text, and the first that breaks its rule. Assumes nothing.
+-- Lines one after another: their text, and the first that breaks its rule.
 use mathlib.Core.Path.{_≡_, refl, sym, ap, _∙_}
 use mathlib.Core.Bool.{Bool, true, false, cond}
 use mathlib.Core.List.{List, _++_, append-nil, append-assoc}
@@ -26,7 +26,7 @@ text-more r line h =
     let e : 9 - line ≡ suc (9 - (line + 1)) = omega arith in
     rw e (length-append (lineText line r) (textFrom (9 - (line + 1)) (line + 1) r))
 
--- so many lines, from one on, keep their rules
+-- k lines, from a line on, keep their rules
 abbrev pub Sound : ℕ → ℕ → Record → Type 0
 Sound k line r = (m : ℕ) → line ≤ m → m < line + k → keeps m r ≡ true
 

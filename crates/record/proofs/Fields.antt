@@ -1,4 +1,4 @@
--- Fields: bytes put into one are held by it. Assumes nothing.
+-- Fields: bytes put into one are held by it.
 use mathlib.Core.Path.{_≡_, refl, ap₂}
 use mathlib.Core.Bool.{true}
 use mathlib.Core.List.{List, [], _∷_, _++_}

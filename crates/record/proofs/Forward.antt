@@ -1,4 +1,4 @@
--- The first lines of a record in form are read as they were written. Assumes nothing.
+-- The first lines of a record in form are read as they were written.
 use mathlib.Core.Path.{_≡_, refl, _∙_}
 use mathlib.Core.Bool.{Bool, true, false, cond}
 use mathlib.Core.List.{List, _++_, append-assoc}
@@ -18,7 +18,7 @@ use Rattle.record.proofs.Steps.{line-spelled}
 use Rattle.record.proofs.Chains.{text-snoc, Sound}
 use Rattle.record.proofs.Reach.{reach}
 
--- the record of zeros with the first lines of another, so many
+-- the record of zeros with the first k lines of another
 abbrev pub copied : ℕ → Record → Record
 copied zero r = blank
 copied (suc k) r = copiedLine (suc k) r (copied k r)

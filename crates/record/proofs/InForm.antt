@@ -1,4 +1,4 @@
--- What a record in form says of its set and its sizes. Assumes nothing.
+-- What a record in form says of its set and its sizes.
 use mathlib.Core.Path.{_≡_}
 use mathlib.Core.Bool.{true}
 use Prim.Native.Nat.{_≤_}

@@ -1,4 +1,4 @@
--- What reading and writing promise of each other. Assumes nothing.
+-- What reading and writing promise of each other.
 use mathlib.Core.Path.{_≡_, refl, sym, ap, _∙_}
 use mathlib.Core.Bool.{Bool, true, false, cond}
 use mathlib.Core.List.{List, _++_}

@@ -1,4 +1,4 @@
--- The names of the lines: each has one to eight bytes. Assumes nothing.
+-- The names of the lines: each has one to eight bytes.
 use mathlib.Core.Path.{_≡_, refl, ap, _∙_}
 use mathlib.Core.Bool.{Bool, true, _&&_}
 use mathlib.Core.List.{List, [], _∷_, _++_}

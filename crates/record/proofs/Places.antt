@@ -1,4 +1,4 @@
--- A record's lines: what is put into one is there, and the lines before it stay. Assumes nothing.
+-- A record's lines: what is put into one is there, and the lines before it stay.
 use mathlib.Core.Path.{_≡_, refl}
 use mathlib.Core.Bool.{Bool, true, false, cond, false≢true, true≢false}
 use mathlib.Core.List.{[]}

@@ -1,4 +1,4 @@
--- Reading as far as a line, and what the whole reading answers then. Assumes nothing.
+-- Reading as far as a line, and what the whole reading answers then.
 use mathlib.Core.Path.{_≡_, refl, sym, ap, _∙_}
 use mathlib.Core.List.{List}
 use mathlib.Core.Option.{Option, some, none, Option·none-ne-some, Option·some-ne-none, Option·some-injective}
@@ -20,7 +20,7 @@ abbrev pub stepped : ℕ → List ℕ → Option Line → Option Line
 stepped line text (some s) = onward s (lineRead line (s .next) (drop (s .size) text))
 stepped line text none = none
 
--- the first lines read, so many: the record after them, and their bytes
+-- the first k lines of a text read: the record after them, and how many bytes they have
 abbrev pub reach : ℕ → List ℕ → Option Line
 reach zero text = some (record { next = blank; size = 0 })
 reach (suc k) text = stepped (suc k) text (reach k text)

@@ -1,4 +1,4 @@
--- What the rule of a line says of its number or its bytes, and a line copied into another record. Assumes nothing.
+-- What the rule of a line says of its number or its bytes, and a line copied into another record.
 use mathlib.Core.Path.{_≡_}
 use mathlib.Core.Bool.{true, false, cond, false≢true, true≢false}
 use Prim.Native.Nat.{ℕ, _≤_}

@@ -1,4 +1,4 @@
--- What a text begins with: another text, and digits. Assumes nothing.
+-- What a text begins with: another text, and digits.
 use mathlib.Core.Path.{_≡_, refl, sym, ap, _∙_}
 use mathlib.Core.Bool.{Bool, true, false, cond}
 use mathlib.Core.List.{List, [], _∷_, _++_, append-assoc}
@@ -29,7 +29,7 @@ begins-split x text e = sym (take-append-drop (length x) text) ∙ ap (λ (y : L
 pub begins-more : (x text more : List ℕ) → begins x text ≡ true → begins x (text ++ more) ≡ true
 begins-more x text more e = rw (begins-split x text e, append-assoc x (drop (length x) text) more) (begins-append x _)
 
--- what a text begins with, its first bytes, so many or more, begin with
+-- where a text begins with another, so do its first n bytes, if the other has no more than n
 pub begins-take : (x text : List ℕ) (n : ℕ) → length x ≤ n → begins x text ≡ true → begins x (take n text) ≡ true
 unfolding begins
 begins-take x text n h e = rw (take-take (length x) n text h) e

@@ -1,4 +1,4 @@
--- A line: what was written is read, and what was read is written. Assumes nothing.
+-- A line: what was written is read, and what was read is written.
 use mathlib.Core.Path.{_≡_, refl, sym, ap, _∙_}
 use mathlib.Core.Bool.{Bool, true, false, cond, _&&_}
 use mathlib.Core.List.{List, [], _∷_, _++_, append-assoc}

@@ -1,4 +1,4 @@
--- What stands behind a line's name: what was written is read, and what was read is written. Assumes nothing.
+-- What stands behind a line's name: what was written is read, and what was read is written.
 use mathlib.Core.Path.{_≡_, refl, sym}
 use mathlib.Core.Bool.{Bool, true, false, cond}
 use mathlib.Core.List.{List}

@@ -1,4 +1,4 @@
--- A line that is read where it stands: its name, the walk over its digits, its line feed. Assumes nothing.
+-- A line that is read where it stands: its name, the walk over its digits, its line feed.
 use mathlib.Core.Path.{_≡_, refl, sym, ap, _∙_}
 use mathlib.Core.Bool.{Bool, true, false, cond, false≢true}
 use mathlib.Core.List.{List, [], _∷_}

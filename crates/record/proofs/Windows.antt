@@ -1,4 +1,4 @@
--- How far a text can be read: as far as it begins with lines in form, whatever stands behind them. Assumes nothing.
+-- How far a text can be read: as far as it begins with lines in form, whatever stands behind them.
 use mathlib.Core.Path.{_≡_, refl, sym, _∙_}
 use mathlib.Core.Bool.{true}
 use mathlib.Core.List.{List, _++_}

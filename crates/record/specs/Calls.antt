@@ -80,7 +80,7 @@ abbrev pub orRefused : ℕ → Option Line → (Line → Reading) → Reading
 orRefused line none go = refusedAt line
 orRefused line (some l) go = go l
 
--- so many lines more, from one on, behind those that were taken
+-- `count` lines more, from a line on, behind those that were taken
 abbrev pub readFrom : ℕ → ℕ → ℕ → Record → List ℕ → Reading
 readFrom zero line taken r text = record { answer = Done; line = 0; taken = taken; content = r }
 readFrom (suc count) line taken r text =

@@ -84,7 +84,7 @@ keeps line r =
     (cond (eqb line 8) (leb (r .rounds) 9_999_999)
     (isField (fieldAt line r) && (not (isKeyed line) || eqb (fieldAt line r .size) (rowOf (r .set) .key))))
 
--- the first of so many lines, from one on, that breaks its rule; 0 where none does
+-- of `count` lines, from a line on, the first that breaks its rule; 0 where none does
 abbrev pub brokenFrom : ℕ → ℕ → Record → ℕ
 brokenFrom zero line r = 0
 brokenFrom (suc count) line r = cond (keeps line r) (brokenFrom count (line + 1) r) line

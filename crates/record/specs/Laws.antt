@@ -27,7 +27,7 @@ pub record Typed (r : Record) : Type 0 where
   pub cipher : Whole (r .cipher)
   pub tag : Whole (r .tag)
 
--- a text's first lines, so many, are those of a record whose first lines, as many, keep their rules
+-- the first `count` lines of a text are those of a record whose first `count` lines keep their rules
 pub record Begun (count : ℕ) (text : List ℕ) : Type 0 where
   pub entry : Record
   pub typed : Typed entry

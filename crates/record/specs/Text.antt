@@ -34,7 +34,7 @@ valueText line r = cond (isNumber line) (numeral (numberAt line r)) (hexOf (held
 unfoldable pub lineText : ℕ → Record → List ℕ
 lineText line r = lineOf (name line) (valueText line r)
 
--- so many lines, from one on, each straight after the one before
+-- `count` lines, from a line on, each straight after the one before
 abbrev pub textFrom : ℕ → ℕ → Record → List ℕ
 textFrom zero line r = []
 textFrom (suc count) line r = lineText line r ++ textFrom count (line + 1) r

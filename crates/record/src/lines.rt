@@ -25,7 +25,7 @@ pub struct Name {
     pub size: usize,
 }
 
-// A text of at most 8 bytes with zeros behind it; none of a longer one.
+// A text of at most 8 bytes as a name, with zeros behind it; the empty name for a longer text.
 fn pad(text: &[u8]) -> Name
     ensures { λ r. ⌜ r ≡ padded (now (text .entry)) ⌝ }
 {

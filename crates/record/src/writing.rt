@@ -48,7 +48,7 @@ fn put_value(line: usize, entry: Record, place: &mut [u8]) -> usize
     digits::put_bytes(&bytes[..size], place)
 }
 
-// How many bytes a line has that keeps its rule.
+// How many bytes a line that keeps its rule has.
 fn line_length(line: usize, entry: Record) -> usize
     requires { ⌜ keeps line entry ≡ true ⌝ }
     requires { ⌜ 1 ≤ line ⌝ }

@@ -1,4 +1,4 @@
--- How long reports are. Assumes nothing.
+-- How long reports are.
 use mathlib.Core.Path.{_≡_, refl}
 use Prim.Native.Nat.{ℕ, _+_, _≤_, _<_, _^_}
 use native.Mathlib.Omega.{arith}

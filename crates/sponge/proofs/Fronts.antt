@@ -1,4 +1,4 @@
--- Where a stream stands after some bytes, and what more bytes, the end of the data and the end of the text make of it. Assumes nothing.
+-- Where a stream stands after some bytes, and what more bytes, the end of the data and the end of the text make of it.
 use mathlib.Core.Path.{_≡_, sym, ap, _∙_}
 use mathlib.Core.List.{List, [], _∷_, _++_}
 use Prim.Native.Nat.{ℕ, suc, _+_, _%_, _^_, _≤_, _<_}

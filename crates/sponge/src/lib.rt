@@ -27,7 +27,7 @@ fn byte_at(w: &[u64; 5], place: usize) -> u8
     ((w[k] >> s) % 256) as u8
 }
 
-// Combines a byte into the one at a place of the words.
+// Combines a byte with the byte at a place of the words.
 fn put_byte(w: &mut [u64; 5], place: usize, x: u8)
     requires { ⌜ place < 40 ⌝ }
     ensures { λ _. ⌜ now (w .exit) ≡ withByte (now (w .entry)) place x ⌝ }
@@ -49,7 +49,7 @@ fn put_key(w: &mut [u64; 5], place: usize, key: [u8; 16], n: usize)
     }
 }
 
-// Puts a byte in the place of the one at a place of the words.
+// Replaces the byte at a place of the words.
 fn replace_byte(w: &mut [u64; 5], place: usize, x: u8)
     requires { ⌜ place < 40 ⌝ }
     ensures { λ _. ⌜ now (w .exit) ≡ withByte (now (w .entry)) place (goneOf (now (w .entry)) place x) ⌝ }
@@ -59,7 +59,7 @@ fn replace_byte(w: &mut [u64; 5], place: usize, x: u8)
     w[k] = w[k] ^ ((w[k] & (255 << s)) ^ ((x as u64) << s));
 }
 
-// Takes a byte into the words where they lie: combined, or in the place of the one there.
+// Takes a byte into the words, where they lie: combined with the byte at its place, or instead of it.
 fn take_byte(way: Way, w: &mut [u64; 5], place: usize, came: u8)
     requires { ⌜ place < 40 ⌝ }
     ensures { λ _. ⌜ now (w .exit) ≡ withByte (now (w .entry)) place (feedOf way came (goneOf (now (w .entry)) place came)) ⌝ }
@@ -146,7 +146,7 @@ fn first_word(set: u64) -> u64
     }
 }
 
-// The words after the start with a key and a nonce, of which the set's length counts.
+// The words after the start with a key and a nonce; of each, only as many bytes count as the set's keys have.
 pub fn start(set: u64, key: [u8; 16], nonce: [u8; 16]) -> [u64; 5]
     ensures { λ r. ⌜ r ≡ started (rowOf set) key nonce ⌝ }
 {

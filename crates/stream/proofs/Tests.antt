@@ -1,4 +1,4 @@
--- What the tests say, one byte at a time, and the bound of a round count. Assumes nothing.
+-- What the tests say, one byte at a time, and the bound of a round count.
 use mathlib.Core.Path.{_≡_, refl, sym, _∙_}
 use mathlib.Core.Bool.{Bool, true, false, cond, _&&_, false≢true}
 use mathlib.Core.List.{List}

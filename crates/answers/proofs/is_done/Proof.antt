@@ -1,4 +1,4 @@
--- `answers::is_done` meets its contract. Assumes nothing.
+-- `answers::is_done` meets its contract.
 use mathlib.Core.Path.{ap}
 use Prim.Native.Nat.{ℕ}
 use lib.Dec.{eqb}

@@ -1,4 +1,4 @@
--- `cuttings::filled` is safe and ends: the measure is the number of pieces left. Assumes nothing.
+-- `cuttings::filled` is safe and ends: the measure is the number of pieces left.
 use Prim.Native.Nat.{_-_}
 use borrow.Author.Needs.{needs}
 use Rattle.cuttings.proofs.filled.Statement.{statement}

@@ -1,4 +1,4 @@
--- `cuttings::finish_part` is safe. Assumes nothing.
+-- `cuttings::finish_part` is safe.
 use mathlib.Core.Path.{sym}
 use native.Mathlib.Omega.{arith}
 use denote.Ref.{now}

@@ -1,4 +1,4 @@
--- `cuttings::say_bytes` is safe and ends: the measure is the number of bytes left. Assumes nothing.
+-- `cuttings::say_bytes` is safe and ends: the measure is the number of bytes left.
 use Prim.Native.Nat.{_-_, _≤_}
 use lib.ListN.{length}
 use borrow.Author.Needs.{needs}

@@ -1,4 +1,4 @@
--- `cuttings::sealed` is safe. Assumes nothing.
+-- `cuttings::sealed` is safe.
 use borrow.Author.Needs.{needs}
 use Rattle.cuttings.proofs.sealed.Statement.{statement}
 use Rattle.cuttings.proofs.sealed.Tie as tie

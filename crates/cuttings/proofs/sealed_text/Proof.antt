@@ -1,4 +1,4 @@
--- `cuttings::sealed_text` is safe. Assumes nothing.
+-- `cuttings::sealed_text` is safe.
 use mathlib.Core.Path.{_∙_}
 use borrow.Author.Needs.{needs}
 use Rattle.cuttings.proofs.sealed_text.Statement.{statement}

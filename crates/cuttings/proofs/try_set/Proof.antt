@@ -1,4 +1,4 @@
--- `cuttings::try_set` is safe and ends: the measure is the number of cuttings left. Assumes nothing.
+-- `cuttings::try_set` is safe and ends: the measure is the number of cuttings left.
 use Prim.Native.Nat.{_-_}
 use borrow.Author.Needs.{needs}
 use Rattle.cuttings.proofs.try_set.Statement.{statement}

@@ -1,4 +1,4 @@
--- `digits::put_line` meets its contract. Assumes nothing.
+-- `digits::put_line` meets its contract.
 use mathlib.Core.Path.{_≡_, ap, _∙_}
 use mathlib.Core.List.{List, [], _∷_, _++_, append-assoc}
 use Prim.Native.Nat.{ℕ, _+_, _-_, _≤_}

@@ -1,4 +1,4 @@
--- `digits::put_text` meets its contract. Assumes nothing.
+-- `digits::put_text` meets its contract.
 use mathlib.Core.Path.{sym, _∙_}
 use mathlib.Core.List.{_++_}
 use native.Mathlib.Omega.{arith}

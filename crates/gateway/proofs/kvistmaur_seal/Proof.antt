@@ -1,4 +1,4 @@
--- `gateway::kvistmaur_seal` meets its contract. Assumes nothing.
+-- `gateway::kvistmaur_seal` meets its contract.
 use mathlib.Core.Path.{ap, _∙_}
 use denote.Ref.{now}
 use borrow.Author.Needs.{needs}

@@ -1,4 +1,4 @@
--- `gateway::word` meets its contract. Assumes nothing.
+-- `gateway::word` meets its contract.
 use Prim.Native.Nat.{_≤_}
 use native.Mathlib.Omega.{arith}
 use lib.Dec.{lit≤}

@@ -1,4 +1,4 @@
--- `known::later` is safe and ends: the measure is the number of rounds left. Assumes nothing.
+-- `known::later` is safe and ends: the measure is the number of rounds left.
 use Prim.Native.Nat.{_-_}
 use borrow.Author.Needs.{needs}
 use Rattle.known.proofs.later.Statement.{statement}

@@ -1,4 +1,4 @@
--- `message::clear` meets its contract. The loop's invariant: i zeros stand before what was there. The measure is the number of bytes left. Assumes nothing.
+-- `message::clear` meets its contract. The loop's invariant: i zeros stand before what was there. The measure is the number of bytes left.
 use mathlib.Core.Path.{_≡_, refl, sym, ap, _∙_}
 use mathlib.Core.List.{List, [], _∷_, _++_}
 use Prim.Native.Nat.{ℕ, zero, suc, _+_, _-_, _≤_, _<_}

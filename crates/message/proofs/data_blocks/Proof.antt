@@ -1,4 +1,4 @@
--- `message::data_blocks` meets its contract. Assumes nothing.
+-- `message::data_blocks` meets its contract.
 use native.Mathlib.Nat.{div-le-self}
 use native.Mathlib.Omega.{arith}
 use borrow.Author.Needs.{needs}

@@ -1,4 +1,4 @@
--- `message::message_rounds` meets its contract. Assumes nothing.
+-- `message::message_rounds` meets its contract.
 use mathlib.Core.Path.{_≡_, ap}
 use Prim.Native.Nat.{ℕ, _+_, _-_, _*_, _/_, _≤_}
 use native.Mathlib.Nat.{div-le-self, mul-le-mul-right}

@@ -1,4 +1,4 @@
--- `message::message_test` meets its contract. Assumes nothing.
+-- `message::message_test` meets its contract.
 use mathlib.Core.Path.{_≡_, sym, ap, _∙_}
 use mathlib.Core.Bool.{true}
 use native.Mathlib.Omega.{arith}

@@ -1,4 +1,4 @@
--- `message::process` meets its contract. Assumes nothing.
+-- `message::process` meets its contract.
 use mathlib.Core.Path.{_≡_, ap, ap₂, _∙_}
 use mathlib.Core.List.{List, _++_}
 use Prim.Native.Nat.{ℕ, _-_}

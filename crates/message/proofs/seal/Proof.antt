@@ -1,4 +1,4 @@
--- `message::seal` meets its contract. Assumes nothing.
+-- `message::seal` meets its contract.
 use mathlib.Core.Path.{sym, ap, _∙_}
 use mathlib.Core.List.{List}
 use Prim.Native.Nat.{ℕ, _-_}

@@ -1,4 +1,4 @@
--- `permutation::permuted` meets its contract. Assumes nothing.
+-- `permutation::permuted` meets its contract.
 use borrow.Author.Needs.{needs}
 use Rattle.permutation.specs.Runs.{constants, constantsOf, permute}
 use Rattle.permutation.proofs.permuted.Statement.{statement}

@@ -1,4 +1,4 @@
--- `report::put_lines` meets its contract. Assumes nothing.
+-- `report::put_lines` meets its contract.
 use mathlib.Core.Path.{_≡_, ap, _∙_}
 use mathlib.Core.List.{List, _++_, append-assoc}
 use Prim.Native.Nat.{ℕ, _+_, _-_, _≤_}

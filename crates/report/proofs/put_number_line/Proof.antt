@@ -1,4 +1,4 @@
--- `report::put_number_line` meets its contract. Assumes nothing.
+-- `report::put_number_line` meets its contract.
 use mathlib.Core.Path.{_≡_, sym, ap, ap₂, _∙_}
 use mathlib.Core.List.{List}
 use Prim.Native.Nat.{ℕ}

@@ -1,4 +1,4 @@
--- `report::put_verdict_line` meets its contract. Assumes nothing.
+-- `report::put_verdict_line` meets its contract.
 use mathlib.Core.Path.{sym, ap, _∙_}
 use denote.Ref.{now}
 use borrow.Author.Needs.{needs}

@@ -1,4 +1,4 @@
--- `report::report` meets its contract. Assumes nothing.
+-- `report::report` meets its contract.
 use Prim.Native.Nat.{_≤_}
 use native.Mathlib.Omega.{arith}
 use denote.Ref.{now}

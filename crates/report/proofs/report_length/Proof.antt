@@ -1,4 +1,4 @@
--- `report::report_length` meets its contract. Assumes nothing.
+-- `report::report_length` meets its contract.
 use native.Mathlib.Omega.{arith}
 use borrow.Author.Needs.{needs}
 use Rattle.digits.proofs.Numerals.{length-numeral}

@@ -1,4 +1,4 @@
--- `report::words_length` meets its contract. Assumes nothing.
+-- `report::words_length` meets its contract.
 use mathlib.Core.Path.{sym, ap, _∙_}
 use Prim.Native.Nat.{ℕ, _+_, _≤_}
 use native.Mathlib.Omega.{arith}

@@ -1,4 +1,4 @@
--- `sets::between` meets its contract. Assumes nothing.
+-- `sets::between` meets its contract.
 use Rattle.sets.proofs.Rows.{row-two, row-other}
 use Rattle.sets.proofs.between.Statement.{statement}
 use Rattle.sets.proofs.between.Tie as tie

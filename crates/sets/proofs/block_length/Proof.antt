@@ -1,4 +1,4 @@
--- `sets::block_length` meets its contract. Assumes nothing.
+-- `sets::block_length` meets its contract.
 use Rattle.sets.proofs.Rows.{row-two, row-other}
 use Rattle.sets.proofs.block_length.Statement.{statement}
 use Rattle.sets.proofs.block_length.Tie as tie

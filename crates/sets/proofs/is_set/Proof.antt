@@ -1,4 +1,4 @@
--- `sets::is_set` meets its contract. Assumes nothing.
+-- `sets::is_set` meets its contract.
 use native.Mathlib.Omega.{arith}
 use borrow.Author.Tests.{le-leb}
 use Rattle.ascon.specs.Sets.{table, isSet}

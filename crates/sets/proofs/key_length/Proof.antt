@@ -1,4 +1,4 @@
--- `sets::key_length` meets its contract. Assumes nothing.
+-- `sets::key_length` meets its contract.
 use Rattle.sets.proofs.Rows.{row-two, row-other}
 use Rattle.sets.proofs.key_length.Statement.{statement}
 use Rattle.sets.proofs.key_length.Tie as tie

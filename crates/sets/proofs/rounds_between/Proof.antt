@@ -1,4 +1,4 @@
--- `sets::rounds_between` meets its contract. Assumes nothing.
+-- `sets::rounds_between` meets its contract.
 use Rattle.permutation.specs.Runs.{constants, constantsOf, roundsOf}
 use Rattle.sets.proofs.Rows.{row-two, row-other}
 use Rattle.sets.proofs.rounds_between.Statement.{statement}

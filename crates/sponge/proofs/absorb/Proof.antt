@@ -1,5 +1,5 @@
 -- `sponge::absorb` meets its contract. The loop's invariant: the words are five, the place is in the front, and the steps that are left take the state to what
--- all of them make of the first one. The measure is the number of bytes left. Assumes nothing.
+-- all of them make of the first one. The measure is the number of bytes left.
 use mathlib.Core.Path.{_≡_, refl, sym, ap, _∙_}
 use Prim.Native.Nat.{ℕ, _+_, _-_, _%_, _≤_, _<_}
 use native.Mathlib.Nat.{mod-lt}

@@ -1,5 +1,5 @@
 -- `sponge::crypt` meets its contract. The loop's invariant: the words are five, the place is in the front, and the steps that are left take the state, and the
--- lent output, to what all of them make of the first ones. The measure is the number of bytes left. Assumes nothing.
+-- lent output, to what all of them make of the first ones. The measure is the number of bytes left.
 use mathlib.Core.Path.{_≡_, refl, sym, ap, ap₂, _∙_}
 use Prim.Native.Nat.{ℕ, _+_, _-_, _≤_, _<_}
 use native.Mathlib.Nat.{mod-lt}

@@ -1,5 +1,5 @@
 -- `sponge::masked_end` meets its contract. The loop's invariant: the first i bytes are the masked end's, and zeros follow. The measure is the number of
--- bytes left. Assumes nothing.
+-- bytes left.
 use mathlib.Core.Path.{_≡_, refl, ap, ap₂, _∙_}
 use mathlib.Core.List.{List, _++_}
 use Prim.Native.Nat.{ℕ, suc, _+_, _-_, _≤_}

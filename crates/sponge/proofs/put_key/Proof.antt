@@ -1,5 +1,5 @@
 -- `sponge::put_key` meets its contract. The loop's invariant: the bytes that are left take the words to what all of them make of the first ones.
--- The measure is the number of bytes left. Assumes nothing.
+-- The measure is the number of bytes left.
 use mathlib.Core.Path.{_≡_, sym, ap, _∙_}
 use mathlib.Core.List.{List}
 use Prim.Native.Nat.{ℕ, _+_, _-_, _≤_}

@@ -1,4 +1,4 @@
--- `stream::filled_rounds` meets its contract. Assumes nothing.
+-- `stream::filled_rounds` meets its contract.
 use mathlib.Core.Path.{_≡_, ap₂}
 use Prim.Native.Nat.{ℕ, _+_, _-_, _*_, _/_}
 use native.Mathlib.Omega.{arith}

@@ -1,4 +1,4 @@
--- `stream::start_test` meets its contract. Assumes nothing.
+-- `stream::start_test` meets its contract.
 use mathlib.Core.Path.{sym, _∙_}
 use borrow.Author.Needs.{needs}
 use borrow.Author.Tests.{not-true, not-false, eq-eqb, ne-eqb}

@@ -1,4 +1,4 @@
--- `stream::zero_from` meets its contract. The loop's invariant: what is left decides. The measure is the number of elements left. Assumes nothing.
+-- `stream::zero_from` meets its contract. The loop's invariant: what is left decides. The measure is the number of elements left.
 use mathlib.Core.Path.{_≡_, refl, sym, ap, _∙_}
 use Prim.Native.Nat.{_+_, _-_}
 use native.Mathlib.Omega.{arith}

@@ -1,4 +1,4 @@
--- `tags::give_tag` meets its contract. Assumes nothing.
+-- `tags::give_tag` meets its contract.
 use mathlib.Core.Path.{_≡_, sym, ap₂, _∙_}
 use mathlib.Core.List.{List, _++_, append-nil}
 use Prim.Native.Nat.{ℕ}

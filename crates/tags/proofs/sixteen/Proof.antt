@@ -1,4 +1,4 @@
--- `tags::sixteen` meets its contract. Assumes nothing.
+-- `tags::sixteen` meets its contract.
 use mathlib.Core.Path.{ap₂, _∙_}
 use mathlib.Core.List.{List, _++_}
 use Prim.Native.Nat.{ℕ}

@@ -1,4 +1,4 @@
--- `timing::kvistmaur_permute` meets its contract. Assumes nothing.
+-- `timing::kvistmaur_permute` meets its contract.
 use mathlib.Core.Path.{ap}
 use borrow.Author.Tests.{eq-eqb, ne-eqb}
 use borrow.Author.Needs.{needs}

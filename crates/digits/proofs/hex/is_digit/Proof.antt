@@ -1,4 +1,4 @@
--- `digits::hex::is_digit` meets its contract. Assumes nothing.
+-- `digits::hex::is_digit` meets its contract.
 use borrow.Author.Needs.{needs}
 use Rattle.digits.proofs.hex.is_digit.Statement.{statement}
 use Rattle.digits.proofs.hex.is_digit.Tie as tie

@@ -1,5 +1,5 @@
 -- `digits::hex::put_bytes` meets its contract. The loop's invariant: the digits of the bytes put stand before what was there. The measure is the number of
--- bytes left. Assumes nothing.
+-- bytes left.
 use mathlib.Core.Path.{_≡_, refl, sym, ap, _∙_}
 use mathlib.Core.List.{List, [], _∷_, _++_}
 use Prim.Native.Nat.{ℕ, zero, suc, _+_, _-_, _*_, _/_, _%_, _≤_, _<_}

@@ -1,4 +1,4 @@
--- `digits::hex::read_digit` meets its contract. Assumes nothing.
+-- `digits::hex::read_digit` meets its contract.
 use borrow.Author.Needs.{needs}
 use borrow.Author.Tests.{le-leb, lt-leb}
 use native.Mathlib.Omega.{arith}

@@ -1,4 +1,4 @@
--- `digits::hex::read_pair` meets its contract. Assumes nothing.
+-- `digits::hex::read_pair` meets its contract.
 use mathlib.Core.Path.{sym, _∙_}
 use Prim.Native.Nat.{_<_}
 use native.Mathlib.Omega.{arith}

@@ -1,4 +1,4 @@
--- `digits::hex::spelled` meets its contract. Assumes nothing.
+-- `digits::hex::spelled` meets its contract.
 use borrow.Author.Needs.{needs}
 use borrow.Author.Tests.{lt-ltb, le-ltb}
 use Rattle.digits.specs.Hex.{hexDigit}

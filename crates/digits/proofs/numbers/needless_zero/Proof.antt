@@ -1,4 +1,4 @@
--- `digits::numbers::needless_zero` meets its contract. Assumes nothing.
+-- `digits::numbers::needless_zero` meets its contract.
 use mathlib.Core.Path.{_≡_, refl}
 use mathlib.Core.Bool.{Bool, true, false, _&&_}
 use denote.Ref.{now}
@@ -9,12 +9,12 @@ use borrow.Author.Tests.{le-leb, lt-leb}
 use Rattle.digits.proofs.numbers.needless_zero.Statement.{statement}
 use Rattle.digits.proofs.numbers.needless_zero.Tie as tie
 
--- nothing and false
+-- anything and false is false
 and-false : (a : Bool) → false ≡ (a && false)
 and-false true = refl
 and-false false = refl
 
--- a test and true
+-- anything and true is itself
 and-true : (a : Bool) → a ≡ (a && true)
 and-true true = refl
 and-true false = refl

@@ -1,5 +1,5 @@
 -- `digits::numbers::number_length` meets its contract. The loop's invariant: the digits counted and those of the rest are all. The measure is the rest.
--- Assumes nothing.
+--
 use mathlib.Core.Path.{_≡_, refl}
 use Prim.Native.Nat.{ℕ, zero, suc, _+_, _/_, _≤_, _<_}
 use native.Mathlib.Omega.{arith}
@@ -9,7 +9,7 @@ use Rattle.digits.specs.Numbers.{placesIn, places}
 use Rattle.digits.proofs.numbers.number_length.Statement.{statement}
 use Rattle.digits.proofs.numbers.number_length.Tie as tie
 
--- steps that are enough for a number, and so many digits in all
+-- enough steps for the rest, and the digits counted and those of the rest are `total`
 record Left (all total count rest : ℕ) : Type 0 where
   most : ℕ
   enough : rest ≤ most

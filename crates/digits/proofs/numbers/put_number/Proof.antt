@@ -1,5 +1,5 @@
 -- `digits::numbers::put_number` meets its contract. The loop's invariant: the digits left of the rest, and what stands behind them, are the whole. The
--- measure is the number of digits left. Assumes nothing.
+-- measure is the number of digits left.
 use mathlib.Core.Path.{_≡_, refl, sym, ap, _∙_}
 use mathlib.Core.List.{List, [], _∷_, _++_, append-assoc}
 use Prim.Native.Nat.{ℕ, zero, suc, _+_, _-_, _/_, _%_, _≤_, _<_}

@@ -1,5 +1,5 @@
 -- `digits::numbers::read_number` meets its contract. The loop's invariant: what is left decides, and the digits read say less than their power of ten. The
--- measure is the number of digits left. Assumes nothing.
+-- measure is the number of digits left.
 use mathlib.Core.Path.{_≡_, refl, sym, ap, _∙_}
 use mathlib.Core.Bool.{false, _&&_}
 use mathlib.Core.List.{List, []}

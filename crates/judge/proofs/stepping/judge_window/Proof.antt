@@ -1,4 +1,4 @@
--- `judge::stepping::judge_window` meets its contract. Assumes nothing.
+-- `judge::stepping::judge_window` meets its contract.
 use mathlib.Core.Path.{_≡_, sym, ap, _∙_}
 use denote.Ref.{now}
 use lib.ListN.{length}

@@ -1,4 +1,4 @@
--- `judge::stepping::report_on` meets its contract. Assumes nothing.
+-- `judge::stepping::report_on` meets its contract.
 use mathlib.Core.Path.{_≡_, sym, ap, _∙_}
 use denote.Ref.{now}
 use borrow.Author.Needs.{needs}

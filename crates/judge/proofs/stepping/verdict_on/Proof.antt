@@ -1,4 +1,4 @@
--- `judge::stepping::verdict_on` meets its contract. Assumes nothing.
+-- `judge::stepping::verdict_on` meets its contract.
 use mathlib.Core.Path.{sym, _∙_}
 use borrow.Author.Needs.{needs}
 use Rattle.judge.specs.Steps.{verdictRead}

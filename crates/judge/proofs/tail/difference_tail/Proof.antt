@@ -1,4 +1,4 @@
--- `judge::tail::difference_tail` meets its contract. The loop's invariant: what is left decides. The measure is the number of bytes left. Assumes nothing.
+-- `judge::tail::difference_tail` meets its contract. The loop's invariant: what is left decides. The measure is the number of bytes left.
 use mathlib.Core.Path.{_≡_, refl, sym, ap, _∙_}
 use mathlib.Core.Bool.{cond}
 use mathlib.Core.List.{List, [], _∷_}

@@ -1,4 +1,4 @@
--- `judge::verdict::judge` meets its contract. Assumes nothing.
+-- `judge::verdict::judge` meets its contract.
 use mathlib.Core.Path.{_≡_, sym, ap, _∙_}
 use mathlib.Core.Bool.{true}
 use mathlib.Core.List.{List}

@@ -1,4 +1,4 @@
--- `judge::verdict::same_field` meets its contract. Assumes nothing.
+-- `judge::verdict::same_field` meets its contract.
 use mathlib.Core.Path.{_≡_, sym, ap, _∙_}
 use mathlib.Core.List.{List}
 use Prim.Native.Nat.{ℕ, _≤_}

@@ -1,4 +1,4 @@
--- `judge::verdict::seal_fields` meets its contract. Assumes nothing.
+-- `judge::verdict::seal_fields` meets its contract.
 use mathlib.Core.Path.{_≡_, sym, ap, ap₂, _∙_}
 use mathlib.Core.Bool.{true}
 use mathlib.Core.List.{List, _++_, map}

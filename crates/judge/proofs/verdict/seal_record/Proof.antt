@@ -1,4 +1,4 @@
--- `judge::verdict::seal_record` meets its contract. Assumes nothing.
+-- `judge::verdict::seal_record` meets its contract.
 use Rattle.record.proofs.InForm.{in-form}
 use Rattle.judge.specs.Verdicts.{oursOf}
 use Rattle.judge.proofs.verdict.seal_record.Statement.{statement}

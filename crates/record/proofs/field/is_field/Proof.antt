@@ -1,4 +1,4 @@
--- `record::field::is_field` meets its contract. The loop's invariant: what is left decides. The measure is the number of places left. Assumes nothing.
+-- `record::field::is_field` meets its contract. The loop's invariant: what is left decides. The measure is the number of places left.
 use mathlib.Core.Path.{_≡_, refl, sym, ap, _∙_}
 use mathlib.Core.Bool.{_&&_}
 use mathlib.Core.List.{List}

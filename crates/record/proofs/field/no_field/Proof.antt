@@ -1,4 +1,4 @@
--- `record::field::no_field` meets its contract. Assumes nothing.
+-- `record::field::no_field` meets its contract.
 use mathlib.Core.Path.{refl}
 use Rattle.record.specs.Form.{fieldOf}
 use Rattle.record.proofs.field.no_field.Statement.{statement}

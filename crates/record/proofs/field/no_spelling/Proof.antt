@@ -1,4 +1,4 @@
--- `record::field::no_spelling` meets its contract. Assumes nothing.
+-- `record::field::no_spelling` meets its contract.
 use mathlib.Core.Bool.{false}
 use borrow.Author.Needs.{needs}
 use Rattle.record.proofs.field.no_spelling.Statement.{statement}

@@ -1,5 +1,5 @@
 -- `record::field::read_field` meets its contract. The loop's invariant: the bytes read, and those of the digits left, are all. The measure is the number of
--- digits left. Assumes nothing.
+-- digits left.
 use mathlib.Core.Path.{_≡_, refl, sym, ap, _∙_}
 use mathlib.Core.Bool.{true}
 use mathlib.Core.List.{List, [], _∷_, _++_, append-assoc, append-nil}

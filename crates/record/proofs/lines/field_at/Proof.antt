@@ -1,4 +1,4 @@
--- `record::lines::field_at` meets its contract. Assumes nothing.
+-- `record::lines::field_at` meets its contract.
 use mathlib.Core.Path.{_≡_, refl, sym, _∙_}
 use mathlib.Core.Bool.{Bool, true, false}
 use mathlib.Core.List.{[], _∷_}

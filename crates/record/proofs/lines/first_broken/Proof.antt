@@ -1,4 +1,4 @@
--- `record::lines::first_broken` meets its contract. The loop's invariant: the lines left decide. The measure is the number of lines left. Assumes nothing.
+-- `record::lines::first_broken` meets its contract. The loop's invariant: the lines left decide. The measure is the number of lines left.
 use mathlib.Core.Path.{_≡_, refl, sym, ap, _∙_}
 use mathlib.Core.Bool.{cond}
 use Prim.Native.Nat.{ℕ, suc, _+_, _-_, _≤_, _<_}

@@ -1,4 +1,4 @@
--- `record::lines::is_number` meets its contract. Assumes nothing.
+-- `record::lines::is_number` meets its contract.
 use borrow.Author.Tests.{eq-eqb, ne-eqb}
 use Rattle.record.proofs.lines.is_number.Statement.{statement}
 use Rattle.record.proofs.lines.is_number.Tie as tie

@@ -1,4 +1,4 @@
--- `record::lines::keeps_rule` meets its contract. Assumes nothing.
+-- `record::lines::keeps_rule` meets its contract.
 use mathlib.Core.Path.{sym, ap, _∙_}
 use lib.Dec.{eqb}
 use borrow.Author.Needs.{needs}

@@ -1,4 +1,4 @@
--- `record::lines::name_of` meets its contract. Assumes nothing.
+-- `record::lines::name_of` meets its contract.
 use mathlib.Core.Path.{_≡_, refl, sym, ap, _∙_}
 use mathlib.Core.List.{[]}
 use Prim.Native.Nat.{ℕ, zero, suc, _-_}

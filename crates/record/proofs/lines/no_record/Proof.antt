@@ -1,4 +1,4 @@
--- `record::lines::no_record` meets its contract. Assumes nothing.
+-- `record::lines::no_record` meets its contract.
 use borrow.Author.Needs.{needs}
 use Rattle.record.specs.Form.{blank}
 use Rattle.record.proofs.lines.no_record.Statement.{statement}

@@ -1,4 +1,4 @@
--- `record::lines::number_at` meets its contract. Assumes nothing.
+-- `record::lines::number_at` meets its contract.
 use borrow.Author.Tests.{eq-eqb, ne-eqb}
 use Rattle.record.proofs.lines.number_at.Statement.{statement}
 use Rattle.record.proofs.lines.number_at.Tie as tie

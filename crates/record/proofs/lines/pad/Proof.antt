@@ -1,4 +1,4 @@
--- `record::lines::pad` meets its contract. Assumes nothing.
+-- `record::lines::pad` meets its contract.
 use mathlib.Core.Path.{_∙_}
 use mathlib.Core.List.{_++_}
 use Prim.Native.Nat.{_-_}

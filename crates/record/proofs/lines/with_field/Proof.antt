@@ -1,4 +1,4 @@
--- `record::lines::with_field` meets its contract. Assumes nothing.
+-- `record::lines::with_field` meets its contract.
 use borrow.Author.Tests.{ne-eqb}
 use Rattle.record.specs.Form.{withField}
 use Rattle.record.proofs.lines.with_field.Statement.{statement}

@@ -1,4 +1,4 @@
--- `record::lines::with_number` meets its contract. Assumes nothing.
+-- `record::lines::with_number` meets its contract.
 use borrow.Author.Tests.{ne-eqb}
 use Rattle.record.specs.Form.{withNumber}
 use Rattle.record.proofs.lines.with_number.Statement.{statement}

@@ -1,4 +1,4 @@
--- `record::reading::begins_with` meets its contract. The loop's invariant: what is left decides. The measure is the number of bytes left. Assumes nothing.
+-- `record::reading::begins_with` meets its contract. The loop's invariant: what is left decides. The measure is the number of bytes left.
 use mathlib.Core.Path.{_≡_, refl, sym, ap, ap₂, _∙_}
 use mathlib.Core.Bool.{Bool, true, false, _&&_}
 use mathlib.Core.List.{List}

@@ -1,4 +1,4 @@
--- `record::reading::feed_at` meets its contract. Assumes nothing.
+-- `record::reading::feed_at` meets its contract.
 use denote.Ref.{now}
 use lib.ListN.{List·getD-eq-default}
 use borrow.Author.Needs.{needs}

@@ -1,4 +1,4 @@
--- `record::reading::keep` meets its contract. Assumes nothing.
+-- `record::reading::keep` meets its contract.
 use mathlib.Core.Path.{sym, _∙_}
 use borrow.Author.Needs.{needs}
 use Rattle.record.proofs.reading.keep.Statement.{statement}

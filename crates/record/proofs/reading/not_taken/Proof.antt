@@ -1,4 +1,4 @@
--- `record::reading::not_taken` meets its contract. Assumes nothing.
+-- `record::reading::not_taken` meets its contract.
 use mathlib.Core.Bool.{false}
 use borrow.Author.Needs.{needs}
 use Rattle.record.proofs.reading.not_taken.Statement.{statement}

@@ -1,5 +1,5 @@
 -- `record::reading::read` meets its contract. The lines' invariant: the lines left decide. The digits' invariant: the digits left end where the run does. The measures are
--- the numbers of lines and of bytes left. Assumes nothing.
+-- the numbers of lines and of bytes left.
 use mathlib.Core.Path.{_≡_, refl, sym, ap, _∙_}
 use mathlib.Core.Bool.{Bool, cond}
 use mathlib.Core.List.{List}

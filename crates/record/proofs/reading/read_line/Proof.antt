@@ -1,4 +1,4 @@
--- `record::reading::read_line` meets its contract. Assumes nothing.
+-- `record::reading::read_line` meets its contract.
 use mathlib.Core.Path.{sym, _∙_}
 use borrow.Author.Needs.{needs}
 use Rattle.record.specs.Calls.{valueRead}

@@ -1,4 +1,4 @@
--- `record::reading::refusal` meets its contract. Assumes nothing.
+-- `record::reading::refusal` meets its contract.
 use borrow.Author.Needs.{needs}
 use Rattle.answers.specs.declared.Answer.the-variants.{BrokenRecord}
 use Rattle.record.specs.Calls.{refusedAt}

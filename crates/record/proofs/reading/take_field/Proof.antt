@@ -1,4 +1,4 @@
--- `record::reading::take_field` meets its contract. Assumes nothing.
+-- `record::reading::take_field` meets its contract.
 use mathlib.Core.Path.{_≡_, refl, sym, ap, _∙_}
 use mathlib.Core.Bool.{true, false, false≢true}
 use mathlib.Core.Option.{Option, some, none}

@@ -1,4 +1,4 @@
--- `record::reading::take_name` meets its contract. Assumes nothing.
+-- `record::reading::take_name` meets its contract.
 use mathlib.Core.Path.{_≡_, sym, ap, _∙_}
 use mathlib.Core.List.{List}
 use Prim.Native.Nat.{ℕ}

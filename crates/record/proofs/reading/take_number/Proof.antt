@@ -1,4 +1,4 @@
--- `record::reading::take_number` meets its contract. Assumes nothing.
+-- `record::reading::take_number` meets its contract.
 use mathlib.Core.Path.{sym, ap, _∙_}
 use mathlib.Core.Option.{some}
 use borrow.Author.Needs.{needs}

@@ -1,4 +1,4 @@
--- `record::writing::line_length` meets its contract. Assumes nothing.
+-- `record::writing::line_length` meets its contract.
 use mathlib.Core.Path.{_≡_}
 use Prim.Native.Nat.{_≤_}
 use native.Mathlib.Omega.{arith}

@@ -1,4 +1,4 @@
--- `record::writing::put_line` meets its contract. Assumes nothing.
+-- `record::writing::put_line` meets its contract.
 use mathlib.Core.Path.{_≡_, sym, ap₂, _∙_}
 use mathlib.Core.List.{List}
 use Prim.Native.Nat.{ℕ, _≤_}

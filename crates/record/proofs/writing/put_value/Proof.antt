@@ -1,4 +1,4 @@
--- `record::writing::put_value` meets its contract. Assumes nothing.
+-- `record::writing::put_value` meets its contract.
 use mathlib.Core.Path.{sym, ap, _∙_}
 use Prim.Native.Nat.{ℕ, _≤_}
 use native.Mathlib.Omega.{arith}

@@ -1,5 +1,5 @@
 -- `record::writing::text_length` meets its contract. The loop's invariant: the bytes counted, and those of the lines left, are all. The measure is the number of
--- lines left. Assumes nothing.
+-- lines left.
 use mathlib.Core.Path.{_≡_}
 use Prim.Native.Nat.{ℕ, _+_, _-_, _≤_, _<_}
 use native.Mathlib.Omega.{arith}

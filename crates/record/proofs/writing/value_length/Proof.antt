@@ -1,4 +1,4 @@
--- `record::writing::value_length` meets its contract. Assumes nothing.
+-- `record::writing::value_length` meets its contract.
 use mathlib.Core.Path.{_≡_, sym, ap, _∙_}
 use Prim.Native.Nat.{_*_, _≤_}
 use native.Mathlib.Omega.{arith}

@@ -1,5 +1,5 @@
 -- `record::writing::write` meets its contract. The loop's invariant: the lines before stand in the place, and those left have room. The measure is the number of
--- lines left. Assumes nothing.
+-- lines left.
 use mathlib.Core.Path.{_≡_, refl, sym, ap, _∙_}
 use mathlib.Core.List.{List, [], _++_}
 use Prim.Native.Nat.{ℕ, suc, _+_, _-_, _≤_, _<_}

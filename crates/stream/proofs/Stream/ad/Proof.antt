@@ -1,4 +1,4 @@
--- `stream::Stream::ad` meets its contract. Assumes nothing.
+-- `stream::Stream::ad` meets its contract.
 use mathlib.Core.Path.{_≡_, sym, ap, _∙_}
 use mathlib.Core.Bool.{Bool}
 use Prim.Native.Nat.{_+_, _%_}

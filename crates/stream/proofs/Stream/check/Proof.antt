@@ -1,4 +1,4 @@
--- `stream::Stream::check` meets its contract. Assumes nothing.
+-- `stream::Stream::check` meets its contract.
 use mathlib.Core.Path.{_≡_, sym, ap, ap₂, _∙_}
 use mathlib.Core.Bool.{Bool, _&&_}
 use mathlib.Core.List.{List}

@@ -1,4 +1,4 @@
--- `stream::Stream::closing_rounds` meets its contract. Assumes nothing.
+-- `stream::Stream::closing_rounds` meets its contract.
 use mathlib.Core.Path.{sym, _∙_}
 use borrow.Author.Needs.{needs}
 use borrow.Author.Tests.{not-true, not-false, eq-eqb, ne-eqb}

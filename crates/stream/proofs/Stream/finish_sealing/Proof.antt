@@ -1,4 +1,4 @@
--- `stream::Stream::finish_sealing` meets its contract. Assumes nothing.
+-- `stream::Stream::finish_sealing` meets its contract.
 use mathlib.Core.Path.{_≡_, sym, ap, ap₂, _∙_}
 use mathlib.Core.Bool.{Bool, _&&_}
 use Prim.Native.Nat.{ℕ, _+_}

@@ -1,4 +1,4 @@
--- `stream::Stream::finish_test` meets its contract. Assumes nothing.
+-- `stream::Stream::finish_test` meets its contract.
 use mathlib.Core.Path.{sym, _∙_}
 use borrow.Author.Tests.{not-true, not-false, eq-eqb, ne-eqb}
 use Rattle.stream.specs.Calls.{finishTest}

@@ -1,4 +1,4 @@
--- `stream::Stream::piece_test` meets its contract. Assumes nothing.
+-- `stream::Stream::piece_test` meets its contract.
 use mathlib.Core.Path.{sym, _∙_}
 use Prim.Native.Nat.{_+_}
 use native.Mathlib.Omega.{arith}

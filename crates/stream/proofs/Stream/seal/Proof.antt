@@ -1,4 +1,4 @@
--- `stream::Stream::seal` meets its contract. Assumes nothing.
+-- `stream::Stream::seal` meets its contract.
 use mathlib.Core.Path.{_≡_, sym, ap, ap₂, _∙_}
 use mathlib.Core.Bool.{Bool, true, _&&_}
 use mathlib.Core.List.{List, _++_}

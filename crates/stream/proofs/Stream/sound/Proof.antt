@@ -1,4 +1,4 @@
--- `stream::Stream::sound` meets its contract. Assumes nothing.
+-- `stream::Stream::sound` meets its contract.
 use mathlib.Core.Path.{sym, ap, _∙_}
 use mathlib.Core.Bool.{Bool, _&&_}
 use lib.Dec.{eqb}

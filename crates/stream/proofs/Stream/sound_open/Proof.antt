@@ -1,4 +1,4 @@
--- `stream::Stream::sound_open` meets its contract. Assumes nothing.
+-- `stream::Stream::sound_open` meets its contract.
 use mathlib.Core.Path.{ap, ap₂, _∙_}
 use mathlib.Core.Bool.{Bool, _&&_}
 use Prim.Native.Nat.{ℕ, _%_}

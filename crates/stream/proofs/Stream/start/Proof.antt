@@ -1,4 +1,4 @@
--- `stream::Stream::start` meets its contract. Assumes nothing.
+-- `stream::Stream::start` meets its contract.
 use mathlib.Core.Path.{_≡_, sym, ap, ap₂, _∙_}
 use mathlib.Core.List.{List, _++_}
 use Prim.Native.Nat.{ℕ, _-_}

@@ -1,4 +1,4 @@
--- `stream::Stream::tag16` meets its contract. Assumes nothing.
+-- `stream::Stream::tag16` meets its contract.
 use mathlib.Core.Path.{ap, _∙_}
 use mathlib.Core.List.{List}
 use Prim.Native.Nat.{ℕ, _-_}

@@ -1,4 +1,4 @@
--- `stream::Stream::text_words` meets its contract. Assumes nothing.
+-- `stream::Stream::text_words` meets its contract.
 use mathlib.Core.Path.{sym, _∙_}
 use borrow.Author.Needs.{needs}
 use Rattle.stream.specs.Calls.{textWords}
