@@ -1,4 +1,4 @@
--- What holds of each row of the table holds of each set's. Assumes nothing.
+-- What holds of each row of the table holds of each set's.
 use mathlib.Core.Path.{_≡_, refl}
 use mathlib.Core.List.{[], _∷_}
 use Prim.Native.Nat.{ℕ, zero, suc, _-_, _*_, _^_, _≤_, _<_}
@@ -45,7 +45,6 @@ pub record Sizes (row : ParameterSet) : Type 0 where
   pub block : row .block ≤ 16
   pub some-key : 12 ≤ row .key
   pub key : row .key ≤ 16
-  pub whole : length (firstBlock row) ≡ 40 - 2 * row .key
   pub first : stringOfWords (numberOf (take 8 (firstBlock row)) ∷ 0 ∷ 0 ∷ 0 ∷ 0 ∷ []) ≡ firstBlock row ‖ zeros (2 * row .key)
   pub word : numberOf (take 8 (firstBlock row)) < 2 ^ 64
   pub rounds : roundsOf (row .between) ≤ 8
@@ -55,5 +54,5 @@ pub row-sizes : (set : ℕ) → Sizes (rowOf set)
 unfolding firstBlock numberOf bytesOf roundsOf constantsOf constants
 row-sizes =
     each-row Sizes
-    (record { some-block = lit< tt; block = lit≤ tt; some-key = lit≤ tt; key = lit≤ tt; whole = refl; first = refl; word = lit< tt; rounds = lit≤ tt; ends = refl })
-    (record { some-block = lit< tt; block = lit≤ tt; some-key = lit≤ tt; key = lit≤ tt; whole = refl; first = refl; word = lit< tt; rounds = lit≤ tt; ends = refl })
+    (record { some-block = lit< tt; block = lit≤ tt; some-key = lit≤ tt; key = lit≤ tt; first = refl; word = lit< tt; rounds = lit≤ tt; ends = refl })
+    (record { some-block = lit< tt; block = lit≤ tt; some-key = lit≤ tt; key = lit≤ tt; first = refl; word = lit< tt; rounds = lit≤ tt; ends = refl })
