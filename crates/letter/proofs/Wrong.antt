@@ -1,4 +1,4 @@
--- The contracts rule the wrong answers out: each is computed in the checker. Assumes nothing.
+-- The contracts rule the wrong answers out: each is computed in the checker.
 use Prim.Native.Nat.{ℕ}
 use mathlib.Core.Path.{_≡_, sym, ap, _∙_}
 use native.Mathlib.Omega.{arith}
@@ -10,7 +10,7 @@ use Rattle.timing.specs.Call.{Called, permuteCall}
 use Rattle.ascon.specs.Sets.{table, isSet, rowOf}
 use Rattle.ascon.specs.Mode.{p, firstBlock, initialise, separate, count, pad, beforeText, encrypted, sealed}
 use Rattle.sponge.specs.Sponge.{started, dataClosed}
-use Rattle.tags.specs.Tags.{sixteenOf, givenTag, sameTag}
+use Rattle.tags.specs.Tags.{sixteenOf, givenTag}
 use Rattle.stream.specs.declared.Stream.{Stream}
 use Rattle.stream.specs.declared.Outcome.{Outcome}
 use Rattle.stream.specs.State.{isSoundOpen, isSoundEnded, isSound}
@@ -33,7 +33,7 @@ off : _≡_ {A = ℕ} 0 1 → ⊥
 off e = omega (arith, e)
 
 pub wrong : Wrong
-unfolding writeCall blank withField checkCall tookText readCall lineRead begins refusedAt valueRead name names withNumber keeps decimal.numberOf isNumeral broken isField fieldOf sealed encrypted pad count beforeText isSet rowOf table roundsOf constantsOf constants permuteCall dataClosed separate started initialise firstBlock p permute rounds round diffuse Σ₀ Σ₁ Σ₂ Σ₃ Σ₄ _⋙_ substitute substituted column fromBits bit sBox addConstant stringOf stateOf bytesOf numberOf sixteenOf givenTag sameTag isSound isSoundOpen isSoundEnded startCall dataCall startTest pieceTest finishTest streamed.sealCall finishCheckingCall messageTest sealCall openCall digitOf hexDigit places numeral lineOf put recordLine verdictLine fieldLine reportText reportCall
+unfolding writeCall blank withField checkCall tookText readCall lineRead begins refusedAt valueRead name names withNumber keeps decimal.numberOf isNumeral broken isField fieldOf sealed encrypted pad count beforeText isSet rowOf table roundsOf constantsOf constants permuteCall dataClosed separate started initialise firstBlock p permute rounds round diffuse Σ₀ Σ₁ Σ₂ Σ₃ Σ₄ _⋙_ substitute substituted column fromBits bit sBox addConstant stringOf stateOf bytesOf numberOf sixteenOf givenTag isSound isSoundOpen isSoundEnded startCall dataCall startTest pieceTest finishTest streamed.sealCall finishCheckingCall messageTest sealCall openCall digitOf hexDigit places numeral lineOf put recordLine verdictLine fieldLine reportText reportCall
 wrong = record {
   number-done = λ κ e p. off (cc p);
   is-done-differs = λ κ e p. off (cc p);
@@ -57,6 +57,8 @@ wrong = record {
   sixteen-long = λ κ e p. off (cc p);
   give-tag-nothing = λ κ p. off (cc p);
   give-tag-long = λ κ p. off (cc p);
+  same-tag-short = λ κ e p. off (cc p);
+  same-tag-empty = λ κ e p. off (cc p);
   same-tag-long = λ κ e p. off (cc p);
   start-test-set = λ κ e p. off (cc p);
   start-refused-open = λ κ e p. off (cc (ap (λ (x : Outcome). x .next .phase) p));

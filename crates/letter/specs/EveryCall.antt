@@ -12,8 +12,9 @@ use Rattle.permutation.specs.Round.{round}
 use Rattle.permutation.specs.Runs.{roundsOf, permute, permuteWords}
 use Rattle.timing.specs.Call as timed
 use Rattle.ascon.specs.Sets.{isSet, rowOf}
+use Rattle.ascon.specs.Mode.{same}
 use Rattle.sponge.specs.Sponge.{started, absorbed, crypted, cryptedOf, dataClosed, finished}
-use Rattle.tags.specs.Tags.{sixteenOf, givenTag, sameTag}
+use Rattle.tags.specs.Tags.{sixteenOf, givenTag}
 use Rattle.stream.specs.State.{ended}
 use Rattle.stream.specs.Calls as streamed
 use Rattle.message.specs.Message.{sealLeaves, sealCall, openLeaves, openCall}
@@ -138,7 +139,7 @@ pub record EveryCall : Type 2 where
   pub tags-give-tag : Answered tags.give_tag.Statement.statement tags.give_tag.Reads.Asked tags.give_tag.Reads.Post
       (λ r (ours, (tag, _)). tag .now) (λ (ours, (tag, _)). givenTag ours (tag .now))
   pub tags-same-tag : Answered tags.same_tag.Statement.statement tags.same_tag.Reads.Asked tags.same_tag.Reads.Post
-      (λ r e. r) (λ (ours, (theirs, _)). sameTag ours (theirs .now))
+      (λ r e. r) (λ (ours, (theirs, _)). same (theirs .now) (ours .now))
   -- ---- stream
   pub stream-start-test : Answered stream.start_test.Statement.statement stream.start_test.Reads.Asked stream.start_test.Reads.Post
       (λ r e. r) (λ (set, (key, (nonce, _))). streamed.startTest set key nonce)

@@ -81,8 +81,12 @@ pub record Wrong : Type 0 where
   pub give-tag-nothing : NeverLeaves tags.give_tag.Reads.Post (replicate 16 1, (lent (zeros 12), tt)) tt (replicate 16 1, (lent (zeros 12), tt))
   -- one of 17 does
   pub give-tag-long : NeverLeaves tags.give_tag.Reads.Post (replicate 16 1, (lent (zeros 17), tt)) tt (replicate 16 1, (lent (replicate 17 1), tt))
-  -- a tag of 17 bytes is none
-  pub same-tag-long : Never tags.same_tag.Reads.Post (zeros 16, (lent (zeros 17), tt)) true
+  -- a string is not the beginning of itself that it is compared with
+  pub same-tag-short : Never tags.same_tag.Reads.Post (lent (zeros 16), (lent (zeros 12), tt)) true
+  -- the empty string is no tag
+  pub same-tag-empty : Never tags.same_tag.Reads.Post (lent (zeros 16), (lent [], tt)) true
+  -- a tag with a byte more is another
+  pub same-tag-long : Never tags.same_tag.Reads.Post (lent (zeros 16), (lent (zeros 17), tt)) true
   -- 1 comes before 2
   pub start-test-set : Never stream.start_test.Reads.Post (3, (15, (16, tt))) KeyLength
   -- a refused start does not give an open stream

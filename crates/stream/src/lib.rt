@@ -456,7 +456,9 @@ impl Stream {
         }
         let rounds = self.closing_rounds() + 12;
         let next = Stream::ended();
-        if tags::same_tag(self.tag16(), tag) {
+        let ours = self.tag16();
+        let n = sets::key_length(self.set);
+        if tags::same_tag(&ours[..n], tag) {
             return Outcome {
                 answer: Answer::Done,
                 rounds,

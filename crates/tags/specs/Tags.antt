@@ -1,11 +1,11 @@
 -- Keys and tags as strings of at most 16 bytes.
-use mathlib.Core.Bool.{Bool, cond, _&&_}
+use mathlib.Core.Bool.{cond}
 use mathlib.Core.List.{List}
 use Prim.Native.Nat.{ℕ, _-_}
 use lib.Dec.{leb}
 use lib.ListN.{length, take}
 use Rattle.permutation.specs.Strings.{_‖_}
-use Rattle.ascon.specs.Mode.{zeros, same}
+use Rattle.ascon.specs.Mode.{zeros}
 
 -- a string with zeros behind it, in 16 bytes
 unfoldable pub sixteenOf : List ℕ → List ℕ
@@ -14,7 +14,3 @@ sixteenOf x = cond (leb (length x) 16) (x ‖ zeros (16 - length x)) (zeros 16)
 -- a place with the beginning of a tag in it
 unfoldable pub givenTag : List ℕ → List ℕ → List ℕ
 givenTag ours tag = cond (leb (length tag) 16) (take (length tag) ours) tag
-
--- whether a string is the beginning of a tag
-unfoldable pub sameTag : List ℕ → List ℕ → Bool
-sameTag ours theirs = leb (length theirs) 16 && same theirs (take (length theirs) ours)

@@ -1,7 +1,8 @@
 // Keys and tags, strings of at most 16 bytes: put into 16 bytes, given out, compared.
 ghost use mathlib.Core.Path.{_≡_};
 ghost use mathlib.Core.Bool.{_&&_};
-ghost use Rattle.tags.specs.Tags.{sixteenOf, givenTag, sameTag};
+ghost use Rattle.ascon.specs.Mode.{same};
+ghost use Rattle.tags.specs.Tags.{sixteenOf, givenTag};
 
 // Whether both hold.
 pub fn both(one: bool, other: bool) -> bool
@@ -33,11 +34,11 @@ pub fn give_tag(ours: [u8; 16], tag: &mut [u8])
     bytes::copy(&ours[..n], tag);
 }
 
-// Whether a string is the beginning of a tag; every byte is looked at.
-pub fn same_tag(ours: [u8; 16], theirs: &[u8]) -> bool
-    ensures { λ r. ⌜ r ≡ sameTag ours (now (theirs .entry)) ⌝ }
+// Whether two strings are one; where their lengths agree, every byte is looked at.
+pub fn same_tag(ours: &[u8], theirs: &[u8]) -> bool
+    ensures { λ r. ⌜ r ≡ same (now (theirs .entry)) (now (ours .entry)) ⌝ }
 {
-    if 16 < theirs.len() {
+    if theirs.len() != ours.len() {
         return false;
     }
     let mut equal = true;

@@ -1,11 +1,11 @@
--- `message::open` meets its contract. Assumes nothing.
-use mathlib.Core.Path.{_≡_, sym, ap, _∙_}
+-- `message::open` meets its contract.
+use mathlib.Core.Path.{_≡_, sym, ap, ap₂, _∙_}
 use mathlib.Core.List.{List, _++_}
 use Prim.Native.Nat.{ℕ, _-_}
 use native.Mathlib.Omega.{arith}
 use denote.Ref.{now}
 use lib.ListN.{length, take, drop}
-use lib.Seq.{take-at, drop-at}
+use lib.Seq.{take-at, drop-at, length-take-le}
 use borrow.Author.Needs.{needs}
 use borrow.Author.Tests.{not-true, not-false}
 use Rattle.answers.specs.Numbers.{isDone}
@@ -14,7 +14,6 @@ use Rattle.ascon.specs.Sets.{rowOf}
 use Rattle.ascon.specs.Mode.{zeros, decrypted, opened, same, finalise}
 use Rattle.ascon.proofs.Sealing.{length-tag, length-decrypted}
 use Rattle.sets.proofs.Rows.{row-fits, row-sizes}
-use Rattle.tags.proofs.Compared.{same-is}
 use Rattle.message.specs.Message.{openLeaves, openCall}
 use Rattle.message.proofs.Tests.{MessagePassed, message-passed}
 use Rattle.message.proofs.open.Statement.{statement}
@@ -42,27 +41,35 @@ process-requires c κs = let h = passed (c .before) in (h .key-fits, (h .nonce-f
 message-rounds-requires : tie.Need-message-rounds-requires
 message-rounds-requires c κs = let h = passed (c .before .before .before .before) in (h .ad-within, h .text-within)
 
+key-length-requires : tie.Need-key-length-requires
+key-length-requires c κs = search needs
+
+array-share-prefix-ours : tie.Need-array-share-prefix-ours
+array-share-prefix-ours c = omega (arith, c .key-length .ensures, row-sizes (c .before .before .before .before .before .before .before .before .before .before .before .before .before .before .before .args .set) .key)
+
+slice-aggregate-same-tag : tie.Need-slice-aggregate-same-tag
+slice-aggregate-same-tag c = sym (length-take-le _ _ (array-share-prefix-ours (c .before)))
+
 same-tag-requires : tie.Need-same-tag-requires
 same-tag-requires c κs = search needs
 
 -- the comparison is the published one
-compared : (c : tie.After-same-tag) → let e = c .before .before .before .before .before .before in
+compared : (c : tie.After-same-tag) → let e = c .before .before .before .before .before .before .before .before in
     let a = e .before .before .before .before .before .before .before .before .before .args in
     same (now (a .tag)) (finalise (rowOf (a .set)) (now (a .key)) (decrypted (rowOf (a .set)) (now (a .key)) (now (a .nonce)) (now (a .ad)) (now (a .cipher)) .state))
     ≡ c .same-tag .result
 compared c =
-    let e = c .before .before .before .before .before .before in
+    let e = c .before .before .before .before .before .before .before .before in
     let a = e .before .before .before .before .before .before .before .before .before .args in
-    let h = passed e in
     let row = rowOf (a .set) in
     let K = now (a .key) in
     let tag = now (a .tag) in
     let state = decrypted row K (now (a .nonce)) (now (a .ad)) (now (a .cipher)) .state in
-    let whole = length-tag row (row-fits (a .set)) K (h .key-fits) state in
+    let whole = length-tag row (row-fits (a .set)) K (passed e .key-fits) state in
     ap (λ (t : List ℕ). same tag t)
-    (sym (take-at (finalise row K state) (zeros (16 - row .key)) (length tag) (whole ∙ sym (h .tag-fits)))
-    ∙ ap (λ (t : List ℕ). take (length tag) t) (sym (c .before .before .before .before .process .ensures .0)))
-    ∙ sym (c .same-tag .ensures ∙ same-is _ tag (omega (arith, h .tag-fits, row-sizes (a .set) .key)))
+    (sym (take-at (finalise row K state) (zeros (16 - row .key)) (row .key) whole)
+    ∙ ap₂ (λ (n : ℕ) (t : List ℕ). take n t) (sym (c .before .before .key-length .ensures)) (sym (c .before .before .before .before .before .before .process .ensures .0)))
+    ∙ sym (c .same-tag .ensures)
 
 same-length : tie.Need-same-length
 same-length c = search needs
@@ -70,18 +77,18 @@ same-length c = search needs
 returns-2 : tie.Need-returns-2
 unfolding openCall opened
 returns-2 c =
-    let e = c .before .before .before .before .before .before .before in
+    let e = c .before .before .before .before .before .before .before .before .before in
     rw (
       ← e .before .before .message-test .ensures,
       sym (e .before .is-done .ensures) ∙ not-false _ (e .if1 .left),
       compared (c .before) ∙ c .if2 .taken,
     )
-    (λ j. openLeaves (record { answer = Done; rounds = c .before .before .message-rounds .ensures j }) (c .before .before .before .before .before .process .ensures .1 j))
+    (λ j. openLeaves (record { answer = Done; rounds = c .before .before .before .before .message-rounds .ensures j }) (c .before .before .before .before .before .before .before .process .ensures .1 j))
 
 clear-requires : tie.Need-clear-requires
 clear-requires c κs =
-    let h = passed (c .before .before .before .before .before .before .before .before) in
-    omega (arith, h .room, c .before .before .before .before .before .out .given)
+    let h = passed (c .before .before .before .before .before .before .before .before .before .before) in
+    omega (arith, h .room, c .before .before .before .before .before .before .before .out .given)
 
 same-length-2 : tie.Need-same-length-2
 same-length-2 c = search needs
@@ -89,21 +96,21 @@ same-length-2 c = search needs
 returns-3 : tie.Need-returns-3
 unfolding openCall opened
 returns-3 c =
-    let e = c .before .before .before .before .before .before .before .before .before .before .before in
+    let e = c .before .before .before .before .before .before .before .before .before .before .before .before .before in
     let a = e .before .before .before .before .before .before .before .before .before .args in
     let h = passed e in
     let n = length (now (a .cipher)) in
     let text = decrypted (rowOf (a .set)) (now (a .key)) (now (a .nonce)) (now (a .ad)) (now (a .cipher)) .out in
     let size : length text ≡ n = length-decrypted (rowOf (a .set)) (row-fits (a .set)) (now (a .key)) (h .key-fits) (now (a .nonce)) (now (a .ad)) (now (a .cipher)) in
     let rest =
-    ap (λ (x : List ℕ). drop n x) (c .before .before .before .before .before .before .before .before .before .process .ensures .1)
+    ap (λ (x : List ℕ). drop n x) (c .before .before .before .before .before .before .before .before .before .before .before .process .ensures .1)
     ∙ drop-at text (drop n (now (a .out))) n size in
     rw (
       ← e .before .before .message-test .ensures,
       sym (e .before .is-done .ensures) ∙ not-false _ (e .if1 .left),
       compared (c .before .before .before .before .before) ∙ c .before .before .before .before .if2 .left,
     )
-    (λ j. openLeaves (record { answer = TagDiffers; rounds = c .before .before .before .before .before .before .message-rounds .ensures j })
+    (λ j. openLeaves (record { answer = TagDiffers; rounds = c .before .before .before .before .before .before .before .before .message-rounds .ensures j })
     ((c .before .before .clear .ensures ∙ ap (λ (x : List ℕ). zeros n ++ x) rest) j))
 
 pub open-spec : {M : Type 1} → statement M
@@ -115,6 +122,9 @@ open-spec =
     returns
     process-requires
     message-rounds-requires
+    key-length-requires
+    array-share-prefix-ours
+    slice-aggregate-same-tag
     same-tag-requires
     same-length
     returns-2

@@ -1,4 +1,4 @@
--- `stream::Stream::finish_checking` meets its contract. Assumes nothing.
+-- `stream::Stream::finish_checking` meets its contract.
 use mathlib.Core.Path.{_≡_, sym, ap, ap₂, _∙_}
 use mathlib.Core.Bool.{Bool, true, false, cond, _&&_}
 use mathlib.Core.List.{List}
@@ -6,11 +6,11 @@ use Prim.Native.Nat.{ℕ, _+_}
 use native.Mathlib.Omega.{arith}
 use denote.Ref.{now}
 use lib.ListN.{length, take}
+use lib.Seq.{length-take-le}
 use borrow.Author.Tests.{not-true, not-false}
 use Rattle.answers.specs.Numbers.{isDone}
 use Rattle.answers.specs.declared.Answer.the-variants.{Done, TagDiffers}
 use Rattle.ascon.specs.Mode.{same}
-use Rattle.tags.proofs.Compared
 use Rattle.sets.proofs.Rows.{row-sizes}
 use Rattle.stream.specs.State.{isOpen, isChecking}
 use Rattle.stream.specs.Calls.{finishTest, ownTag, finishCheckingCall}
@@ -72,34 +72,39 @@ ended-requires c κs = search needs
 tag16-requires : tie.Need-tag16-requires
 tag16-requires c κs = search needs
 
+key-length-requires : tie.Need-key-length-requires
+key-length-requires c κs = search needs
+
+array-share-prefix-ours : tie.Need-array-share-prefix-ours
+array-share-prefix-ours c = omega (arith, c .key-length .ensures, row-sizes (c .before .before .before .before .before .before .before .before .before .before .before .args .self .set) .key)
+
+slice-aggregate-same-tag : tie.Need-slice-aggregate-same-tag
+slice-aggregate-same-tag c = sym (length-take-le _ _ (array-share-prefix-ours (c .before)))
+
 same-tag-requires : tie.Need-same-tag-requires
 same-tag-requires c κs = search needs
+
+-- the comparison is with the stream's own tag
+compared : (c : tie.After-same-tag) → let a = c .before .before .before .before .before .before .before .before .before .before .before .before .before .args in same (now (a .tag)) (ownTag (a .self)) ≡ c .same-tag .result
+compared c =
+    let a = c .before .before .before .before .before .before .before .before .before .before .before .before .before .args in
+    let s = c .before .before .before .tag16 in
+    ap (λ (x : List ℕ). same (now (a .tag)) x) (sym (s .ensures) ∙ ap (λ (n : ℕ). take n (s .result)) (sym (c .before .before .key-length .ensures)))
+    ∙ sym (c .same-tag .ensures)
 
 returns-2 : tie.Need-returns-2
 unfolding finishCheckingCall
 returns-2 c =
-    let e = c .before .before .before .before .before in
-    let a = e .before .before .before .before .before .before .before .args in
-    let h = passed e in
-    let same-is : same (now (a .tag)) (ownTag (a .self)) ≡ true =
-    ap (λ (x : List ℕ). same (now (a .tag)) x)
-    (sym (c .before .before .tag16 .ensures) ∙ ap (λ (n : ℕ). take n (c .before .before .tag16 .result)) (sym (h .tag-fits)))
-    ∙ sym (c .before .same-tag .ensures ∙ Compared.same-is _ (now (a .tag)) (omega (arith, h .tag-fits, row-sizes (a .self .set) .key))) ∙ c .if2 .taken in
-    rw (← tested (e .before .before), sym (e .before .is-done .ensures) ∙ not-false _ (e .if1 .left))
-    (λ j. record { answer = sym (ap (λ (t : Bool). cond t Done TagDiffers) same-is) j; rounds = c .before .before .before .before .closing-rounds .ensures j + 12; next = c .before .before .before .ended .ensures j })
+    let e = c .before .before .before .before .before .before .before in
+    rw (← tested (e .before .before), sym (e .before .is-done .ensures) ∙ not-false _ (e .if1 .left), compared (c .before) ∙ c .if2 .taken)
+    (λ j. record { answer = Done; rounds = c .before .before .before .before .before .before .closing-rounds .ensures j + 12; next = c .before .before .before .before .before .ended .ensures j })
 
 returns-3 : tie.Need-returns-3
 unfolding finishCheckingCall
 returns-3 c =
-    let e = c .before .before .before .before .before in
-    let a = e .before .before .before .before .before .before .before .args in
-    let h = passed e in
-    let same-is : same (now (a .tag)) (ownTag (a .self)) ≡ false =
-    ap (λ (x : List ℕ). same (now (a .tag)) x)
-    (sym (c .before .before .tag16 .ensures) ∙ ap (λ (n : ℕ). take n (c .before .before .tag16 .result)) (sym (h .tag-fits)))
-    ∙ sym (c .before .same-tag .ensures ∙ Compared.same-is _ (now (a .tag)) (omega (arith, h .tag-fits, row-sizes (a .self .set) .key))) ∙ c .if2 .left in
-    rw (← tested (e .before .before), sym (e .before .is-done .ensures) ∙ not-false _ (e .if1 .left))
-    (λ j. record { answer = sym (ap (λ (t : Bool). cond t Done TagDiffers) same-is) j; rounds = c .before .before .before .before .closing-rounds .ensures j + 12; next = c .before .before .before .ended .ensures j })
+    let e = c .before .before .before .before .before .before .before in
+    rw (← tested (e .before .before), sym (e .before .is-done .ensures) ∙ not-false _ (e .if1 .left), compared (c .before) ∙ c .if2 .left)
+    (λ j. record { answer = TagDiffers; rounds = c .before .before .before .before .before .before .closing-rounds .ensures j + 12; next = c .before .before .before .before .before .ended .ensures j })
 
 pub finish-checking-spec : {M : Type 1} → statement M
 finish-checking-spec =
@@ -116,6 +121,9 @@ finish-checking-spec =
     add-rounds
     ended-requires
     tag16-requires
+    key-length-requires
+    array-share-prefix-ours
+    slice-aggregate-same-tag
     same-tag-requires
     returns-2
     returns-3)
