@@ -1,4 +1,4 @@
--- Cutting a message does not matter: the demand, from the history law and its other half. Assumes nothing.
+-- Cutting a message does not matter: the demand, from the history law and its other half.
 use mathlib.Core.Path.{_≡_, refl, sym, ap, ap₂, _∙_, subst}
 use mathlib.Core.Bool.{Bool, true, false, cond, _&&_}
 use mathlib.Core.List.{List, [], _++_, append-nil, append-assoc}
@@ -18,7 +18,7 @@ use Rattle.ascon.specs.Sets.{rowOf, dataLimit, textLimit}
 use Rattle.ascon.specs.Mode.{zeros, beforeText, encrypted, decrypted, Sealed, sealed, same, opened, finalise}
 use Rattle.ascon.specs.Bytewise.{closed}
 use Rattle.ascon.specs.Rounds.{messageRounds}
-use Rattle.ascon.proofs.Sealing.{open-sealed, seal-opened}
+use Rattle.ascon.proofs.Sealing.{length-tag, open-sealed, seal-opened}
 use Rattle.sponge.specs.Sponge.{absorbed, tagOf}
 use Rattle.sets.proofs.Rows.{row-sizes}
 use Rattle.stream.specs.declared.Direction.{Direction}
@@ -298,8 +298,17 @@ yes-same : (t : Bool) → cond t Done TagDiffers ≡ Done → t ≡ true
 yes-same true e = refl
 yes-same false e = absurd (let z : _≡_ {A = ℕ} 0 1 = cc in omega arith)
 
-checks : (set : ℕ) (K N A C : List ℕ) (calls : List Call) (tag : List ℕ) → Message ours Checking set K N A C calls → length tag ≡ rowOf set .key → CheckedWhole ours set K N A C calls tag
-checks set K N A C calls tag m e =
+-- the tests of a checking's end that says yes are passed
+yes-passed : (s : Stream) (tag : List ℕ) → finishCheckingCall s tag .answer ≡ Done → isDone (finishTest s (isOpen (s .phase) && isChecking (s .direction)) (length tag)) ≡ true
+yes-passed s tag e = go (isDone (finishTest s (isOpen (s .phase) && isChecking (s .direction)) (length tag))) refl
+  where
+    go : (t : Bool) → isDone (finishTest s (isOpen (s .phase) && isChecking (s .direction)) (length tag)) ≡ t → t ≡ true
+    go true f = refl
+    go false f = sym f ∙ ap (λ (o : Outcome). isDone (o .answer)) (sym (finish-checking-refused s tag f)) ∙ ap isDone e
+
+checks : (set : ℕ) (K N A C : List ℕ) (calls : List Call) (tag : List ℕ) → Message ours Checking set K N A C calls → CheckedWhole ours set K N A C calls tag
+unfolding sealed
+checks set K N A C calls tag m =
     let done = m .started in
     let kb = m .key-bytes in
     let h : History = after ours (begun ours Checking set K N) calls in
@@ -310,28 +319,30 @@ checks set K N A C calls tag m e =
     let row = rowOf set in
     let ft = fit Checking set K N done kb in
     let ky = key Checking set K N done kb in
-    let ok : isDone (finishTest s (isOpen (s .phase) && isChecking (s .direction)) (length tag)) ≡ true =
-    fits-finish s (isOpen (s .phase) && isChecking (s .direction)) (length tag) (reached-sound Checking set K N done kb h r (f .open-still))
+    let passed : length tag ≡ row .key → isDone (finishTest s (isOpen (s .phase) && isChecking (s .direction)) (length tag)) ≡ true =
+    λ e. fits-finish s (isOpen (s .phase) && isChecking (s .direction)) (length tag) (reached-sound Checking set K N done kb h r (f .open-still))
     (ap₂ _&&_ (f .open-still) (ap isChecking (y .direction-is))) (e ∙ ap (λ (n : ℕ). rowOf n .key) (sym (y .set-is))) in
-    let fin = finish-checking-done s tag ok in
     let own : ownTag s ≡ finalise row K (decrypted row K N A C .state) =
     own-tag Checking set K N done kb h y
     ∙ ap (λ (x : List ℕ). finalise row K x) (checked-end row ft K N ky kb (h .ad) (h .text))
     ∙ ap₂ (λ (x z : List ℕ). finalise row K (decrypted row K N x z .state)) (f .ad-is) (f .text-is) in
-    let answer : finishCheckingCall s tag .answer ≡ cond (same tag (finalise row K (decrypted row K N A C .state))) Done TagDiffers =
-    ap (λ (o : Outcome). o .answer) fin ∙ ap (λ (x : List ℕ). cond (same tag x) Done TagDiffers) own in
+    let answer : isDone (finishTest s (isOpen (s .phase) && isChecking (s .direction)) (length tag)) ≡ true
+    → finishCheckingCall s tag .answer ≡ cond (same tag (finalise row K (decrypted row K N A C .state))) Done TagDiffers =
+    λ ok. ap (λ (o : Outcome). o .answer) (finish-checking-done s tag ok) ∙ ap (λ (x : List ℕ). cond (same tag x) Done TagDiffers) own in
     record {
       yes = (
-        λ (x : finishCheckingCall s tag .answer ≡ Done).
-            (decrypted row K N A C .out, seal-opened row ft K ky N A (decrypted row K N A C .out) C tag (opened-same set K N A C tag (yes-same _ (sym answer ∙ x)))),
+        λ (x : finishCheckingCall s tag .answer ≡ Done). (
+          decrypted row K N A C .out,
+          seal-opened row ft K ky N A (decrypted row K N A C .out) C tag (opened-same set K N A C tag (yes-same _ (sym (answer (yes-passed s tag x)) ∙ x))),
+        ),
         λ (z : (P : List ℕ) × (sealed row K N A P ≡ record { cipher = C; tag = tag })).
-            answer
+            answer (passed (ap (λ (w : Sealed). length (w .tag)) (sym (z .1)) ∙ length-tag row ft K ky (encrypted row K N A (z .0) .state)))
             ∙ ap (λ (t : Bool). cond t Done TagDiffers)
             (same-opened set K N A C tag (z .0)
             (ap (λ (w : Sealed). opened row K N A (w .cipher) (w .tag)) (sym (z .1)) ∙ open-sealed row ft K ky N A (z .0))),
       );
-      rounds =
-          ap (λ (o : Outcome). h .rounds + o .rounds) fin ∙ whole-rounds Checking set K N done kb h y
+      rounds = λ e.
+          ap (λ (o : Outcome). h .rounds + o .rounds) (finish-checking-done s tag (passed e)) ∙ whole-rounds Checking set K N done kb h y
           ∙ ap₂ (λ (x z : List ℕ). messageRounds row (length x) (length z)) (f .ad-is) (f .text-is);
     }
 

@@ -53,19 +53,20 @@ module _ (m : Streams) where
     pub rounds : after m (begun m Sealing set K N) calls .rounds + m .finishSealing (after m (begun m Sealing set K N) calls .stream) tag .outcome .rounds
         ≡ messageRounds (rowOf set) (length A) (length P)
 
-  -- checking: yes exactly where the ciphertext and the tag are some text's published sealing; and all the rounds add up, yes or no
+  -- checking: yes exactly where the ciphertext and the tag are some text's published sealing, whatever the tag's length; and where that is the set's, all the rounds
+  -- add up, yes or no
   pub record CheckedWhole (set : ℕ) (K N A C : List ℕ) (calls : List Call) (tag : List ℕ) : Type 0 where
     pub yes : (m .finishChecking (after m (begun m Checking set K N) calls .stream) tag .answer ≡ Done)
         ↔ ((P : List ℕ) × (sealed (rowOf set) K N A P ≡ record { cipher = C; tag = tag }))
-    pub rounds : after m (begun m Checking set K N) calls .rounds + m .finishChecking (after m (begun m Checking set K N) calls .stream) tag .rounds
+    pub rounds : length tag ≡ rowOf set .key
+        → after m (begun m Checking set K N) calls .rounds + m .finishChecking (after m (begun m Checking set K N) calls .stream) tag .rounds
         ≡ messageRounds (rowOf set) (length A) (length C)
 
   -- the demand
   pub record CuttingDoesNotMatter : Type 0 where
     pub seals : (set : ℕ) (K N A P : List ℕ) (calls : List Call) (tag : List ℕ) → Message Sealing set K N A P calls → length tag ≡ rowOf set .key
         → SealedWhole set K N A P calls tag
-    pub checks : (set : ℕ) (K N A C : List ℕ) (calls : List Call) (tag : List ℕ) → Message Checking set K N A C calls → length tag ≡ rowOf set .key
-        → CheckedWhole set K N A C calls tag
+    pub checks : (set : ℕ) (K N A C : List ℕ) (calls : List Call) (tag : List ℕ) → Message Checking set K N A C calls → CheckedWhole set K N A C calls tag
     -- two histories of one start, in the same phase after the same data and the same text
     pub states : (d : Direction) (set : ℕ) (K N : List ℕ) → isDone (m .start d set K N .answer) ≡ true → Bytes K
         → (calls other : List Call) → BytesIn calls → BytesIn other

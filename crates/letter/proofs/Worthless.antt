@@ -1,23 +1,24 @@
--- Worthless versions are refuted, each at an input that the checker computes. Assumes nothing.
+-- Worthless versions are refuted, each at an input that the checker computes.
 use mathlib.Core.Path.{_≡_, refl, sym, ap, _∙_, subst}
-use mathlib.Core.Bool.{Bool, true, false, cond}
 use mathlib.Core.List.{List, [], _∷_, _++_}
-use Prim.Native.Nat.{ℕ, _+_, _≤_}
+use Prim.Native.Nat.{ℕ, zero, suc, _+_, _≤_}
 use native.Mathlib.Omega.{arith}
 use lib.Dec.{lit≤}
-use lib.ListN.{length, getD, take}
-use Rattle.answers.specs.declared.Answer.the-variants.{Done, TagDiffers}
+use lib.ListN.{length, getD, take, replicate, length-replicate}
+use Rattle.answers.specs.declared.Answer.the-variants.{Done}
 use Rattle.permutation.specs.Round.{_⋙_, addConstant, sBox, bit, fromBits, column, substituted, substitute, Σ₀, Σ₁, Σ₂, Σ₃, Σ₄, diffuse, round}
 use Rattle.permutation.specs.Runs.{constants, constantsOf, roundsOf, rounds, permute}
 use Rattle.permutation.specs.Strings.{bytesOf, stringOf, stateOf}
 use Rattle.permutation.specs.Strings as strings
 use Rattle.answers.specs.declared.Answer.{Answer}
-use Rattle.answers.specs.Numbers.{numberOf, isDone}
+use Rattle.answers.specs.Numbers.{numberOf}
 use Rattle.permutation.proofs.Strings.{bytes-none}
 use Rattle.ascon.specs.Sets.{table, isSet, rowOf, dataLimit}
-use Rattle.ascon.specs.Mode.{zeros, p, count, pad, firstBlock, initialise, separate, beforeText, encrypted, Sealed, sealed, opened}
+use Rattle.ascon.specs.Mode.{zeros, p, count, pad, firstBlock, initialise, separate, beforeText, encrypted, decrypted, Processed, Sealed, sealed}
 use Rattle.ascon.specs.Rounds.{dataBlocks, textBlocks, messageRounds}
 use Rattle.ascon.proofs.Strings.{bytes-zeros}
+use Rattle.ascon.proofs.Sealing.{decrypt-encrypted}
+use Rattle.sets.proofs.Rows.{row-fits, row-sizes}
 use Rattle.sponge.specs.Sponge.{given}
 use Rattle.stream.specs.declared.Direction.{Direction}
 use Rattle.stream.specs.declared.Direction.the-variants.{Sealing, Checking}
@@ -26,12 +27,10 @@ use Rattle.stream.specs.declared.Stream.{Stream}
 use Rattle.stream.specs.State.{ended, isSoundOpen, isSoundEnded, isSound}
 use Rattle.stream.specs.Calls.{startTest, pieceTest, finishTest, startCall, dataCall, tookText}
 use Rattle.stream.specs.Calls as streamed
-use Rattle.history.specs.History.{Streams, Call, giveAd, giveText, next}
+use Rattle.history.specs.History.{Streams, Call, giveAd, giveText, begun, next, after}
 use Rattle.history.specs.Cuts.{TextCut.text-end, TextCut.text-piece, Cut.data-end, Cut.data-piece, Message, CuttingDoesNotMatter}
 use Rattle.message.specs.Message.{messageTest, SealLeaves, sealCall}
-use Rattle.message.specs.Demands.{isNone}
 use Rattle.message.proofs.Demands.{is-published}
-use Rattle.message.proofs.Promise.{length-cipher, length-sealed-tag}
 use Rattle.letter.specs.Model.{Model, ours, Keeps}
 use Rattle.letter.specs.First.{Listed}
 use Rattle.letter.specs.Second.{Unrefused, Second}
@@ -51,11 +50,35 @@ two-zeros = refl
 
 -- ---- whole messages
 
--- an opening of the empty message under a tag of the right length is listed as done or as 9
-open-listed : (m : Model) → Listed m → (T : List ℕ) → length T ≡ 16
-    → m .unseal 1 sixteen sixteen [] [] T [] .outcome .answer ≡ cond (isNone (opened (rowOf 1) sixteen sixteen [] [] T)) TagDiffers Done
-unfolding isSet rowOf table
-open-listed m l T size = l .unseal 1 sixteen sixteen [] [] T [] ∙ rw size
+-- a text, from its ciphertext
+text-of : (set : ℕ) (K N A P : List ℕ) → length K ≡ rowOf set .key → decrypted (rowOf set) K N A (sealed (rowOf set) K N A P .cipher) .out ≡ P
+unfolding sealed
+text-of set K N A P key = ap (λ (w : Processed). w .out) (decrypt-encrypted (rowOf set) (row-fits set) K key N A P)
+
+-- two tags of one ciphertext are one
+one-tag : (set : ℕ) (K N A C P Q T U : List ℕ) → length K ≡ rowOf set .key → sealed (rowOf set) K N A P ≡ record { cipher = C; tag = T }
+    → sealed (rowOf set) K N A Q ≡ record { cipher = C; tag = U } → T ≡ U
+one-tag set K N A C P Q T U key e f =
+    let from : (X Y : List ℕ) → sealed (rowOf set) K N A X ≡ record { cipher = C; tag = Y } → decrypted (rowOf set) K N A C .out ≡ X = λ X Y h.
+    ap (λ (w : Sealed). decrypted (rowOf set) K N A (w .cipher) .out) (sym h) ∙ text-of set K N A X key in
+    ap (λ (w : Sealed). w .tag) (sym e ∙ ap (sealed (rowOf set) K N A) (sym (from P T e) ∙ from Q U f) ∙ f)
+
+-- so no ciphertext has every tag of the set's length
+no-every-tag : (set : ℕ) (K N A C : List ℕ) → length K ≡ rowOf set .key
+    → ((T : List ℕ) → length T ≡ rowOf set .key → (P : List ℕ) × (sealed (rowOf set) K N A P ≡ record { cipher = C; tag = T })) → ⊥
+no-every-tag set K N A C key found =
+    let k : ℕ = rowOf set .key in
+    let nought = found (of 0 k) (length-replicate k 0) in
+    let one = found (of 1 k) (length-replicate k 1) in
+    differ k (row-sizes set .some-key) (one-tag set K N A C (nought .0) (one .0) (of 0 k) (of 1 k) key (nought .1) (one .1))
+  where
+    -- a tag of one byte, again and again
+    of : ℕ → ℕ → List ℕ
+    of b k = replicate k b
+
+    differ : (k : ℕ) → 12 ≤ k → of 0 k ≡ of 1 k → ⊥
+    differ zero some e = omega (arith, some)
+    differ (suc k) some e = let bytes : _≡_ {A = ℕ} 0 1 = ap (λ (x : List ℕ). getD x 0 0) e in omega (arith, bytes)
 
 -- a good message is listed as done
 refuses : (m : Model) → ((set : ℕ) (K N A P out tag : List ℕ) → m .seal set K N A P out tag .outcome .answer ≡ Done → ⊥) → Listed m → ⊥
@@ -68,20 +91,23 @@ unfolding isSet rowOf table
 refuses-streams m undone l = undone Sealing 1 sixteen sixteen (l .start Sealing 1 sixteen sixteen)
 
 -- two texts that differ have no sealing in common
-answers-same : (m : Model) (leaves : SealLeaves) → ((set : ℕ) (K N A P out tag : List ℕ) → m .seal set K N A P out tag ≡ leaves)
-    → leaves .outcome .answer ≡ Done → Second m → ⊥
-unfolding rowOf table
-answers-same m leaves always done s =
-    let given : (P : List ℕ) → m .seal 1 sixteen sixteen [] P (0 ∷ []) sixteen ≡ leaves = λ P. always 1 sixteen sixteen [] P (0 ∷ []) sixteen in
-    let seals : (P : List ℕ) → (take (length P) (leaves .out) ≡ sealed (rowOf 1) sixteen sixteen [] P .cipher) × (leaves .tag ≡ sealed (rowOf 1) sixteen sixteen [] P .tag) = λ P.
-    let g = s .seals 1 sixteen sixteen [] P (0 ∷ []) sixteen (ap (λ (x : SealLeaves). x .outcome .answer) (given P) ∙ done) in
-    (ap (λ (x : SealLeaves). take (length P) (x .out)) (sym (given P)) ∙ g .0, ap (λ (x : SealLeaves). x .tag) (sym (given P)) ∙ g .1) in
-    let nought = seals (0 ∷ []) in
-    let one = seals (1 ∷ []) in
-    let both : sealed (rowOf 1) sixteen sixteen [] (0 ∷ []) ≡ sealed (rowOf 1) sixteen sixteen [] (1 ∷ []) =
-    λ j. record { cipher = (sym (nought .0) ∙ one .0) j; tag = (sym (nought .1) ∙ one .1) j } in
-    let differ : _≡_ {A = ℕ} 0 1 = ap (λ (x : List ℕ). getD x 0 0) (is-published .only 1 sixteen sixteen [] (0 ∷ []) (1 ∷ []) refl both) in
-    omega arith
+answers-same : (m : Model) (same : ℕ → ℕ → ℕ → ℕ → ℕ → List ℕ → List ℕ → SealLeaves)
+    → ((set : ℕ) (K N A P out tag : List ℕ) → m .seal set K N A P out tag ≡ same set (length K) (length N) (length A) (length P) out tag)
+    → (set : ℕ) (K N A : List ℕ) (byte : ℕ) (rest out tag : List ℕ) → length K ≡ rowOf set .key
+    → m .seal set K N A (byte ∷ rest) out tag .outcome .answer ≡ Done
+    → Second m → ⊥
+answers-same m same always set K N A byte rest out tag key done s =
+    let P : List ℕ = byte ∷ rest in
+    let Q : List ℕ = suc byte ∷ rest in
+    let one : m .seal set K N A P out tag ≡ m .seal set K N A Q out tag = always set K N A P out tag ∙ sym (always set K N A Q out tag) in
+    let p = s .seals set K N A P out tag done in
+    let q = s .seals set K N A Q out tag (ap (λ (x : SealLeaves). x .outcome .answer) (sym one) ∙ done) in
+    let both : sealed (rowOf set) K N A P ≡ sealed (rowOf set) K N A Q = λ j. record {
+      cipher = (sym (p .0) ∙ ap (λ (x : SealLeaves). take (length P) (x .out)) one ∙ q .0) j;
+      tag = (sym (p .1) ∙ ap (λ (x : SealLeaves). x .tag) one ∙ q .1) j;
+    } in
+    let bytes : byte ≡ suc byte = ap (λ (x : List ℕ). getD x 0 0) (is-published .only set K N A P Q key both) in
+    omega (arith, bytes)
 
 -- two zeros are not their own ciphertext
 copies : (m : Model)
@@ -95,41 +121,24 @@ copies m copied l s =
     let differ : _≡_ {A = ℕ} 0 0x27 = ap (λ (x : List ℕ). getD x 0 0) (same ∙ two-zeros) in
     omega arith
 
--- the empty message's tag is one tag
-one-tag : (T U : List ℕ) → sealed (rowOf 1) sixteen sixteen [] [] ≡ record { cipher = []; tag = T } → sealed (rowOf 1) sixteen sixteen [] [] ≡ record { cipher = []; tag = U }
-    → T ≡ U
-one-tag T U e f = ap (λ (x : Sealed). x .tag) (sym e ∙ f)
-
--- an opening that never differs opens the empty message under two tags
-takes-every-tag : (m : Model) → ((set : ℕ) (K N A C T out : List ℕ) → m .unseal set K N A C T out .outcome .answer ≡ TagDiffers → ⊥) → Listed m → Second m → ⊥
-unfolding isSet rowOf table
-takes-every-tag m same l s =
-    let nought = opened-under (zeros 16) refl in
-    let one = opened-under (1 ∷ zeros 15) refl in
-    let differ : _≡_ {A = ℕ} 0 1 = ap (λ (x : List ℕ). getD x 0 0) (one-tag (zeros 16) (1 ∷ zeros 15) nought one) in
-    omega arith
+-- a done opening is the sealing of what it hands out
+takes-every-tag : (m : Model) (set : ℕ) (K N A C out : List ℕ) → length K ≡ rowOf set .key
+    → ((T : List ℕ) → length T ≡ rowOf set .key → m .unseal set K N A C T out .outcome .answer ≡ Done)
+    → Second m → ⊥
+takes-every-tag m set K N A C out key done s =
+    no-every-tag set K N A C key (λ T size.
+    (take (length C) (m .unseal set K N A C T out .out), s .opens set K N A C T out (unrefused _ (done T size)) _ .0 (done T size, refl)))
   where
-    opened-under : (T : List ℕ) → length T ≡ 16 → sealed (rowOf 1) sixteen sixteen [] [] ≡ record { cipher = []; tag = T }
-    opened-under T size =
-        let answer = open-listed m l T size in
-        let done : m .unseal 1 sixteen sixteen [] [] T [] .outcome .answer ≡ Done = go (isNone (opened (rowOf 1) sixteen sixteen [] [] T)) answer in
-        s .opens 1 sixteen sixteen [] [] T [] (λ r. let none : numberOf (m .unseal 1 sixteen sixteen [] [] T [] .outcome .answer) ≡ 0 = ap numberOf done in omega (arith, r .0, none)) [] .0 (done, refl)
-      where
-        go : (b : Bool) → m .unseal 1 sixteen sixteen [] [] T [] .outcome .answer ≡ cond b TagDiffers Done → m .unseal 1 sixteen sixteen [] [] T [] .outcome .answer ≡ Done
-        go true e = absurd (same 1 sixteen sixteen [] [] T [] e)
-        go false e = e
+    unrefused : (answer : Answer) → answer ≡ Done → Unrefused answer
+    unrefused answer e r = let none : numberOf answer ≡ 0 = ap numberOf e in omega (arith, r .0, none)
 
--- the empty message's own tag opens it
-takes-no-tag : (m : Model) → ((set : ℕ) (K N A C T out : List ℕ) → m .unseal set K N A C T out .outcome .answer ≡ Done → ⊥) → Listed m → Second m → ⊥
-unfolding isSet rowOf table sealed encrypted pad count
-takes-no-tag m never l s =
-    let T : List ℕ = sealed (rowOf 1) sixteen sixteen [] [] .tag in
-    let answer = open-listed m l T (length-sealed-tag 1 sixteen sixteen [] [] refl) in
-    never 1 sixteen sixteen [] [] T [] (s .opens 1 sixteen sixteen [] [] T [] (unrefused _ (isNone (opened (rowOf 1) sixteen sixteen [] [] T)) answer) [] .1 refl .0)
-  where
-    unrefused : (answer : Answer) (b : Bool) → answer ≡ cond b TagDiffers Done → Unrefused answer
-    unrefused answer true e r = let nine : numberOf answer ≡ 9 = ap numberOf e in omega (arith, r .1, nine)
-    unrefused answer false e r = let none : numberOf answer ≡ 0 = ap numberOf e in omega (arith, r .0, none)
+-- a published sealing is opened where it is not refused
+takes-no-tag : (m : Model) (set : ℕ) (K N A P out : List ℕ) → let published = sealed (rowOf set) K N A P in
+    let answer = m .unseal set K N A (published .cipher) (published .tag) out .outcome .answer in
+    Unrefused answer → (answer ≡ Done → ⊥) → Second m → ⊥
+takes-no-tag m set K N A P out unrefused undone s =
+    let published = sealed (rowOf set) K N A P in
+    undone (s .opens set K N A (published .cipher) (published .tag) out unrefused P .1 refl .0)
 
 -- nothing and nothing takes 24 rounds, seven bytes and seven take 30
 makes-up : (m : Model) (n : ℕ)
@@ -202,38 +211,13 @@ makes-up-streams m start piece text finish e t =
     let eight : start + piece + finish ≡ 36 = cutting .seals 1 sixteen sixteen (zeros 8) [] (giveAd (zeros 8) ∷ []) sixteen (message 8 (lit≤ tt)) refl .rounds in
     omega arith
 
--- a checking that always says yes takes the empty message under two tags
-says-yes : (m : Model)
-    → ((set : ℕ) (K N tag : List ℕ) → m .streams .finishChecking (m .streams .start Checking set K N .next) tag .answer ≡ Done)
-    → Listed m → Third m → ⊥
-unfolding isSet rowOf table
-says-yes m agrees l t =
-    let nought = said (zeros 16) refl in
-    let one = said (1 ∷ zeros 15) refl in
-    let differ : _≡_ {A = ℕ} 0 1 = ap (λ (x : List ℕ). getD x 0 0) (one-tag (zeros 16) (1 ∷ zeros 15) nought one) in
-    omega arith
-  where
-    message : Message (m .streams) Checking 1 sixteen sixteen [] [] []
-    message = record {
-      started = ap isDone (l .start Checking 1 sixteen sixteen);
-      key-bytes = bytes-zeros 16;
-      bytes = tt;
-      data-within = lit≤ tt;
-      text-within = lit≤ tt;
-      cut = data-end text-end;
-    }
-
-    -- a text with no ciphertext is no text
-    none : (T P : List ℕ) → sealed (rowOf 1) sixteen sixteen [] P ≡ record { cipher = []; tag = T } → sealed (rowOf 1) sixteen sixteen [] [] ≡ record { cipher = []; tag = T }
-    none T [] e = e
-    none T (x ∷ P) e =
-        let size : length (x ∷ P) ≡ 0 = sym (length-cipher 1 sixteen sixteen [] (x ∷ P) refl) ∙ ap (λ (w : Sealed). length (w .cipher)) e in
-        absurd (omega (arith, size))
-
-    said : (T : List ℕ) → length T ≡ 16 → sealed (rowOf 1) sixteen sixteen [] [] ≡ record { cipher = []; tag = T }
-    said T size =
-        let found = t .cutting .checks 1 sixteen sixteen [] [] [] T message size .yes .0 (agrees 1 sixteen sixteen T) in
-        none T (found .0) (found .1)
+-- a checking's yes is a sealing under the tag
+says-yes : (m : Model) (set : ℕ) (K N A C : List ℕ) (calls : List Call) → length K ≡ rowOf set .key → Message (m .streams) Checking set K N A C calls
+    → ((tag : List ℕ) → length tag ≡ rowOf set .key
+    → m .streams .finishChecking (after (m .streams) (begun (m .streams) Checking set K N) calls .stream) tag .answer ≡ Done)
+    → Third m → ⊥
+says-yes m set K N A C calls key message agrees t =
+    no-every-tag set K N A C key (λ tag size. t .cutting .checks set K N A C calls tag message .yes .0 (agrees tag size))
 
 -- a start runs twelve rounds
 reports-late : (m : Model) → ((d : Direction) (set : ℕ) (K N : List ℕ) → m .streams .start d set K N .rounds ≡ 0) → Listed m → Reported m → ⊥

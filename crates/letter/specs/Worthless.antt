@@ -1,23 +1,26 @@
 -- Worthless versions, and what each of them breaks.
 use mathlib.Core.Bool.{cond, not, _&&_}
-use mathlib.Core.List.{List, _++_}
+use mathlib.Core.List.{List, _∷_, _++_}
 use mathlib.Core.Path.{_≡_}
 use Prim.Native.Nat.{ℕ}
 use lib.Dec.{eqb}
 use lib.ListN.{length, take, drop}
-use Rattle.answers.specs.declared.Answer.the-variants.{Done, TagDiffers}
+use Rattle.answers.specs.declared.Answer.the-variants.{Done}
 use Rattle.answers.specs.Numbers.{isDone}
+use Rattle.ascon.specs.Sets.{rowOf}
+use Rattle.ascon.specs.Mode.{sealed}
 use Rattle.stream.specs.declared.Direction.{Direction}
 use Rattle.stream.specs.declared.Direction.the-variants.{Checking}
 use Rattle.stream.specs.declared.Stream.{Stream}
 use Rattle.stream.specs.declared.Outcome.{Outcome}
 use Rattle.stream.specs.State.{ended}
 use Rattle.stream.specs.Calls.{called}
-use Rattle.history.specs.History.{Streams}
+use Rattle.history.specs.History.{Streams, Call, begun, after}
+use Rattle.history.specs.Cuts.{Message}
 use Rattle.message.specs.Message.{SealLeaves}
 use Rattle.letter.specs.Model.{Model, ours, Keeps}
 use Rattle.letter.specs.First.{Listed}
-use Rattle.letter.specs.Second.{Second}
+use Rattle.letter.specs.Second.{Unrefused, Second}
 use Rattle.letter.specs.Third.{Third}
 use Rattle.letter.specs.Reported.{Reported}
 
@@ -70,9 +73,13 @@ pub record Worthless : Type 0 where
   -- never to say done breaks the listed conditions, whatever the refusals are and whatever they leave
   pub refuses : (m : Model) → ((set : ℕ) (K N A P out tag : List ℕ) → m .seal set K N A P out tag .outcome .answer ≡ Done → ⊥) → Listed m → ⊥
   pub refuses-streams : (m : Model) → ((d : Direction) (set : ℕ) (K N : List ℕ) → m .streams .start d set K N .answer ≡ Done → ⊥) → Listed m → ⊥
-  -- the same done answer always breaks the second demand, whatever it leaves
-  pub answers-same : (m : Model) (leaves : SealLeaves) → ((set : ℕ) (K N A P out tag : List ℕ) → m .seal set K N A P out tag ≡ leaves)
-      → leaves .outcome .answer ≡ Done → Second m → ⊥
+  -- a sealing that answers and leaves the same for all keys, nonces, data and texts of the same lengths, be it the places as they were, breaks the second demand
+  -- once it is done with a text that is not empty
+  pub answers-same : (m : Model) (same : ℕ → ℕ → ℕ → ℕ → ℕ → List ℕ → List ℕ → SealLeaves)
+      → ((set : ℕ) (K N A P out tag : List ℕ) → m .seal set K N A P out tag ≡ same set (length K) (length N) (length A) (length P) out tag)
+      → (set : ℕ) (K N A : List ℕ) (byte : ℕ) (rest out tag : List ℕ) → length K ≡ rowOf set .key
+      → m .seal set K N A (byte ∷ rest) out tag .outcome .answer ≡ Done
+      → Second m → ⊥
   -- a done sealing that copies the text breaks the second demand
   pub copies : (m : Model)
       → ((set : ℕ) (K N A P out tag : List ℕ) → let leaves = m .seal set K N A P out tag in leaves .outcome .answer ≡ Done → take (length P) (leaves .out) ≡ P)
@@ -80,14 +87,19 @@ pub record Worthless : Type 0 where
   -- such streams break the third demand, whatever the rest of the model is
   pub copies-later : (m : Model) → m .streams ≡ laterCopied → Third m → ⊥
   pub ends-early : (m : Model) → m .streams ≡ emptyEnds → Third m → ⊥
-  -- an opening that takes every tag, or none, breaks the second demand; a checking that says yes always breaks the third
-  pub takes-every-tag : (m : Model) → ((set : ℕ) (K N A C T out : List ℕ) → m .unseal set K N A C T out .outcome .answer ≡ TagDiffers → ⊥)
-      → Listed m → Second m → ⊥
-  pub takes-no-tag : (m : Model) → ((set : ℕ) (K N A C T out : List ℕ) → m .unseal set K N A C T out .outcome .answer ≡ Done → ⊥)
-      → Listed m → Second m → ⊥
-  pub says-yes : (m : Model)
-      → ((set : ℕ) (K N tag : List ℕ) → m .streams .finishChecking (m .streams .start Checking set K N .next) tag .answer ≡ Done)
-      → Listed m → Third m → ⊥
+  -- an opening that is done with one ciphertext under every tag of the set's length breaks the second demand
+  pub takes-every-tag : (m : Model) (set : ℕ) (K N A C out : List ℕ) → length K ≡ rowOf set .key
+      → ((T : List ℕ) → length T ≡ rowOf set .key → m .unseal set K N A C T out .outcome .answer ≡ Done)
+      → Second m → ⊥
+  -- so does one that gives no refusal 1 to 6 to a published ciphertext and tag, and is not done
+  pub takes-no-tag : (m : Model) (set : ℕ) (K N A P out : List ℕ) → let published = sealed (rowOf set) K N A P in
+      let answer = m .unseal set K N A (published .cipher) (published .tag) out .outcome .answer in
+      Unrefused answer → (answer ≡ Done → ⊥) → Second m → ⊥
+  -- a checking that, after one cut message, says yes to every tag of the set's length breaks the third demand, whatever else its finish refuses
+  pub says-yes : (m : Model) (set : ℕ) (K N A C : List ℕ) (calls : List Call) → length K ≡ rowOf set .key → Message (m .streams) Checking set K N A C calls
+      → ((tag : List ℕ) → length tag ≡ rowOf set .key
+      → m .streams .finishChecking (after (m .streams) (begun (m .streams) Checking set K N) calls .stream) tag .answer ≡ Done)
+      → Third m → ⊥
   -- the same rounds always break the contract of whole messages, and rounds by the kind of the call the sum of the third demand
   pub makes-up : (m : Model) (n : ℕ)
       → ((set : ℕ) (K N A P out tag : List ℕ) → let outcome = m .seal set K N A P out tag .outcome in outcome .answer ≡ Done → outcome .rounds ≡ n)
