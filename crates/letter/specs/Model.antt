@@ -73,33 +73,33 @@ Gives allowed a r = Leaves allowed a r a
 -- each call of a model gives what the contract of the code allows
 pub record Keeps (m : Model) : Type 0 where
   pub start : (d : Direction) (set : ℕ) (key nonce : Lent)
-      → Gives stream.Stream.start.Reads.Post (d, (set, (key, (nonce, tt)))) (m .streams .start d set (key .now) (nonce .now))
-  pub ad : (s : Stream) (piece : Lent) → Gives stream.Stream.ad.Reads.Post (s, (piece, tt)) (m .streams .ad s (piece .now))
+      → Gives stream.Stream.start.Reads.Learnt (d, (set, (key, (nonce, tt)))) (m .streams .start d set (key .now) (nonce .now))
+  pub ad : (s : Stream) (piece : Lent) → Gives stream.Stream.ad.Reads.Learnt (s, (piece, tt)) (m .streams .ad s (piece .now))
   pub seal-piece : (s : Stream) (piece out : Lent) → let leaves = m .streams .seal s (piece .now) (out .now) in
-      Leaves stream.Stream.seal.Reads.Post (s, (piece, (out, tt))) (leaves .outcome) (s, (piece, (holding out (leaves .lent), tt)))
-  pub check : (s : Stream) (piece : Lent) → Gives stream.Stream.check.Reads.Post (s, (piece, tt)) (m .streams .check s (piece .now))
+      Leaves stream.Stream.seal.Reads.Learnt (s, (piece, (out, tt))) (leaves .outcome) (s, (piece, (holding out (leaves .lent), tt)))
+  pub check : (s : Stream) (piece : Lent) → Gives stream.Stream.check.Reads.Learnt (s, (piece, tt)) (m .streams .check s (piece .now))
   pub finish-sealing : (s : Stream) (tag : Lent) → let leaves = m .streams .finishSealing s (tag .now) in
-      Leaves stream.Stream.finish_sealing.Reads.Post (s, (tag, tt)) (leaves .outcome) (s, (holding tag (leaves .lent), tt))
+      Leaves stream.Stream.finish_sealing.Reads.Learnt (s, (tag, tt)) (leaves .outcome) (s, (holding tag (leaves .lent), tt))
   pub finish-checking : (s : Stream) (tag : Lent)
-      → Gives stream.Stream.finish_checking.Reads.Post (s, (tag, tt)) (m .streams .finishChecking s (tag .now))
-  pub start-test : (set key nonce : ℕ) → Gives stream.start_test.Reads.Post (set, (key, (nonce, tt))) (m .startTest set key nonce)
+      → Gives stream.Stream.finish_checking.Reads.Learnt (s, (tag, tt)) (m .streams .finishChecking s (tag .now))
+  pub start-test : (set key nonce : ℕ) → Gives stream.start_test.Reads.Learnt (set, (key, (nonce, tt))) (m .startTest set key nonce)
   pub seal : (set : ℕ) (key nonce ad text out tag : Lent) → let leaves = m .seal set (key .now) (nonce .now) (ad .now) (text .now) (out .now) (tag .now) in
-      Leaves message.seal.Reads.Post (set, (key, (nonce, (ad, (text, (out, (tag, tt))))))) (leaves .outcome)
+      Leaves message.seal.Reads.Learnt (set, (key, (nonce, (ad, (text, (out, (tag, tt))))))) (leaves .outcome)
       (set, (key, (nonce, (ad, (text, (holding out (leaves .out), (holding tag (leaves .tag), tt)))))))
   pub unseal : (set : ℕ) (key nonce ad cipher tag out : Lent) → let leaves = m .unseal set (key .now) (nonce .now) (ad .now) (cipher .now) (tag .now) (out .now) in
-      Leaves message.«open».Reads.Post (set, (key, (nonce, (ad, (cipher, (tag, (out, tt))))))) (leaves .outcome)
+      Leaves message.«open».Reads.Learnt (set, (key, (nonce, (ad, (cipher, (tag, (out, tt))))))) (leaves .outcome)
       (set, (key, (nonce, (ad, (cipher, (tag, (holding out (leaves .out), tt)))))))
   pub seal-word : (set : ℕ) (key nonce ad text out tag : Lent) → let leaves = m .sealWord set (key .now) (nonce .now) (ad .now) (text .now) (out .now) (tag .now) in
-      Leaves gateway.kvistmaur_seal.Reads.Post (set, (key, (nonce, (ad, (text, (out, (tag, tt))))))) (leaves .word)
+      Leaves gateway.kvistmaur_seal.Reads.Learnt (set, (key, (nonce, (ad, (text, (out, (tag, tt))))))) (leaves .word)
       (set, (key, (nonce, (ad, (text, (holding out (leaves .out), (holding tag (leaves .tag), tt)))))))
   pub open-word : (set : ℕ) (key nonce ad cipher tag out : Lent) → let leaves = m .openWord set (key .now) (nonce .now) (ad .now) (cipher .now) (tag .now) (out .now) in
-      Leaves gateway.kvistmaur_open.Reads.Post (set, (key, (nonce, (ad, (cipher, (tag, (out, tt))))))) (leaves .word)
+      Leaves gateway.kvistmaur_open.Reads.Learnt (set, (key, (nonce, (ad, (cipher, (tag, (out, tt))))))) (leaves .word)
       (set, (key, (nonce, (ad, (cipher, (tag, (holding out (leaves .out), tt)))))))
-  pub read : (text : Lent) → Gives record-crate.read.Reads.Post (text, tt) (m .read (text .now))
+  pub read : (text : Lent) → Gives record-crate.read.Reads.Learnt (text, tt) (m .read (text .now))
   pub write : (entry : Record) (place : Lent) → let leaves = m .write entry (place .now) in
-      Leaves record-crate.write.Reads.Post (entry, (place, tt)) (leaves .outcome) (entry, (holding place (leaves .out), tt))
-  pub judge : (entry : Record) → Gives judging.judge.Reads.Post (entry, tt) (m .judge entry)
+      Leaves record-crate.write.Reads.Learnt (entry, (place, tt)) (leaves .outcome) (entry, (holding place (leaves .out), tt))
+  pub judge : (entry : Record) → Gives judging.judge.Reads.Learnt (entry, tt) (m .judge entry)
   pub report : (number : ℕ) (verdict : Verdict) (place : Lent) → let leaves = m .report number verdict (place .now) in
-      Leaves reporting.report.Reads.Post (number, (verdict, (place, tt))) (leaves .outcome) (number, (verdict, (holding place (leaves .place), tt)))
+      Leaves reporting.report.Reads.Learnt (number, (verdict, (place, tt))) (leaves .outcome) (number, (verdict, (holding place (leaves .place), tt)))
   pub step : (window : Lent) (over : Bool) (number : ℕ) (place : Lent) → let leaves = m .step (window .now) over number (place .now) in
-      Leaves judging.judge_window.Reads.Post (window, (over, (number, (place, tt)))) (leaves .step) (window, (over, (number, (holding place (leaves .place), tt))))
+      Leaves judging.judge_window.Reads.Learnt (window, (over, (number, (place, tt)))) (leaves .step) (window, (over, (number, (holding place (leaves .place), tt))))
