@@ -1,7 +1,9 @@
 -- The letter is answered.
 use Rattle.ascon.specs.Sets.{rowOf}
 use Rattle.ascon.specs.Mode.{encrypted, sealed}
+use Rattle.permutation.proofs.Known as permutation
 use Rattle.ascon.proofs.Cases.{cases}
+use Rattle.ascon.proofs.Known as ascon
 use Rattle.ascon.proofs.Sealing.{bytes-tag, bytes-encrypted, bytes-decrypted}
 use Rattle.sets.proofs.Rows.{row-fits}
 use Rattle.ascon.proofs.Rounds.{runs-total}
@@ -25,6 +27,8 @@ letter =
       reported = reports;
       some-model = keeps;
       cases = cases;
+      known-runs = permutation.known;
+      known-messages = ascon.known;
       counted = runs-total;
       marked = runs-marked;
       sealed-bytes = λ set K N A P key k h.

@@ -2,21 +2,24 @@
 use mathlib.Core.Path.{_≡_, refl, sym, ap, _∙_}
 use mathlib.Core.Bool.{Bool, true, false, cond, _&&_, false≢true}
 use mathlib.Core.List.{List, _++_}
-use mathlib.Core.Logic.{inl, inr}
+use mathlib.Core.Logic.{_⊎_, inl, inr}
 use mathlib.Core.Option.{Option, some, none}
 use Prim.Native.Nat.{ℕ, _+_, _-_, _≤_}
 use native.Mathlib.Omega.{arith}
 use lib.Dec.{eqb, leb}
-use lib.ListN.{length, drop}
+use lib.ListN.{length, take, drop, length-append, length-drop}
+use lib.Seq.{drop-at}
+use borrow.Author.Tests.{leb-true}
 use Rattle.answers.specs.declared.Answer.{Answer}
-use Rattle.answers.specs.declared.Answer.the-variants.{Done, TagLength, NoRoom, OutOfPhase, BrokenState, TagDiffers}
+use Rattle.answers.specs.declared.Answer.the-variants.{Done, TagLength, NoRoom, OutOfPhase, BrokenState, TagDiffers, BrokenRecord}
 use Rattle.answers.specs.Numbers.{numberOf, isDone}
 use Rattle.ascon.specs.Sets.{rowOf, dataLimit, textLimit}
-use Rattle.ascon.specs.Mode.{zeros, initialise, same, opened}
+use Rattle.ascon.specs.Mode.{zeros, p, initialise, same, opened}
 use Rattle.ascon.specs.Rounds.{messageRounds}
 use Rattle.permutation.specs.Strings.{wordsOfString}
 use Rattle.sponge.specs.declared.Way.the-variants.{Seal, Open}
-use Rattle.sponge.specs.Sponge.{absorbed, given}
+use Rattle.ascon.proofs.Bytewise.{length-outs}
+use Rattle.sponge.specs.Sponge.{keepOf, frontOf, absorbed, given}
 use Rattle.stream.specs.declared.Direction.{Direction}
 use Rattle.stream.specs.declared.Phase.the-variants.{Data, Text}
 use Rattle.stream.specs.declared.Stream.{Stream}
@@ -25,6 +28,17 @@ use Rattle.stream.specs.State.{isData, isOpen, isSealing, isChecking, ended, is
 use Rattle.stream.specs.Calls.{refused, decided, startTest, pieceTest, finishTest, filledRounds, closingRounds, startCall, dataCall, tookData, textWords, tookText, called, sealCall, checkCall, ownTag, finishedWith, finishSealingCall, finishCheckingCall}
 use Rattle.message.specs.Message.{messageTest, SealLeaves, openLeaves, judged, openCall}
 use Rattle.message.proofs.Demands.{test-small, is-published}
+use Rattle.record.specs.declared.lines.Record.{Record}
+use Rattle.record.specs.Form.{broken}
+use Rattle.record.specs.Text.{textOf}
+use Rattle.record.specs.Calls.{readCall, writeLeaves, writeCall}
+use Rattle.record.specs.Laws.{Typed}
+use Rattle.record.proofs.Laws.{taken-inside, reads-and-writes}
+use Rattle.report.specs.declared.Verdict.{Verdict}
+use Rattle.report.specs.Reports.{reportText, ReportLeaves, reportLeaves, reportCall}
+use Rattle.judge.specs.declared.stepping.Step.the-variants.{Wait, End, Short}
+use Rattle.judge.specs.Steps.{verdictRead, isFinal, stepLeaves, stepBy, stepCall}
+use Rattle.judge.specs.Steps as steps
 use Rattle.letter.specs.Model.{Model, ours, Keeps}
 use Rattle.letter.specs.Reported.{Through, Reported}
 use Rattle.letter.proofs.First.{of-kept}
@@ -80,40 +94,59 @@ check-reports s piece e =
     (ap (λ (x : Outcome). x .rounds) done, ap (λ (x : Outcome). x .next .phase) done)
 
 -- a piece of text
-seal-reports : (s : Stream) (piece out : List ℕ) → let outcome = sealCall s piece out .outcome in
-    outcome .answer ≡ Done → (outcome .rounds ≡ closingRounds s + filledRounds (rowOf (s .set)) (s .text) (length piece)) × (outcome .next .phase ≡ Text)
-unfolding sealCall tookText
+seal-reports : (s : Stream) (piece out : List ℕ) → let leaves = sealCall s piece out in
+    leaves .outcome .answer ≡ Done
+    → (leaves .outcome .rounds ≡ closingRounds s + filledRounds (rowOf (s .set)) (s .text) (length piece))
+    × (leaves .outcome .next .phase ≡ Text)
+    × (length (leaves .lent) ≡ length out)
+    × (drop (length piece) (leaves .lent) ≡ drop (length piece) out)
+unfolding sealCall tookText given
 seal-reports s piece out =
     let row = rowOf (s .set) in
-    go (pieceTest s (isOpen (s .phase) && isSealing (s .direction)) (s .text) (length piece) textLimit) (leb (length piece) (length out))
-    (tookText s (absorbed row Seal (textWords s) (s .text) piece) (length piece)) (given row Seal (textWords s) (s .text) piece ++ drop (length piece) out) (refl, refl)
+    let size : length (given row Seal (textWords s) (s .text) piece) ≡ length piece =
+    length-outs (row .block) (p (row .between)) (keepOf Seal) (frontOf row (textWords s) (s .text)) piece in
+    go (pieceTest s (isOpen (s .phase) && isSealing (s .direction)) (s .text) (length piece) textLimit) (leb (length piece) (length out)) refl
+    (tookText s (absorbed row Seal (textWords s) (s .text) piece) (length piece)) (given row Seal (textWords s) (s .text) piece) refl refl size
   where
-    go : (answer : Answer) (room : Bool) (done : Outcome) (given : List ℕ)
-        → (done .rounds ≡ closingRounds s + filledRounds (rowOf (s .set)) (s .text) (length piece)) × (done .next .phase ≡ Text)
-        → let outcome = cond (isDone answer) (cond room (called done given) (called (refused NoRoom s) out)) (called (refused answer s) out) .outcome in
-        outcome .answer ≡ Done → (outcome .rounds ≡ closingRounds s + filledRounds (rowOf (s .set)) (s .text) (length piece)) × (outcome .next .phase ≡ Text)
-    go answer room done given k = by (isDone answer) room refl
+    go : (answer : Answer) (room : Bool) → leb (length piece) (length out) ≡ room
+        → (done : Outcome) (given : List ℕ) → done .rounds ≡ closingRounds s + filledRounds (rowOf (s .set)) (s .text) (length piece) → done .next .phase ≡ Text
+        → length given ≡ length piece
+        → let leaves = cond (isDone answer) (cond room (called done (given ++ drop (length piece) out)) (called (refused NoRoom s) out)) (called (refused answer s) out) in
+        leaves .outcome .answer ≡ Done
+        → (leaves .outcome .rounds ≡ closingRounds s + filledRounds (rowOf (s .set)) (s .text) (length piece))
+        × (leaves .outcome .next .phase ≡ Text)
+        × (length (leaves .lent) ≡ length out)
+        × (drop (length piece) (leaves .lent) ≡ drop (length piece) out)
+    go answer room h done given rounds phase size = by (isDone answer) refl room h
       where
-        by : (b room : Bool) → isDone answer ≡ b
-            → let outcome = cond b (cond room (called done given) (called (refused NoRoom s) out)) (called (refused answer s) out) .outcome in
-            outcome .answer ≡ Done → (outcome .rounds ≡ closingRounds s + filledRounds (rowOf (s .set)) (s .text) (length piece)) × (outcome .next .phase ≡ Text)
-        by true true f e = k
-        by true false f e = absurd (let z : _≡_ {A = ℕ} 6 0 = ap numberOf e in omega arith)
-        by false room f e = absurd (false≢true (sym f ∙ ap isDone e))
+        by : (b : Bool) → isDone answer ≡ b → (room : Bool) → leb (length piece) (length out) ≡ room
+            → let leaves = cond b (cond room (called done (given ++ drop (length piece) out)) (called (refused NoRoom s) out)) (called (refused answer s) out) in
+            leaves .outcome .answer ≡ Done
+            → (leaves .outcome .rounds ≡ closingRounds s + filledRounds (rowOf (s .set)) (s .text) (length piece))
+            × (leaves .outcome .next .phase ≡ Text)
+            × (length (leaves .lent) ≡ length out)
+            × (drop (length piece) (leaves .lent) ≡ drop (length piece) out)
+        by true f true h e =
+            let fits : length piece ≤ length out = leb-true (length piece) (length out) h in
+            let all = length-append given (drop (length piece) out) in
+            let rest = length-drop (length piece) out in
+            (rounds, phase, omega (arith, all, rest, size, fits), drop-at given (drop (length piece) out) (length piece) size)
+        by true f false h e = absurd (let z : _≡_ {A = ℕ} 6 0 = ap numberOf e in omega arith)
+        by false f room h e = absurd (false≢true (sym f ∙ ap isDone e))
 
 -- the end of a sealing
-finish-sealing-reports : (s : Stream) (tag : List ℕ) → let outcome = finishSealingCall s tag .outcome in
-    outcome .answer ≡ Done → (outcome .rounds ≡ closingRounds s + 12) × (outcome .next ≡ ended)
+finish-sealing-reports : (s : Stream) (tag : List ℕ) → let leaves = finishSealingCall s tag in
+    leaves .outcome .answer ≡ Done → (leaves .outcome .rounds ≡ closingRounds s + 12) × (leaves .outcome .next ≡ ended) × (leaves .lent ≡ ownTag s)
 unfolding finishSealingCall
 finish-sealing-reports s tag = go (finishTest s (isOpen (s .phase) && isSealing (s .direction)) (length tag))
   where
-    go : (answer : Answer) → let outcome = cond (isDone answer) (called (finishedWith Done s) (ownTag s)) (called (refused answer s) tag) .outcome in
-        outcome .answer ≡ Done → (outcome .rounds ≡ closingRounds s + 12) × (outcome .next ≡ ended)
+    go : (answer : Answer) → let leaves = cond (isDone answer) (called (finishedWith Done s) (ownTag s)) (called (refused answer s) tag) in
+        leaves .outcome .answer ≡ Done → (leaves .outcome .rounds ≡ closingRounds s + 12) × (leaves .outcome .next ≡ ended) × (leaves .lent ≡ ownTag s)
     go answer = by (isDone answer) refl
       where
-        by : (b : Bool) → isDone answer ≡ b → let outcome = cond b (called (finishedWith Done s) (ownTag s)) (called (refused answer s) tag) .outcome in
-            outcome .answer ≡ Done → (outcome .rounds ≡ closingRounds s + 12) × (outcome .next ≡ ended)
-        by true f e = (refl, refl)
+        by : (b : Bool) → isDone answer ≡ b → let leaves = cond b (called (finishedWith Done s) (ownTag s)) (called (refused answer s) tag) in
+            leaves .outcome .answer ≡ Done → (leaves .outcome .rounds ≡ closingRounds s + 12) × (leaves .outcome .next ≡ ended) × (leaves .lent ≡ ownTag s)
+        by true f e = (refl, refl, refl)
         by false f e = absurd (false≢true (sym f ∙ ap isDone e))
 
 -- the end of a checking
@@ -159,6 +192,68 @@ open-message-reports set K N A C T out =
         by false f o (inl e) = absurd (false≢true (sym f ∙ ap isDone e))
         by false f o (inr e) = absurd (let nine : numberOf answer ≡ 9 = ap numberOf e in omega (arith, nine, small))
 
+-- a reading
+read-reports : (text : List ℕ) → let reading = readCall text in
+    reading .answer ≡ Done
+    → (reading .taken ≤ length text)
+    × (take (reading .taken) text ≡ textOf (reading .content))
+    × ((broken (reading .content) ≡ 0) × Typed (reading .content))
+read-reports text e = (taken-inside text e .1, reads-and-writes .spelled text e, reads-and-writes .read-in-form text e)
+
+-- a record written
+write-reports : (r : Record) (out : List ℕ) → let leaves = writeCall r out in
+    leaves .outcome .answer ≡ Done → (leaves .outcome .written ≡ length (textOf r)) × (leaves .out ≡ textOf r ++ drop (length (textOf r)) out)
+unfolding writeCall
+write-reports r out = go (eqb (broken r) 0) (leb (length (textOf r)) (length out))
+  where
+    text : List ℕ
+    text = textOf r
+
+    go : (form room : Bool) → let leaves = cond form
+        (cond room (writeLeaves (record { answer = Done; line = 0; written = length text }) (text ++ drop (length text) out)) (writeLeaves (record { answer = NoRoom; line = 0; written = 0 }) out))
+        (writeLeaves (record { answer = BrokenRecord; line = broken r; written = 0 }) out) in
+        leaves .outcome .answer ≡ Done → (leaves .outcome .written ≡ length text) × (leaves .out ≡ text ++ drop (length text) out)
+    go true true e = (refl, refl)
+    go true false e = absurd (let z : _≡_ {A = ℕ} 6 0 = ap numberOf e in omega arith)
+    go false room e = absurd (let z : _≡_ {A = ℕ} 10 0 = ap numberOf e in omega arith)
+
+-- a report written
+report-reports : (number : ℕ) (verdict : Verdict) (place : List ℕ) → let leaves = reportCall number verdict place in
+    let text = reportText number verdict in
+    leaves .outcome .answer ≡ Done → (leaves .outcome .written ≡ length text) × (leaves .place ≡ text ++ drop (length text) place)
+unfolding reportCall
+report-reports number verdict place = go (leb (length text) (length place))
+  where
+    text : List ℕ
+    text = reportText number verdict
+
+    go : (room : Bool) → let leaves = cond room (reportLeaves (record { answer = Done; written = length text }) (text ++ drop (length text) place))
+        (reportLeaves (record { answer = NoRoom; written = 0 }) place) in
+        leaves .outcome .answer ≡ Done → (leaves .outcome .written ≡ length text) × (leaves .place ≡ text ++ drop (length text) place)
+    go true e = (refl, refl)
+    go false e = absurd (let z : _≡_ {A = ℕ} 6 0 = ap numberOf e in omega arith)
+
+-- a step that has a report
+step-reports : (window : List ℕ) (over : Bool) (number : ℕ) (place : List ℕ) → let leaves = stepCall window over number place in
+    let text = reportText number (verdictRead (readCall window)) in
+    ((leaves .step ≡ End) ⊎ ((leaves .step ≡ Wait) ⊎ (leaves .step ≡ Short)) → ⊥) → leaves .place ≡ text ++ drop (length text) place
+unfolding stepCall steps.reported stepBy reportCall
+step-reports window over number place = go (eqb (length window) 0) over (isFinal window over) (leb (length text) (length place))
+  where
+    text : List ℕ
+    text = reportText number (verdictRead (readCall window))
+
+    written : Bool → ReportLeaves
+    written room = cond room (reportLeaves (record { answer = Done; written = length text }) (text ++ drop (length text) place)) (reportLeaves (record { answer = NoRoom; written = 0 }) place)
+
+    go : (empty o final room : Bool) → let leaves = cond empty (stepLeaves (cond o End Wait) place) (cond final (stepBy (readCall window) (written room)) (stepLeaves Wait place)) in
+        ((leaves .step ≡ End) ⊎ ((leaves .step ≡ Wait) ⊎ (leaves .step ≡ Short)) → ⊥) → leaves .place ≡ text ++ drop (length text) place
+    go true true final room other = absurd (other (inl refl))
+    go true false final room other = absurd (other (inr (inl refl)))
+    go false o false room other = absurd (other (inr (inl refl)))
+    go false o true false other = absurd (other (inr (inr refl)))
+    go false o true true other = refl
+
 -- each call of ours
 reported : Reported ours
 reported =
@@ -171,6 +266,10 @@ reported =
       finish-checking = finish-checking-reports;
       seal = seal-message-reports;
       unseal = open-message-reports;
+      read = read-reports;
+      write = write-reports;
+      report = report-reports;
+      step = step-reports;
     }
 
 -- and of each model that keeps the contracts

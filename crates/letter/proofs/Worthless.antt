@@ -1,9 +1,9 @@
 -- Worthless versions are refuted, each at an input that the checker computes.
 use mathlib.Core.Path.{_≡_, refl, sym, ap, _∙_, subst}
 use mathlib.Core.List.{List, [], _∷_, _++_}
-use Prim.Native.Nat.{ℕ, zero, suc, _+_, _≤_}
+use Prim.Native.Nat.{ℕ, zero, suc, _+_, _≤_, _<_}
 use native.Mathlib.Omega.{arith}
-use lib.Dec.{lit≤}
+use lib.Dec.{lit≤, lit<}
 use lib.ListN.{length, getD, take, replicate, length-replicate}
 use Rattle.answers.specs.declared.Answer.the-variants.{Done}
 use Rattle.permutation.specs.Round.{_⋙_, addConstant, sBox, bit, fromBits, column, substituted, substitute, Σ₀, Σ₁, Σ₂, Σ₃, Σ₄, diffuse, round}
@@ -29,15 +29,14 @@ use Rattle.stream.specs.Calls.{startTest, pieceTest, finishTest, startCall, dat
 use Rattle.stream.specs.Calls as streamed
 use Rattle.history.specs.History.{Streams, Call, giveAd, giveText, begun, next, after}
 use Rattle.history.specs.Cuts.{TextCut.text-end, TextCut.text-piece, Cut.data-end, Cut.data-piece, Message, CuttingDoesNotMatter}
-use Rattle.message.specs.Message.{messageTest, SealLeaves, sealCall}
+use Rattle.message.specs.Message.{SealLeaves}
 use Rattle.message.proofs.Demands.{is-published}
-use Rattle.letter.specs.Model.{Model, ours, Keeps}
+use Rattle.letter.specs.Model.{Model}
 use Rattle.letter.specs.First.{Listed}
 use Rattle.letter.specs.Second.{Unrefused, Second}
 use Rattle.letter.specs.Third.{Third}
 use Rattle.letter.specs.Reported.{Reported}
 use Rattle.letter.specs.Worthless.{laterCopied, emptyEnds, madeUpStreams, Worthless}
-use Rattle.letter.proofs.Model.{is-ours}
 
 -- a key, a nonce and a place for a tag, of set 1
 abbrev sixteen : List ℕ
@@ -143,17 +142,15 @@ takes-no-tag m set K N A P out unrefused undone s =
 -- nothing and nothing takes 24 rounds, seven bytes and seven take 30
 makes-up : (m : Model) (n : ℕ)
     → ((set : ℕ) (K N A P out tag : List ℕ) → let outcome = m .seal set K N A P out tag .outcome in outcome .answer ≡ Done → outcome .rounds ≡ n)
-    → Keeps m → ⊥
-unfolding sealCall messageTest startTest isSet rowOf table messageRounds dataBlocks textBlocks roundsOf constantsOf constants
-makes-up m n same k =
-    let none : n ≡ 24 = told [] refl in
-    let seven : n ≡ 30 = told (zeros 7) refl in
+    → Listed m → Reported m → ⊥
+unfolding isSet rowOf table messageRounds dataBlocks textBlocks roundsOf constantsOf constants
+makes-up m n same l r =
+    let none : n ≡ 24 = told [] (l .seal 1 sixteen sixteen [] [] [] sixteen) in
+    let seven : n ≡ 30 = told (zeros 7) (l .seal 1 sixteen sixteen (zeros 7) (zeros 7) (zeros 7) sixteen) in
     omega arith
   where
-    told : (x : List ℕ) → ours .seal 1 sixteen sixteen x x x sixteen .outcome .answer ≡ Done → n ≡ ours .seal 1 sixteen sixteen x x x sixteen .outcome .rounds
-    told x done =
-        sym (same 1 sixteen sixteen x x x sixteen (ap (λ (o : Model). o .seal 1 sixteen sixteen x x x sixteen .outcome .answer) (is-ours m k) ∙ done))
-        ∙ ap (λ (o : Model). o .seal 1 sixteen sixteen x x x sixteen .outcome .rounds) (is-ours m k)
+    told : (x : List ℕ) → m .seal 1 sixteen sixteen x x x sixteen .outcome .answer ≡ Done → n ≡ messageRounds (rowOf 1) (length x) (length x)
+    told x done = sym (same 1 sixteen sixteen x x x sixteen done) ∙ r .seal 1 sixteen sixteen x x x sixteen done
 
 -- ---- streams
 
@@ -243,6 +240,16 @@ stays-open m same l r =
     let off : _≡_ {A = ℕ} 0 1 = cc phase in
     omega arith
 
+-- an empty piece of it is done, and leaves the one byte lent
+writes-beyond : (m : Model)
+    → ((s : Stream) (piece out : List ℕ) → let leaves = m .streams .seal s piece out in
+    leaves .outcome .answer ≡ Done → length piece < length out → getD (leaves .lent) (length piece) 0 ≡ getD out (length piece) 0 → ⊥)
+    → Listed m → Reported m → ⊥
+unfolding isSet rowOf table isSound isSoundOpen fresh
+writes-beyond m changed l r =
+    let done = l .seal-piece fresh [] (0 ∷ []) in
+    changed fresh [] (0 ∷ []) done (lit< tt) (ap (λ (x : List ℕ). getD x 0 0) (r .seal-piece fresh [] (0 ∷ []) done .3))
+
 pub worthless : Worthless
 worthless =
     record {
@@ -255,6 +262,7 @@ worthless =
       says-yes = says-yes;
       reports-late = reports-late;
       stays-open = stays-open;
+      writes-beyond = writes-beyond;
       copies-later = copies-later;
       ends-early = ends-early;
       makes-up = makes-up;

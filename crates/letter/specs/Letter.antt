@@ -3,11 +3,13 @@ use mathlib.Core.List.{List}
 use mathlib.Core.Path.{_≡_}
 use Prim.Native.Nat.{ℕ, _≤_, _<_}
 use lib.ListN.{length}
+use Rattle.permutation.specs.Known as permutation
 use Rattle.permutation.specs.Strings.{Bytes}
 use Rattle.ascon.specs.Sets.{ParameterSet, rowOf}
 use Rattle.ascon.specs.Mode.{decrypted, sealed}
 use Rattle.ascon.specs.Rounds.{runs, total, messageRounds, Marked}
 use Rattle.ascon.specs.Cases.{Cases}
+use Rattle.ascon.specs.Known as ascon
 use Rattle.letter.specs.Model.{Model, ours, Keeps}
 use Rattle.letter.specs.First.{First}
 use Rattle.letter.specs.Second.{Second}
@@ -29,6 +31,9 @@ pub record Letter : Type 2 where
   pub some-model : Keeps ours
   -- the cases marked P
   pub cases : Cases
+  -- known answers of the definitions, from outside this project
+  pub known-runs : permutation.Known
+  pub known-messages : ascon.Known
   -- the formula counts the runs of Algorithm 1, and the definition makes those runs
   pub counted : (set : ParameterSet) (A P : List ℕ) → total (runs set A P) ≡ messageRounds set (length A) (length P)
   pub marked : (r : ℕ) → 0 < r → (S A P : List ℕ) → r ≤ length S → Marked r S A P

@@ -2,9 +2,9 @@
 use mathlib.Core.Bool.{cond, not, _&&_}
 use mathlib.Core.List.{List, _∷_, _++_}
 use mathlib.Core.Path.{_≡_}
-use Prim.Native.Nat.{ℕ}
+use Prim.Native.Nat.{ℕ, _<_}
 use lib.Dec.{eqb}
-use lib.ListN.{length, take, drop}
+use lib.ListN.{length, getD, take, drop}
 use Rattle.answers.specs.declared.Answer.the-variants.{Done}
 use Rattle.answers.specs.Numbers.{isDone}
 use Rattle.ascon.specs.Sets.{rowOf}
@@ -18,7 +18,7 @@ use Rattle.stream.specs.Calls.{called}
 use Rattle.history.specs.History.{Streams, Call, begun, after}
 use Rattle.history.specs.Cuts.{Message}
 use Rattle.message.specs.Message.{SealLeaves}
-use Rattle.letter.specs.Model.{Model, ours, Keeps}
+use Rattle.letter.specs.Model.{Model, ours}
 use Rattle.letter.specs.First.{Listed}
 use Rattle.letter.specs.Second.{Unrefused, Second}
 use Rattle.letter.specs.Third.{Third}
@@ -100,13 +100,18 @@ pub record Worthless : Type 0 where
       → ((tag : List ℕ) → length tag ≡ rowOf set .key
       → m .streams .finishChecking (after (m .streams) (begun (m .streams) Checking set K N) calls .stream) tag .answer ≡ Done)
       → Third m → ⊥
-  -- the same rounds always break the contract of whole messages, and rounds by the kind of the call the sum of the third demand
+  -- the same rounds always break the formula, and rounds by the kind of the call the sum of the third demand
   pub makes-up : (m : Model) (n : ℕ)
       → ((set : ℕ) (K N A P out tag : List ℕ) → let outcome = m .seal set K N A P out tag .outcome in outcome .answer ≡ Done → outcome .rounds ≡ n)
-      → Keeps m → ⊥
+      → Listed m → Reported m → ⊥
   pub makes-up-streams : (m : Model) (start piece text finish : ℕ) → m .streams ≡ madeUpStreams start piece text finish → Third m → ⊥
   -- rounds that are right in the sum alone, and a finish that leaves the stream as it was, break what a call has to report and leave
   pub reports-late : (m : Model) → ((d : Direction) (set : ℕ) (K N : List ℕ) → m .streams .start d set K N .rounds ≡ 0) → Listed m → Reported m → ⊥
   pub stays-open : (m : Model)
       → ((s : Stream) (tag : List ℕ) → let outcome = m .streams .finishSealing s tag .outcome in outcome .answer ≡ Done → outcome .next ≡ s)
+      → Listed m → Reported m → ⊥
+  -- a stream that changes the byte behind each done piece of text breaks it too: joined output, tag and rounds, all that the third demand speaks of, may still be right
+  pub writes-beyond : (m : Model)
+      → ((s : Stream) (piece out : List ℕ) → let leaves = m .streams .seal s piece out in
+      leaves .outcome .answer ≡ Done → length piece < length out → getD (leaves .lent) (length piece) 0 ≡ getD out (length piece) 0 → ⊥)
       → Listed m → Reported m → ⊥

@@ -32,7 +32,7 @@ use Rattle.letter.specs.Model.{lent}
 abbrev pub Never : {L A R : Type 0} → (L → A → R → A → Type 0) → A → R → Type 0
 Never {L} {A} allowed before r = (κ : L) (after : A) → allowed κ before r after → ⊥
 
--- nor a result with this in the lent places
+-- a contract does not allow a result together with this in the lent places
 abbrev pub NeverLeaves : {L A R : Type 0} → (L → A → R → A → Type 0) → A → R → A → Type 0
 NeverLeaves {L} allowed before r after = (κ : L) → allowed κ before r after → ⊥
 
@@ -41,53 +41,53 @@ pub record Wrong : Type 0 where
   pub number-done : Never answers.number.Reads.Learnt (Done, tt) 1
   -- 9 is not done
   pub is-done-differs : Never answers.is_done.Reads.Learnt (TagDiffers, tt) true
-  -- 0 is
+  -- 0 is done
   pub is-done-done : Never answers.is_done.Reads.Learnt (Done, tt) false
   -- seven rounds are not run
   pub permute-seven : Never timing.kvistmaur_permute.Reads.Learnt (7, (lent (zeros 5), tt)) 7
   -- 3 is no set
   pub is-set-three : Never sets.is_set.Reads.Learnt (3, tt) true
-  -- 2 is one
+  -- 2 is a set
   pub is-set-two : Never sets.is_set.Reads.Learnt (2, tt) false
   -- set 2 has no key of 16
   pub key-length-two : Never sets.key_length.Reads.Learnt (2, tt) 16
-  -- nor set 1 one of 12
+  -- set 1 has no key of 12
   pub key-length-one : Never sets.key_length.Reads.Learnt (1, tt) 12
   -- set 2 has no block of 8
   pub block-length-two : Never sets.block_length.Reads.Learnt (2, tt) 8
-  -- nor set 1 one of 16
+  -- set 1 has no block of 16
   pub block-length-one : Never sets.block_length.Reads.Learnt (1, tt) 16
   -- set 1 does not run eight rounds between
   pub between-one : Never sets.between.Reads.Learnt (1, tt) FirstEight
-  -- nor set 2 twelve
+  -- set 2 does not run twelve rounds between
   pub between-two : Never sets.between.Reads.Learnt (2, tt) Twelve
-  -- and their numbers are not those
+  -- the rounds between are not 8 in set 1
   pub rounds-between-one : Never sets.rounds_between.Reads.Learnt (1, tt) 8
-  -- nor those
+  -- the rounds between are not 12 in set 2
   pub rounds-between-two : Never sets.rounds_between.Reads.Learnt (2, tt) 12
   -- a start under zeros does not leave zeros
   pub start-zeros : Never sponge.start.Reads.Learnt (1, (zeros 16, (zeros 16, tt))) (zeros 5)
   -- closing empty data does not flip a bit of the first word
   pub close-other-end : Never sponge.close_data.Reads.Learnt (1, (zeros 5, (0, tt))) (1 ∷ zeros 4)
-  -- one is not both
+  -- where one does not hold, not both hold
   pub both-one : Never tags.both.Reads.Learnt (true, (false, tt)) true
-  -- two are
+  -- where each holds, both hold
   pub both-two : Never tags.both.Reads.Learnt (true, (true, tt)) false
   -- a short string is not dropped
   pub sixteen-short : Never tags.sixteen.Reads.Learnt (lent (1 ∷ []), tt) (zeros 16)
-  -- a long one is not cut
+  -- a string of 17 bytes is not cut to 16
   pub sixteen-long : Never tags.sixteen.Reads.Learnt (lent (replicate 17 1), tt) (replicate 16 1)
   -- a place of 12 does not stay as it was
   pub give-tag-nothing : NeverLeaves tags.give_tag.Reads.Learnt (replicate 16 1, (lent (zeros 12), tt)) tt (replicate 16 1, (lent (zeros 12), tt))
-  -- one of 17 does
+  -- a place of 17 stays as it was
   pub give-tag-long : NeverLeaves tags.give_tag.Reads.Learnt (replicate 16 1, (lent (zeros 17), tt)) tt (replicate 16 1, (lent (replicate 17 1), tt))
-  -- a string is not the beginning of itself that it is compared with
+  -- the beginning of a tag is not the tag
   pub same-tag-short : Never tags.same_tag.Reads.Learnt (lent (zeros 16), (lent (zeros 12), tt)) true
-  -- the empty string is no tag
+  -- the empty string is not the tag
   pub same-tag-empty : Never tags.same_tag.Reads.Learnt (lent (zeros 16), (lent [], tt)) true
-  -- a tag with a byte more is another
+  -- a tag with a byte more is not the tag
   pub same-tag-long : Never tags.same_tag.Reads.Learnt (lent (zeros 16), (lent (zeros 17), tt)) true
-  -- 1 comes before 2
+  -- answer 1 comes before answer 2
   pub start-test-set : Never stream.start_test.Reads.Learnt (3, (15, (16, tt))) KeyLength
   -- a refused start does not give an open stream
   pub start-refused-open : Never stream.Stream.start.Reads.Learnt (Sealing, (3, (lent [], (lent [], tt))))
@@ -103,7 +103,7 @@ pub record Wrong : Type 0 where
   pub check-limit : Never stream.Stream.check.Reads.Learnt (record { words = zeros 5; set = 1; direction = Checking; phase = Text; key = zeros 16; ad = 0; text = 1_048_575; place = 7 }, (lent (zeros 1), tt)) (record { answer = PastLimit; rounds = 0; next = record { words = zeros 5; set = 1; direction = Checking; phase = Text; key = zeros 16; ad = 0; text = 1_048_575; place = 7 } })
   -- the ended state is not open
   pub ended-open : Never stream.Stream.ended.Reads.Learnt tt (record { words = zeros 5; set = 1; direction = Sealing; phase = Data; key = zeros 16; ad = 0; text = 0; place = 0 })
-  -- nor of set 2
+  -- the ended state is not of set 2
   pub ended-set : Never stream.Stream.ended.Reads.Learnt tt (record { words = zeros 5; set = 2; direction = Sealing; phase = Ended; key = zeros 16; ad = 0; text = 0; place = 0 })
   -- the ended state is not broken: 7 and not 8
   pub finish-checking-ended : Never stream.Stream.finish_checking.Reads.Learnt (ended, (lent [], tt)) (record { answer = BrokenState; rounds = 0; next = ended })
@@ -114,7 +114,7 @@ pub record Wrong : Type 0 where
   pub seal-refused : NeverLeaves message.seal.Reads.Learnt (3, (lent [], (lent [], (lent [], (lent [], (lent (0 ∷ []), (lent [], tt)))))))
       (record { answer = UnknownSet; rounds = 0 })
       (3, (lent [], (lent [], (lent [], (lent [], (lent (1 ∷ []), (lent [], tt)))))))
-  -- a done one does not touch what lies beyond the text
+  -- a done sealing does not touch what lies beyond the text
   pub seal-beyond : NeverLeaves message.seal.Reads.Learnt (1, (lent (zeros 16), (lent (zeros 16), (lent [], (lent [], (lent (0 ∷ []), (lent (zeros 16), tt)))))))
       (record { answer = Done; rounds = 24 })
       (1, (lent (zeros 16), (lent (zeros 16), (lent [], (lent [], (lent (1 ∷ []), (lent (zeros 16), tt)))))))
@@ -128,9 +128,9 @@ pub record Wrong : Type 0 where
   pub kvistmaur-open-key : Never gateway.kvistmaur_open.Reads.Learnt (1, (lent (zeros 15), (lent [], (lent [], (lent [], (lent [], (lent [], tt))))))) 3
   -- `g` is no digit
   pub read-digit-g : Never digits.read_digit.Reads.Learnt (0x67, tt) (Value 16)
-  -- `A` is none
+  -- `A` is no digit
   pub is-digit-upper : Never digits.is_digit.Reads.Learnt (0x41, tt) true
-  -- `f` is one
+  -- `f` is a digit
   pub is-digit-f : Never digits.is_digit.Reads.Learnt (0x66, tt) false
   -- `01` is not sixteen
   pub read-pair-low : Never digits.read_pair.Reads.Learnt (0x30, (0x31, tt)) (Byte 16)
@@ -138,7 +138,7 @@ pub record Wrong : Type 0 where
   pub read-pair-half : Never digits.read_pair.Reads.Learnt (0x30, (0x67, tt)) (Byte 0)
   -- 1f is not put as `f1`
   pub put-bytes-low : NeverLeaves digits.put_bytes.Reads.Learnt (lent (0x1f ∷ []), (lent (zeros 2), tt)) 2 (lent (0x1f ∷ []), (lent (0x66 ∷ 0x31 ∷ []), tt))
-  -- and not where one place is lent
+  -- 1f is not put where one place is lent
   pub put-bytes-room : Never digits.put_bytes.Reads.Learnt (lent (0x1f ∷ []), (lent (zeros 1), tt)) 2
   -- two bytes do not go into one place
   pub put-text-room : Never digits.put_text.Reads.Learnt (lent (zeros 2), (lent (zeros 1), tt)) 2
@@ -148,11 +148,11 @@ pub record Wrong : Type 0 where
   pub put-line-feed : Never digits.put_line.Reads.Learnt (lent [], (lent [], (lent (zeros 1), tt))) 0
   -- 10 has two digits
   pub number-length-ten : Never digits.number_length.Reads.Learnt (10, tt) 1
-  -- 0 has one
+  -- 0 has one digit
   pub number-length-nought : Never digits.number_length.Reads.Learnt (0, tt) 0
   -- 10 is not put as `01`
   pub put-number-ten : NeverLeaves digits.put_number.Reads.Learnt (10, (lent (zeros 2), tt)) 2 (10, (lent (0x30 ∷ 0x31 ∷ []), tt))
-  -- nor by one digit
+  -- 10 is not put as one digit
   pub put-number-room : Never digits.put_number.Reads.Learnt (10, (lent (zeros 1), tt)) 1
   -- nothing is broken at its first line, and not at its last
   pub read-nothing : Never record-crate.read.Reads.Learnt (lent [], tt) (record { answer = BrokenRecord; line = 8; taken = 0; content = blank })
