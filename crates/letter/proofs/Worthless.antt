@@ -1,42 +1,45 @@
--- Worthless versions are refuted, each at an input that the checker computes.
-use mathlib.Core.Path.{_≡_, refl, sym, ap, _∙_, subst}
+-- Worthless versions are refuted, each by the demand that it breaks.
+use mathlib.Core.Path.{_≡_, refl, sym, ap, _∙_}
+use mathlib.Core.Bool.{Bool, true, false, cond, not, _&&_, true≢false}
 use mathlib.Core.List.{List, [], _∷_, _++_}
 use Prim.Native.Nat.{ℕ, zero, suc, _+_, _≤_, _<_}
 use native.Mathlib.Omega.{arith}
-use lib.Dec.{lit≤, lit<}
-use lib.ListN.{length, getD, take, replicate, length-replicate}
-use Rattle.answers.specs.declared.Answer.the-variants.{Done}
+use lib.Dec.{leb, lit≤, lit<}
+use lib.ListN.{length, getD, take, replicate, length-append, length-replicate}
+use borrow.Author.Tests.{leb-true, le-leb}
 use Rattle.permutation.specs.Round.{_⋙_, addConstant, sBox, bit, fromBits, column, substituted, substitute, Σ₀, Σ₁, Σ₂, Σ₃, Σ₄, diffuse, round}
 use Rattle.permutation.specs.Runs.{constants, constantsOf, roundsOf, rounds, permute}
 use Rattle.permutation.specs.Strings.{bytesOf, stringOf, stateOf}
 use Rattle.permutation.specs.Strings as strings
-use Rattle.answers.specs.declared.Answer.{Answer}
-use Rattle.answers.specs.Numbers.{numberOf}
 use Rattle.permutation.proofs.Strings.{bytes-none}
-use Rattle.ascon.specs.Sets.{table, isSet, rowOf, dataLimit}
+use Rattle.answers.specs.declared.Answer.{Answer}
+use Rattle.answers.specs.declared.Answer.the-variants.{Done, PastLimit, NoRoom, OutOfPhase, BrokenState}
+use Rattle.answers.specs.Numbers.{numberOf, isDone}
+use Rattle.answers.proofs.Numbers.{done-is}
+use Rattle.ascon.specs.Sets.{table, isSet, rowOf, textLimit}
 use Rattle.ascon.specs.Mode.{zeros, p, count, pad, firstBlock, initialise, separate, beforeText, encrypted, decrypted, Processed, Sealed, sealed}
 use Rattle.ascon.specs.Rounds.{dataBlocks, textBlocks, messageRounds}
 use Rattle.ascon.proofs.Strings.{bytes-zeros}
 use Rattle.ascon.proofs.Sealing.{decrypt-encrypted}
 use Rattle.sets.proofs.Rows.{row-fits, row-sizes}
-use Rattle.sponge.specs.Sponge.{given}
-use Rattle.stream.specs.declared.Direction.{Direction}
 use Rattle.stream.specs.declared.Direction.the-variants.{Sealing, Checking}
+use Rattle.stream.specs.declared.Phase.{Phase}
 use Rattle.stream.specs.declared.Phase.the-variants.{Data, Ended}
 use Rattle.stream.specs.declared.Stream.{Stream}
-use Rattle.stream.specs.State.{ended, isSoundOpen, isSoundEnded, isSound}
-use Rattle.stream.specs.Calls.{startTest, pieceTest, finishTest, startCall, dataCall, tookText}
-use Rattle.stream.specs.Calls as streamed
-use Rattle.history.specs.History.{Streams, Call, giveAd, giveText, begun, next, after}
-use Rattle.history.specs.Cuts.{TextCut.text-end, TextCut.text-piece, Cut.data-end, Cut.data-piece, Message, CuttingDoesNotMatter}
+use Rattle.stream.specs.State.{isOpen, isSealing, ended, isSoundOpen, isSound}
+use Rattle.stream.specs.Calls.{Called}
+use Rattle.history.specs.History.{Call, giveText, next, BytesIn}
+use Rattle.history.specs.Cuts.{TextCut, TextCut.text-end, TextCut.text-piece, Cut.data-end, Message}
 use Rattle.message.specs.Message.{SealLeaves}
+use Rattle.message.specs.Demands.{Choice, _when_, first}
 use Rattle.message.proofs.Demands.{is-published}
+use Rattle.message.proofs.Promise.{length-cipher}
 use Rattle.letter.specs.Model.{Model}
 use Rattle.letter.specs.First.{Listed}
 use Rattle.letter.specs.Second.{Unrefused, Second}
 use Rattle.letter.specs.Third.{Third}
 use Rattle.letter.specs.Reported.{Reported}
-use Rattle.letter.specs.Worthless.{laterCopied, emptyEnds, madeUpStreams, Worthless}
+use Rattle.letter.specs.Worthless.{NeverSeals, NeverStarts, SealsBlindly, Copies, CopiesLater, EmptyEnds, OpensAnyTag, AgreesToAnyTag, SameRounds, SameStreamRounds, ReportsLate, StaysOpen, WritesBeyond, Worthless}
 
 -- a key, a nonce and a place for a tag, of set 1
 abbrev sixteen : List ℕ
@@ -46,6 +49,11 @@ sixteen = zeros 16
 two-zeros : sealed (rowOf 1) sixteen sixteen [] (zeros 2) .cipher ≡ 0x27 ∷ 0xe6 ∷ []
 unfolding sealed encrypted beforeText separate initialise firstBlock pad count p permute rounds constantsOf constants round diffuse Σ₀ Σ₁ Σ₂ Σ₃ Σ₄ _⋙_ substitute substituted column fromBits bit sBox addConstant stringOf stateOf bytesOf strings.numberOf rowOf table roundsOf
 two-zeros = refl
+
+-- its length is set 1's
+row-one : length sixteen ≡ rowOf 1 .key
+unfolding rowOf table
+row-one = refl
 
 -- ---- whole messages
 
@@ -80,18 +88,17 @@ no-every-tag set K N A C key found =
     differ (suc k) some e = let bytes : _≡_ {A = ℕ} 0 1 = ap (λ (x : List ℕ). getD x 0 0) e in omega (arith, bytes)
 
 -- a good message is listed as done
-refuses : (m : Model) → ((set : ℕ) (K N A P out tag : List ℕ) → m .seal set K N A P out tag .outcome .answer ≡ Done → ⊥) → Listed m → ⊥
+refuses : (m : Model) → NeverSeals m → Listed m → ⊥
 unfolding isSet rowOf table
 refuses m undone l = undone 1 sixteen sixteen [] [] [] sixteen (l .seal 1 sixteen sixteen [] [] [] sixteen)
 
 -- and so is a good start
-refuses-streams : (m : Model) → ((d : Direction) (set : ℕ) (K N : List ℕ) → m .streams .start d set K N .answer ≡ Done → ⊥) → Listed m → ⊥
+refuses-streams : (m : Model) → NeverStarts m → Listed m → ⊥
 unfolding isSet rowOf table
 refuses-streams m undone l = undone Sealing 1 sixteen sixteen (l .start Sealing 1 sixteen sixteen)
 
 -- two texts that differ have no sealing in common
-answers-same : (m : Model) (same : ℕ → ℕ → ℕ → ℕ → ℕ → List ℕ → List ℕ → SealLeaves)
-    → ((set : ℕ) (K N A P out tag : List ℕ) → m .seal set K N A P out tag ≡ same set (length K) (length N) (length A) (length P) out tag)
+answers-same : (m : Model) (same : ℕ → ℕ → ℕ → ℕ → ℕ → List ℕ → List ℕ → SealLeaves) → SealsBlindly m same
     → (set : ℕ) (K N A : List ℕ) (byte : ℕ) (rest out tag : List ℕ) → length K ≡ rowOf set .key
     → m .seal set K N A (byte ∷ rest) out tag .outcome .answer ≡ Done
     → Second m → ⊥
@@ -109,9 +116,7 @@ answers-same m same always set K N A byte rest out tag key done s =
     omega (arith, bytes)
 
 -- two zeros are not their own ciphertext
-copies : (m : Model)
-    → ((set : ℕ) (K N A P out tag : List ℕ) → let leaves = m .seal set K N A P out tag in leaves .outcome .answer ≡ Done → take (length P) (leaves .out) ≡ P)
-    → Listed m → Second m → ⊥
+copies : (m : Model) → Copies m → Listed m → Second m → ⊥
 unfolding isSet rowOf table
 copies m copied l s =
     let done = l .seal 1 sixteen sixteen [] (zeros 2) (zeros 2) sixteen in
@@ -121,9 +126,7 @@ copies m copied l s =
     omega arith
 
 -- a done opening is the sealing of what it hands out
-takes-every-tag : (m : Model) (set : ℕ) (K N A C out : List ℕ) → length K ≡ rowOf set .key
-    → ((T : List ℕ) → length T ≡ rowOf set .key → m .unseal set K N A C T out .outcome .answer ≡ Done)
-    → Second m → ⊥
+takes-every-tag : (m : Model) (set : ℕ) (K N A C out : List ℕ) → length K ≡ rowOf set .key → OpensAnyTag m set K N A C out → Second m → ⊥
 takes-every-tag m set K N A C out key done s =
     no-every-tag set K N A C key (λ T size.
     (take (length C) (m .unseal set K N A C T out .out), s .opens set K N A C T out (unrefused _ (done T size)) _ .0 (done T size, refl)))
@@ -140,9 +143,7 @@ takes-no-tag m set K N A P out unrefused undone s =
     undone (s .opens set K N A (published .cipher) (published .tag) out unrefused P .1 refl .0)
 
 -- nothing and nothing takes 24 rounds, seven bytes and seven take 30
-makes-up : (m : Model) (n : ℕ)
-    → ((set : ℕ) (K N A P out tag : List ℕ) → let outcome = m .seal set K N A P out tag .outcome in outcome .answer ≡ Done → outcome .rounds ≡ n)
-    → Listed m → Reported m → ⊥
+makes-up : (m : Model) (n : ℕ) → SameRounds m n → Listed m → Reported m → ⊥
 unfolding isSet rowOf table messageRounds dataBlocks textBlocks roundsOf constantsOf constants
 makes-up m n same l r =
     let none : n ≡ 24 = told [] (l .seal 1 sixteen sixteen [] [] [] sixteen) in
@@ -154,70 +155,141 @@ makes-up m n same l r =
 
 -- ---- streams
 
--- one text call after another: the second piece is copied
-copies-later : (m : Model) → m .streams ≡ laterCopied → Third m → ⊥
-unfolding startCall startTest pieceTest isSound isSoundOpen tookText next given isSet rowOf table streamed.sealCall
-copies-later m e t =
-    let cutting : CuttingDoesNotMatter laterCopied = subst CuttingDoesNotMatter e (t .cutting) in
-    let pieces : List Call = giveText (0 ∷ []) (0 ∷ []) ∷ giveText (0 ∷ []) (0 ∷ []) ∷ [] in
-    let message : Message laterCopied Sealing 1 sixteen sixteen [] (zeros 2) pieces = record {
-      started = refl;
-      key-bytes = bytes-zeros 16;
-      bytes = (bytes-none, bytes-zeros 1, (bytes-none, bytes-zeros 1, tt));
-      data-within = lit≤ tt;
-      text-within = lit≤ tt;
-      cut = data-end (text-piece (0 ∷ []) (0 ∷ []) (lit≤ tt) (text-piece (0 ∷ []) (0 ∷ []) (lit≤ tt) text-end));
-    } in
-    let whole = cutting .seals 1 sixteen sixteen [] (zeros 2) pieces sixteen message refl .out in
-    let differ : _≡_ {A = ℕ} 0 0xe6 = ap (λ (x : List ℕ). getD x 1 0) (whole ∙ two-zeros) in
-    omega arith
+-- a text of set 1 under zeros, with no data, and a cutting of it
+message : (m : Model) → Listed m → (P : List ℕ) (calls : List Call) → BytesIn calls → length P ≤ textLimit
+    → TextCut (m .streams) Sealing (m .streams .start Sealing 1 sixteen sixteen .next) P calls → Message (m .streams) Sealing 1 sixteen sixteen [] P calls
+unfolding isSet rowOf table
+message m l P calls b few cut = record {
+  started = ap isDone (l .start Sealing 1 sixteen sixteen);
+  key-bytes = bytes-zeros 16;
+  bytes = b;
+  data-within = lit≤ tt;
+  text-within = few;
+  cut = data-end cut;
+}
 
--- a piece behind an empty one comes to nothing
-ends-early : (m : Model) → m .streams ≡ emptyEnds → Third m → ⊥
-unfolding startCall startTest pieceTest isSound isSoundEnded tookText next given isSet rowOf table streamed.sealCall
-ends-early m e t =
-    let cutting : CuttingDoesNotMatter emptyEnds = subst CuttingDoesNotMatter e (t .cutting) in
-    let pieces : List Call = giveText [] [] ∷ giveText (zeros 2) (zeros 2) ∷ [] in
-    let message : Message emptyEnds Sealing 1 sixteen sixteen [] (zeros 2) pieces = record {
-      started = refl;
-      key-bytes = bytes-zeros 16;
-      bytes = (bytes-none, bytes-none, (bytes-none, bytes-zeros 2, tt));
-      data-within = lit≤ tt;
-      text-within = lit≤ tt;
-      cut = data-end (text-piece [] [] (lit≤ tt) (text-piece (zeros 2) (zeros 2) (lit≤ tt) text-end));
-    } in
-    let whole = cutting .seals 1 sixteen sixteen [] (zeros 2) pieces sixteen message refl .out in
-    let differ : _≡_ {A = ℕ} 0 2 = ap length (whole ∙ two-zeros) in
-    omega arith
+-- the joined output of two pieces, the second of which is copied, is not that of two zeros
+copied-later : (a b : Bool) (x y : List ℕ) → (a ≡ true → b ≡ true → take 1 y ≡ 0 ∷ []) → [] ++ cond a (take 1 x) [] ++ cond b (take 1 y) [] ≡ 0x27 ∷ 0xe6 ∷ [] → ⊥
+copied-later true true x y copied e = go x (ap (λ (z : List ℕ). take 1 x ++ z) (sym (copied refl refl)) ∙ e)
+  where
+    go : (x : List ℕ) → take 1 x ++ (0 ∷ []) ≡ 0x27 ∷ 0xe6 ∷ [] → ⊥
+    go [] e = let size : _≡_ {A = ℕ} 1 2 = ap length e in omega (arith, size)
+    go (v ∷ x) e = let byte : _≡_ {A = ℕ} 0 0xe6 = ap (λ (z : List ℕ). getD z 1 0) e in omega (arith, byte)
+copied-later true false [] y copied e = let size : _≡_ {A = ℕ} 0 2 = ap length e in omega (arith, size)
+copied-later true false (v ∷ x) y copied e = let size : _≡_ {A = ℕ} 1 2 = ap length e in omega (arith, size)
+copied-later false true x [] copied e = let size : _≡_ {A = ℕ} 0 2 = ap length e in omega (arith, size)
+copied-later false true x (v ∷ y) copied e = let size : _≡_ {A = ℕ} 1 2 = ap length e in omega (arith, size)
+copied-later false false x y copied e = let size : _≡_ {A = ℕ} 0 2 = ap length e in omega (arith, size)
 
--- a byte of data and a block of it make the rounds differ
-makes-up-streams : (m : Model) (start piece text finish : ℕ) → m .streams ≡ madeUpStreams start piece text finish → Third m → ⊥
-unfolding startCall startTest pieceTest finishTest isSound isSoundOpen next isSet rowOf table dataCall streamed.finishSealingCall messageRounds dataBlocks textBlocks roundsOf constantsOf constants
-makes-up-streams m start piece text finish e t =
-    let streams : Streams = madeUpStreams start piece text finish in
-    let cutting : CuttingDoesNotMatter streams = subst CuttingDoesNotMatter e (t .cutting) in
-    let message : (n : ℕ) → length (zeros n ++ []) ≤ dataLimit → Message streams Sealing 1 sixteen sixteen (zeros n ++ []) [] (giveAd (zeros n) ∷ []) = λ n few. record {
-      started = refl;
-      key-bytes = bytes-zeros 16;
-      bytes = (bytes-zeros n, bytes-none, tt);
-      data-within = few;
-      text-within = lit≤ tt;
-      cut = data-piece (zeros n) (data-end text-end);
-    } in
-    let one : start + piece + finish ≡ 30 = cutting .seals 1 sixteen sixteen (zeros 1) [] (giveAd (zeros 1) ∷ []) sixteen (message 1 (lit≤ tt)) refl .rounds in
-    let eight : start + piece + finish ≡ 36 = cutting .seals 1 sixteen sixteen (zeros 8) [] (giveAd (zeros 8) ∷ []) sixteen (message 8 (lit≤ tt)) refl .rounds in
-    omega arith
+-- two zeros in two pieces: the second is copied
+copies-later : (m : Model) → CopiesLater m → Listed m → Third m → ⊥
+unfolding next
+copies-later m copied l t =
+    let zero-byte : Call = giveText (0 ∷ []) (0 ∷ []) in
+    let one : Called = m .streams .seal (m .streams .start Sealing 1 sixteen sixteen .next) (0 ∷ []) (0 ∷ []) in
+    let two : Called = m .streams .seal (one .outcome .next) (0 ∷ []) (0 ∷ []) in
+    let whole = t .cutting .seals 1 sixteen sixteen [] (zeros 2) (zero-byte ∷ zero-byte ∷ []) sixteen
+    (message m l (zeros 2) (zero-byte ∷ zero-byte ∷ []) (bytes-none, bytes-zeros 1, (bytes-none, bytes-zeros 1, tt)) (lit≤ tt)
+    (text-piece (0 ∷ []) (0 ∷ []) (lit≤ tt) (text-piece (0 ∷ []) (0 ∷ []) (lit≤ tt) text-end))) row-one in
+    copied-later (isDone (one .outcome .answer)) (isDone (two .outcome .answer)) (one .lent) (two .lent)
+    (λ e f. copied 1 sixteen sixteen (zero-byte ∷ []) (0 ∷ []) (0 ∷ []) (some (isDone (one .outcome .answer)) e) (done-is (two .outcome .answer) f))
+    (whole .out ∙ two-zeros)
+  where
+    -- a byte that was taken is some text
+    some : (b : Bool) → b ≡ true → _≡_ {A = List ℕ} ([] ++ cond b (0 ∷ []) []) [] → ⊥
+    some true e none = let size : _≡_ {A = ℕ} 1 0 = ap length none in omega (arith, size)
+    some false e none = true≢false (sym e)
+
+-- a piece that gives output was taken
+gave : (b : Bool) (n : ℕ) (x C : List ℕ) → [] ++ cond b (take n x) [] ≡ C → 0 < length C → b ≡ true
+gave true n x C e some = refl
+gave false n x C e some = absurd (let size : 0 ≡ length C = ap length e in omega (arith, size, some))
+
+-- where a piece of n bytes was taken, an empty one is
+empty-taken : (s fits : Bool) (count n limit : ℕ) (room : Bool)
+    → first Done (BrokenState when not s ∷ OutOfPhase when not fits ∷ PastLimit when not (leb (count + n) limit) ∷ NoRoom when not room ∷ []) ≡ Done
+    → first Done (BrokenState when not s ∷ OutOfPhase when not fits ∷ PastLimit when not (leb (count + 0) limit) ∷ NoRoom when not true ∷ []) ≡ Done
+empty-taken true true count n limit room e = go (leb (count + n) limit) refl e
+  where
+    go : (c : Bool) → leb (count + n) limit ≡ c → first Done (PastLimit when not c ∷ NoRoom when not room ∷ []) ≡ Done
+        → first Done (PastLimit when not (leb (count + 0) limit) ∷ NoRoom when not true ∷ []) ≡ Done
+    go true f e = let within : count + n ≤ limit = leb-true (count + n) limit f in rw (le-leb (count + 0) limit (omega (arith, within)))
+    go false f e = absurd (let z : _≡_ {A = ℕ} 5 0 = ap numberOf e in omega (arith, z))
+empty-taken true false count n limit room e = absurd (let z : _≡_ {A = ℕ} 7 0 = ap numberOf e in omega (arith, z))
+empty-taken false fits count n limit room e = absurd (let z : _≡_ {A = ℕ} 8 0 = ap numberOf e in omega (arith, z))
+
+-- after the end no piece is taken
+none-taken : (phase : Phase) → phase ≡ Ended → (s direction : Bool) (a b : Choice Answer)
+    → isDone (first Done (BrokenState when not s ∷ OutOfPhase when not (isOpen phase && direction) ∷ a ∷ b ∷ [])) ≡ false
+none-taken phase e s direction a b =
+    ap (λ (p : Phase). isDone (first Done (BrokenState when not s ∷ OutOfPhase when not (isOpen p && direction) ∷ a ∷ b ∷ []))) e ∙ go s
+  where
+    go : (s : Bool) → isDone (first Done (BrokenState when not s ∷ OutOfPhase when not (isOpen Ended && direction) ∷ a ∷ b ∷ [])) ≡ false
+    go true = refl
+    go false = refl
+
+-- two zeros behind an empty piece come to nothing
+ends-early : (m : Model) → EmptyEnds m → Listed m → Third m → ⊥
+unfolding next
+ends-early m ends l t =
+    let two : Call = giveText (zeros 2) (zeros 2) in
+    let s : Stream = m .streams .start Sealing 1 sixteen sixteen .next in
+    let alone = t .cutting .seals 1 sixteen sixteen [] (zeros 2) (two ∷ []) sixteen
+    (message m l (zeros 2) (two ∷ []) (bytes-none, bytes-zeros 2, tt) (lit≤ tt) (text-piece (zeros 2) (zeros 2) (lit≤ tt) text-end)) row-one in
+    let given : Called = m .streams .seal s (zeros 2) (zeros 2) in
+    let taken : given .outcome .answer ≡ Done =
+    done-is (given .outcome .answer) (gave (isDone (given .outcome .answer)) 2 (given .lent) (0x27 ∷ 0xe6 ∷ []) (alone .out ∙ two-zeros) (lit< tt)) in
+    let empty : m .streams .seal s [] [] .outcome .answer ≡ Done =
+    l .seal-piece s [] [] ∙ empty-taken (isSound s) (isOpen (s .phase) && isSealing (s .direction)) (s .text) 2 textLimit true (sym (l .seal-piece s (zeros 2) (zeros 2)) ∙ taken) in
+    let end : Stream = m .streams .seal s [] [] .outcome .next in
+    let refused : isDone (m .streams .seal end (zeros 2) (zeros 2) .outcome .answer) ≡ false =
+    ap isDone (l .seal-piece end (zeros 2) (zeros 2))
+    ∙ none-taken (end .phase) (ends s [] empty) (isSound end) (isSealing (end .direction)) (PastLimit when not (leb (end .text + 2) textLimit)) (NoRoom when not true) in
+    let behind = t .cutting .seals 1 sixteen sixteen [] (zeros 2) (giveText [] [] ∷ two ∷ []) sixteen
+    (message m l (zeros 2) (giveText [] [] ∷ two ∷ []) (bytes-none, bytes-none, (bytes-none, bytes-zeros 2, tt)) (lit≤ tt)
+    (text-piece [] [] (lit≤ tt) (text-piece (zeros 2) (zeros 2) (lit≤ tt) text-end))) row-one in
+    nothing (isDone (m .streams .seal s [] [] .outcome .answer)) (isDone (m .streams .seal end (zeros 2) (zeros 2) .outcome .answer))
+    (m .streams .seal s [] [] .lent) (m .streams .seal end (zeros 2) (zeros 2) .lent) refused (behind .out ∙ two-zeros)
+  where
+    nothing : (a b : Bool) (x y : List ℕ) → b ≡ false → [] ++ cond a (take 0 x) [] ++ cond b (take 2 y) [] ≡ 0x27 ∷ 0xe6 ∷ [] → ⊥
+    nothing true false x y f e = let size : _≡_ {A = ℕ} 0 2 = ap length e in omega (arith, size)
+    nothing false false x y f e = let size : _≡_ {A = ℕ} 0 2 = ap length e in omega (arith, size)
+    nothing a true x y f e = true≢false f
+
+-- a byte of text and a block of it make the rounds differ
+makes-up-streams : (m : Model) (start text finish : ℕ) → SameStreamRounds m start text finish → Listed m → Third m → ⊥
+unfolding next isSet rowOf table messageRounds dataBlocks textBlocks roundsOf constantsOf constants
+makes-up-streams m start text finish same l t =
+    let one : start + text + finish ≡ 24 = sum 1 (lit< tt) (lit≤ tt) in
+    let eight : start + text + finish ≡ 30 = sum 8 (lit< tt) (lit≤ tt) in
+    omega (arith, one, eight)
+  where
+    s : Stream
+    s = m .streams .start Sealing 1 sixteen sixteen .next
+
+    -- n zeros in one piece
+    sum : (n : ℕ) → 0 < n → length (zeros n ++ []) ≤ textLimit → start + text + finish ≡ messageRounds (rowOf 1) 0 (length (zeros n ++ []))
+    sum n some few =
+        let piece : Call = giveText (zeros n) (zeros n) in
+        let P : List ℕ = zeros n ++ [] in
+        let whole = t .cutting .seals 1 sixteen sixteen [] P (piece ∷ []) sixteen
+        (message m l P (piece ∷ []) (bytes-none, bytes-zeros n, tt) few (text-piece (zeros n) (zeros n) (omega arith) text-end)) row-one in
+        let size : length (sealed (rowOf 1) sixteen sixteen [] P .cipher) ≡ n = length-cipher 1 sixteen sixteen [] P refl ∙ length-append (zeros n) [] ∙ ap (λ (k : ℕ). k + 0) (length-replicate n 0) ∙ omega arith in
+        let taken = done-is (m .streams .seal s (zeros n) (zeros n) .outcome .answer) (gave _ (length (zeros n)) _ _ (whole .out) (omega (arith, size, some))) in
+        let begin = same .0 Sealing 1 sixteen sixteen (l .start Sealing 1 sixteen sixteen) in
+        let middle = same .1 s (zeros n) (zeros n) taken in
+        let end = same .2 (m .streams .seal s (zeros n) (zeros n) .outcome .next) sixteen (whole .answer) in
+        let all = whole .rounds in
+        omega (arith, begin, middle, end, all)
 
 -- a checking's yes is a sealing under the tag
 says-yes : (m : Model) (set : ℕ) (K N A C : List ℕ) (calls : List Call) → length K ≡ rowOf set .key → Message (m .streams) Checking set K N A C calls
-    → ((tag : List ℕ) → length tag ≡ rowOf set .key
-    → m .streams .finishChecking (after (m .streams) (begun (m .streams) Checking set K N) calls .stream) tag .answer ≡ Done)
-    → Third m → ⊥
+    → AgreesToAnyTag m set K N calls → Third m → ⊥
 says-yes m set K N A C calls key message agrees t =
     no-every-tag set K N A C key (λ tag size. t .cutting .checks set K N A C calls tag message .yes .0 (agrees tag size))
 
 -- a start runs twelve rounds
-reports-late : (m : Model) → ((d : Direction) (set : ℕ) (K N : List ℕ) → m .streams .start d set K N .rounds ≡ 0) → Listed m → Reported m → ⊥
+reports-late : (m : Model) → ReportsLate m → Listed m → Reported m → ⊥
 unfolding isSet rowOf table
 reports-late m none l r =
     let twelve = r .start Sealing 1 sixteen sixteen (l .start Sealing 1 sixteen sixteen) .0 in
@@ -229,9 +301,7 @@ fresh : Stream
 fresh = record { words = zeros 5; set = 1; direction = Sealing; phase = Data; key = zeros 16; ad = 0; text = 0; place = 0 }
 
 -- a finish of it is done, and ends it
-stays-open : (m : Model)
-    → ((s : Stream) (tag : List ℕ) → let outcome = m .streams .finishSealing s tag .outcome in outcome .answer ≡ Done → outcome .next ≡ s)
-    → Listed m → Reported m → ⊥
+stays-open : (m : Model) → StaysOpen m → Listed m → Reported m → ⊥
 unfolding isSet rowOf table isSound isSoundOpen fresh
 stays-open m same l r =
     let done = l .finish-sealing fresh sixteen in
@@ -241,10 +311,7 @@ stays-open m same l r =
     omega arith
 
 -- an empty piece of it is done, and leaves the one byte lent
-writes-beyond : (m : Model)
-    → ((s : Stream) (piece out : List ℕ) → let leaves = m .streams .seal s piece out in
-    leaves .outcome .answer ≡ Done → length piece < length out → getD (leaves .lent) (length piece) 0 ≡ getD out (length piece) 0 → ⊥)
-    → Listed m → Reported m → ⊥
+writes-beyond : (m : Model) → WritesBeyond m → Listed m → Reported m → ⊥
 unfolding isSet rowOf table isSound isSoundOpen fresh
 writes-beyond m changed l r =
     let done = l .seal-piece fresh [] (0 ∷ []) in

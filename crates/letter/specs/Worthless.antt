@@ -1,24 +1,19 @@
--- Worthless versions, and what each of them breaks.
-use mathlib.Core.Bool.{cond, not, _&&_}
-use mathlib.Core.List.{List, _∷_, _++_}
+-- Worthless versions, and what each of them breaks. A version is any model that does what is said of it, whatever else it does.
+use mathlib.Core.List.{List, [], _∷_}
 use mathlib.Core.Path.{_≡_}
 use Prim.Native.Nat.{ℕ, _<_}
-use lib.Dec.{eqb}
-use lib.ListN.{length, getD, take, drop}
+use lib.ListN.{length, getD, take}
 use Rattle.answers.specs.declared.Answer.the-variants.{Done}
-use Rattle.answers.specs.Numbers.{isDone}
 use Rattle.ascon.specs.Sets.{rowOf}
 use Rattle.ascon.specs.Mode.{sealed}
 use Rattle.stream.specs.declared.Direction.{Direction}
-use Rattle.stream.specs.declared.Direction.the-variants.{Checking}
+use Rattle.stream.specs.declared.Direction.the-variants.{Sealing, Checking}
+use Rattle.stream.specs.declared.Phase.the-variants.{Ended}
 use Rattle.stream.specs.declared.Stream.{Stream}
-use Rattle.stream.specs.declared.Outcome.{Outcome}
-use Rattle.stream.specs.State.{ended}
-use Rattle.stream.specs.Calls.{called}
-use Rattle.history.specs.History.{Streams, Call, begun, after}
+use Rattle.history.specs.History.{Call, begun, after}
 use Rattle.history.specs.Cuts.{Message}
 use Rattle.message.specs.Message.{SealLeaves}
-use Rattle.letter.specs.Model.{Model, ours}
+use Rattle.letter.specs.Model.{Model}
 use Rattle.letter.specs.First.{Listed}
 use Rattle.letter.specs.Second.{Unrefused, Second}
 use Rattle.letter.specs.Third.{Third}
@@ -26,92 +21,91 @@ use Rattle.letter.specs.Reported.{Reported}
 
 -- ---- the versions
 
--- works in the first piece of a text and copies the later ones
-abbrev pub laterCopied : Streams
-laterCopied =
-    record {
-      start = ours .streams .start;
-      ad = ours .streams .ad;
-      seal = λ s piece out. let leaves = ours .streams .seal s piece out in
-          cond (isDone (leaves .outcome .answer) && not (eqb (s .text) 0)) (called (leaves .outcome) (piece ++ drop (length piece) out)) leaves;
-      check = ours .streams .check;
-      finishSealing = ours .streams .finishSealing;
-      finishChecking = ours .streams .finishChecking;
-    }
+-- never says done to a whole message, or to a start
+abbrev pub NeverSeals : Model → Type 0
+NeverSeals m = (set : ℕ) (K N A P out tag : List ℕ) → m .seal set K N A P out tag .outcome .answer ≡ Done → ⊥
+
+abbrev pub NeverStarts : Model → Type 0
+NeverStarts m = (d : Direction) (set : ℕ) (K N : List ℕ) → m .streams .start d set K N .answer ≡ Done → ⊥
+
+-- answers and leaves the same for all keys, nonces, data and texts of the same lengths: by the set, the lengths and the lent places alone
+abbrev pub SealsBlindly : Model → (ℕ → ℕ → ℕ → ℕ → ℕ → List ℕ → List ℕ → SealLeaves) → Type 0
+SealsBlindly m same = (set : ℕ) (K N A P out tag : List ℕ) → m .seal set K N A P out tag ≡ same set (length K) (length N) (length A) (length P) out tag
+
+-- copies the text
+abbrev pub Copies : Model → Type 0
+Copies m = (set : ℕ) (K N A P out tag : List ℕ) → let leaves = m .seal set K N A P out tag in leaves .outcome .answer ≡ Done → take (length P) (leaves .out) ≡ P
+
+-- copies each piece behind text that it took, whatever it does with the first
+abbrev pub CopiesLater : Model → Type 0
+CopiesLater m =
+    (set : ℕ) (K N : List ℕ) (calls : List Call) (piece out : List ℕ) → let before = after (m .streams) (begun (m .streams) Sealing set K N) calls in
+    let leaves = m .streams .seal (before .stream) piece out in
+    (before .text ≡ [] → ⊥) → leaves .outcome .answer ≡ Done → take (length piece) (leaves .lent) ≡ piece
 
 -- takes an empty piece of text for the end of the message
-abbrev pub emptyEnds : Streams
-emptyEnds =
-    record {
-      start = ours .streams .start;
-      ad = ours .streams .ad;
-      seal = λ s piece out. cond (eqb (length piece) 0) (called (record { answer = Done; rounds = 0; next = ended }) out) (ours .streams .seal s piece out);
-      check = λ s piece. cond (eqb (length piece) 0) (record { answer = Done; rounds = 0; next = ended }) (ours .streams .check s piece);
-      finishSealing = ours .streams .finishSealing;
-      finishChecking = ours .streams .finishChecking;
-    }
+abbrev pub EmptyEnds : Model → Type 0
+EmptyEnds m = (s : Stream) (out : List ℕ) → let outcome = m .streams .seal s [] out .outcome in outcome .answer ≡ Done → outcome .next .phase ≡ Ended
 
--- a done outcome with other rounds
-abbrev pub told : ℕ → Outcome → Outcome
-told n outcome = cond (isDone (outcome .answer)) (record { answer = outcome .answer; rounds = n; next = outcome .next }) outcome
+-- opens one ciphertext under every tag of the set's length
+abbrev pub OpensAnyTag : Model → ℕ → List ℕ → List ℕ → List ℕ → List ℕ → List ℕ → Type 0
+OpensAnyTag m set K N A C out = (T : List ℕ) → length T ≡ rowOf set .key → m .unseal set K N A C T out .outcome .answer ≡ Done
 
--- the rounds of a stream made up, by the kind of the call
-abbrev pub madeUpStreams : ℕ → ℕ → ℕ → ℕ → Streams
-madeUpStreams start piece text finish =
-    record {
-      start = λ d set K N. told start (ours .streams .start d set K N);
-      ad = λ s x. told piece (ours .streams .ad s x);
-      seal = λ s x out. let leaves = ours .streams .seal s x out in called (told text (leaves .outcome)) (leaves .lent);
-      check = λ s x. told text (ours .streams .check s x);
-      finishSealing = λ s tag. let leaves = ours .streams .finishSealing s tag in called (told finish (leaves .outcome)) (leaves .lent);
-      finishChecking = λ s tag. told finish (ours .streams .finishChecking s tag);
-    }
+-- after one cut message, says yes to every tag of the set's length, whatever else its finish refuses
+abbrev pub AgreesToAnyTag : Model → ℕ → List ℕ → List ℕ → List Call → Type 0
+AgreesToAnyTag m set K N calls =
+    (tag : List ℕ) → length tag ≡ rowOf set .key → m .streams .finishChecking (after (m .streams) (begun (m .streams) Checking set K N) calls .stream) tag .answer ≡ Done
+
+-- reports the same rounds for every message; for every start, every piece of text and every finish
+abbrev pub SameRounds : Model → ℕ → Type 0
+SameRounds m n = (set : ℕ) (K N A P out tag : List ℕ) → let outcome = m .seal set K N A P out tag .outcome in outcome .answer ≡ Done → outcome .rounds ≡ n
+
+abbrev pub SameStreamRounds : Model → ℕ → ℕ → ℕ → Type 0
+SameStreamRounds m start text finish =
+    ((d : Direction) (set : ℕ) (K N : List ℕ) → let outcome = m .streams .start d set K N in outcome .answer ≡ Done → outcome .rounds ≡ start)
+    × ((s : Stream) (piece out : List ℕ) → let outcome = m .streams .seal s piece out .outcome in outcome .answer ≡ Done → outcome .rounds ≡ text)
+    × ((s : Stream) (tag : List ℕ) → let outcome = m .streams .finishSealing s tag .outcome in outcome .answer ≡ Done → outcome .rounds ≡ finish)
+
+-- reports no rounds at a start, so that at best their sum is right in the end
+abbrev pub ReportsLate : Model → Type 0
+ReportsLate m = (d : Direction) (set : ℕ) (K N : List ℕ) → m .streams .start d set K N .rounds ≡ 0
+
+-- finishes, and leaves the stream as it was
+abbrev pub StaysOpen : Model → Type 0
+StaysOpen m = (s : Stream) (tag : List ℕ) → let outcome = m .streams .finishSealing s tag .outcome in outcome .answer ≡ Done → outcome .next ≡ s
+
+-- changes the byte behind each piece of text: what the third demand joins may still be right
+abbrev pub WritesBeyond : Model → Type 0
+WritesBeyond m =
+    (s : Stream) (piece out : List ℕ) → let leaves = m .streams .seal s piece out in
+    leaves .outcome .answer ≡ Done → length piece < length out → getD (leaves .lent) (length piece) 0 ≡ getD out (length piece) 0 → ⊥
 
 -- ---- what they break
 
 pub record Worthless : Type 0 where
-  -- never to say done breaks the listed conditions, whatever the refusals are and whatever they leave
-  pub refuses : (m : Model) → ((set : ℕ) (K N A P out tag : List ℕ) → m .seal set K N A P out tag .outcome .answer ≡ Done → ⊥) → Listed m → ⊥
-  pub refuses-streams : (m : Model) → ((d : Direction) (set : ℕ) (K N : List ℕ) → m .streams .start d set K N .answer ≡ Done → ⊥) → Listed m → ⊥
-  -- a sealing that answers and leaves the same for all keys, nonces, data and texts of the same lengths, be it the places as they were, breaks the second demand
-  -- once it is done with a text that is not empty
-  pub answers-same : (m : Model) (same : ℕ → ℕ → ℕ → ℕ → ℕ → List ℕ → List ℕ → SealLeaves)
-      → ((set : ℕ) (K N A P out tag : List ℕ) → m .seal set K N A P out tag ≡ same set (length K) (length N) (length A) (length P) out tag)
+  -- the listed conditions
+  pub refuses : (m : Model) → NeverSeals m → Listed m → ⊥
+  pub refuses-streams : (m : Model) → NeverStarts m → Listed m → ⊥
+  -- the second demand, once it is done with a text that is not empty
+  pub answers-same : (m : Model) (same : ℕ → ℕ → ℕ → ℕ → ℕ → List ℕ → List ℕ → SealLeaves) → SealsBlindly m same
       → (set : ℕ) (K N A : List ℕ) (byte : ℕ) (rest out tag : List ℕ) → length K ≡ rowOf set .key
       → m .seal set K N A (byte ∷ rest) out tag .outcome .answer ≡ Done
       → Second m → ⊥
-  -- a done sealing that copies the text breaks the second demand
-  pub copies : (m : Model)
-      → ((set : ℕ) (K N A P out tag : List ℕ) → let leaves = m .seal set K N A P out tag in leaves .outcome .answer ≡ Done → take (length P) (leaves .out) ≡ P)
-      → Listed m → Second m → ⊥
-  -- such streams break the third demand, whatever the rest of the model is
-  pub copies-later : (m : Model) → m .streams ≡ laterCopied → Third m → ⊥
-  pub ends-early : (m : Model) → m .streams ≡ emptyEnds → Third m → ⊥
-  -- an opening that is done with one ciphertext under every tag of the set's length breaks the second demand
-  pub takes-every-tag : (m : Model) (set : ℕ) (K N A C out : List ℕ) → length K ≡ rowOf set .key
-      → ((T : List ℕ) → length T ≡ rowOf set .key → m .unseal set K N A C T out .outcome .answer ≡ Done)
-      → Second m → ⊥
-  -- so does one that gives no refusal 1 to 6 to a published ciphertext and tag, and is not done
+  -- the second demand
+  pub copies : (m : Model) → Copies m → Listed m → Second m → ⊥
+  pub takes-every-tag : (m : Model) (set : ℕ) (K N A C out : List ℕ) → length K ≡ rowOf set .key → OpensAnyTag m set K N A C out → Second m → ⊥
+  -- the second demand, too, where a published ciphertext and tag get no refusal 1 to 6, and are not opened
   pub takes-no-tag : (m : Model) (set : ℕ) (K N A P out : List ℕ) → let published = sealed (rowOf set) K N A P in
       let answer = m .unseal set K N A (published .cipher) (published .tag) out .outcome .answer in
       Unrefused answer → (answer ≡ Done → ⊥) → Second m → ⊥
-  -- a checking that, after one cut message, says yes to every tag of the set's length breaks the third demand, whatever else its finish refuses
+  -- the third demand; the listed conditions only say that there is a done start
+  pub copies-later : (m : Model) → CopiesLater m → Listed m → Third m → ⊥
+  pub ends-early : (m : Model) → EmptyEnds m → Listed m → Third m → ⊥
   pub says-yes : (m : Model) (set : ℕ) (K N A C : List ℕ) (calls : List Call) → length K ≡ rowOf set .key → Message (m .streams) Checking set K N A C calls
-      → ((tag : List ℕ) → length tag ≡ rowOf set .key
-      → m .streams .finishChecking (after (m .streams) (begun (m .streams) Checking set K N) calls .stream) tag .answer ≡ Done)
-      → Third m → ⊥
-  -- the same rounds always break the formula, and rounds by the kind of the call the sum of the third demand
-  pub makes-up : (m : Model) (n : ℕ)
-      → ((set : ℕ) (K N A P out tag : List ℕ) → let outcome = m .seal set K N A P out tag .outcome in outcome .answer ≡ Done → outcome .rounds ≡ n)
-      → Listed m → Reported m → ⊥
-  pub makes-up-streams : (m : Model) (start piece text finish : ℕ) → m .streams ≡ madeUpStreams start piece text finish → Third m → ⊥
-  -- rounds that are right in the sum alone, and a finish that leaves the stream as it was, break what a call has to report and leave
-  pub reports-late : (m : Model) → ((d : Direction) (set : ℕ) (K N : List ℕ) → m .streams .start d set K N .rounds ≡ 0) → Listed m → Reported m → ⊥
-  pub stays-open : (m : Model)
-      → ((s : Stream) (tag : List ℕ) → let outcome = m .streams .finishSealing s tag .outcome in outcome .answer ≡ Done → outcome .next ≡ s)
-      → Listed m → Reported m → ⊥
-  -- a stream that changes the byte behind each done piece of text breaks it too: joined output, tag and rounds, all that the third demand speaks of, may still be right
-  pub writes-beyond : (m : Model)
-      → ((s : Stream) (piece out : List ℕ) → let leaves = m .streams .seal s piece out in
-      leaves .outcome .answer ≡ Done → length piece < length out → getD (leaves .lent) (length piece) 0 ≡ getD out (length piece) 0 → ⊥)
-      → Listed m → Reported m → ⊥
+      → AgreesToAnyTag m set K N calls → Third m → ⊥
+  pub makes-up-streams : (m : Model) (start text finish : ℕ) → SameStreamRounds m start text finish → Listed m → Third m → ⊥
+  -- what a call has to report and leave; the listed conditions only say which calls are done
+  pub makes-up : (m : Model) (n : ℕ) → SameRounds m n → Listed m → Reported m → ⊥
+  pub reports-late : (m : Model) → ReportsLate m → Listed m → Reported m → ⊥
+  pub stays-open : (m : Model) → StaysOpen m → Listed m → Reported m → ⊥
+  pub writes-beyond : (m : Model) → WritesBeyond m → Listed m → Reported m → ⊥

@@ -4,7 +4,7 @@ use mathlib.Core.List.{[], _∷_}
 use Prim.Native.Nat.{ℕ, zero, suc, _-_, _*_, _^_, _≤_, _<_}
 use native.Mathlib.Omega.{arith}
 use lib.Dec.{lit<, lit≤}
-use lib.ListN.{length, getD, take}
+use lib.ListN.{getD, take}
 use Rattle.permutation.specs.declared.Run.the-variants.{Twelve}
 use Rattle.permutation.specs.Strings.{_‖_, bytesOf, numberOf, stringOfWords}
 use Rattle.permutation.specs.Runs.{roundsOf, constantsOf, constants}
