@@ -98,7 +98,7 @@ pub record Worthless : Type 0 where
   pub takes-no-tag : (m : Model) (set : ℕ) (K N A P out : List ℕ) → let published = sealed (rowOf set) K N A P in
       let answer = m .unseal set K N A (published .cipher) (published .tag) out .outcome .answer in
       Unrefused answer → (answer ≡ Done → ⊥) → Second m → ⊥
-  -- the third demand; the listed conditions only say that there is a done start
+  -- the third demand; the listed conditions only say which calls are done
   pub copies-later : (m : Model) → CopiesLater m → Listed m → Third m → ⊥
   pub ends-early : (m : Model) → EmptyEnds m → Listed m → Third m → ⊥
   pub says-yes : (m : Model) (set : ℕ) (K N A C : List ℕ) (calls : List Call) → length K ≡ rowOf set .key → Message (m .streams) Checking set K N A C calls
