@@ -1,5 +1,5 @@
 -- `bench::move_to_front` meets its contract. The loop's invariant: the bytes moved are the window's first, and those from there on are not touched yet. The measure
--- is the number of bytes left. Assumes nothing.
+-- is the number of bytes left.
 use mathlib.Core.Path.{_≡_, refl, sym, ap, ap₂, _∙_}
 use mathlib.Core.List.{List, [], _∷_, _++_}
 use Prim.Native.Nat.{ℕ, _+_, _-_, _≤_, _<_}

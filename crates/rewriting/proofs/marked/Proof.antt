@@ -1,4 +1,4 @@
--- `rewriting::marked` is safe and ends: the measure is the number of places left. Assumes nothing.
+-- `rewriting::marked` is safe and ends: the measure is the number of places left.
 use mathlib.Core.Path.{_≡_}
 use Prim.Native.Nat.{_-_}
 use lib.ListN.{length}

@@ -1,4 +1,4 @@
--- `rewriting::rewrite_all` is safe and ends: a record that is read takes a byte or more, and at most 1,688. The measure is the number of bytes left. Assumes nothing.
+-- `rewriting::rewrite_all` is safe and ends: a record that is read takes a byte or more, and at most 1,688. The measure is the number of bytes left.
 use Prim.Native.Nat.{_-_, _≤_}
 use native.Mathlib.Omega.{arith}
 use lib.ListN.{length}

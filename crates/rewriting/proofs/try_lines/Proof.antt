@@ -1,4 +1,4 @@
--- `rewriting::try_lines` is safe and ends: the measure is the number of lines left. Assumes nothing.
+-- `rewriting::try_lines` is safe and ends: the measure is the number of lines left.
 use Prim.Native.Nat.{_-_}
 use borrow.Author.Needs.{needs}
 use Rattle.rewriting.proofs.try_lines.Statement.{statement}

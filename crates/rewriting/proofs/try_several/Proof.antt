@@ -1,4 +1,4 @@
--- `rewriting::try_several` is safe and ends: the measure is the number of lines left. Assumes nothing.
+-- `rewriting::try_several` is safe and ends: the measure is the number of lines left.
 use borrow.Author.Needs.{needs}
 use Rattle.rewriting.proofs.try_several.Statement.{statement}
 use Rattle.rewriting.proofs.try_several.Tie as tie

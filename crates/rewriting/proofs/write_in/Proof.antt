@@ -1,4 +1,4 @@
--- `rewriting::write_in` meets its contract: no more is written than there is room. Assumes nothing.
+-- `rewriting::write_in` meets its contract: no more is written than there is room.
 use mathlib.Core.Path.{_≡_, refl, sym, ap}
 use mathlib.Core.Bool.{Bool, true, false, cond}
 use mathlib.Core.List.{List, _++_}
