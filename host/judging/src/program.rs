@@ -1,18 +1,25 @@
-//! The program under test: how it is found, started and waited for.
+//! What is tried, the program or the command that runs it: how it is found, started and waited for.
 
+use crate::layout::lay_out;
 use std::io::Read;
 use std::path::{Path, PathBuf};
 use std::process::{Child, Command, ExitStatus, Output, Stdio};
 use std::sync::mpsc::{channel, Receiver};
+use std::sync::OnceLock;
 use std::thread::{sleep, spawn};
 use std::time::{Duration, Instant};
 
 /// How long a run may take; one that takes longer is ended and has failed.
 pub const LIMIT: Duration = Duration::from_secs(40);
 
-/// Gives the executable that stands in for the program, if the environment names one.
-pub fn stand_in() -> Option<PathBuf> {
-    std::env::var_os("KVISTMAUR_BENCH").map(PathBuf::from)
+/// Gives the executable that stands in for the program, if the environment names one; panics when no file has that name.
+fn stand_in() -> Option<PathBuf> {
+    let path = PathBuf::from(std::env::var_os("KVISTMAUR_BENCH")?);
+    assert!(
+        path.is_absolute() && path.is_file(),
+        "KVISTMAUR_BENCH is no whole path of a file: {path:?}"
+    );
+    Some(path)
 }
 
 /// Gives the folder of the repository.
@@ -20,56 +27,95 @@ pub fn root() -> PathBuf {
     Path::new(env!("CARGO_MANIFEST_DIR")).join("../..")
 }
 
-/// Gives the words that start the program of a name, or what stands in for it.
-fn words(name: &str, stand_in: Option<PathBuf>) -> Vec<PathBuf> {
-    match stand_in {
-        Some(path) => vec![path],
-        None => vec![root().join("host/run"), name.into()],
+/// What is tried: the program, or the command for people, which runs it.
+#[derive(Clone, Copy, Debug, PartialEq, Eq)]
+pub enum Tried {
+    Program,
+    Command,
+}
+
+impl Tried {
+    pub const BOTH: [Tried; 2] = [Tried::Program, Tried::Command];
+
+    /// Gives the words that start it; a stand-in is run by a copy of the command, which has no other way to another program.
+    fn words(self) -> Vec<PathBuf> {
+        static AROUND: OnceLock<PathBuf> = OnceLock::new();
+        let around = || lay_out("around-the-stand-in", &Tried::Program.script());
+        match (self, stand_in()) {
+            (Tried::Program, None) => vec![root().join("host/run"), "bench".into()],
+            (Tried::Program, Some(path)) => vec![path],
+            (Tried::Command, None) => vec![root().join("bench")],
+            (Tried::Command, Some(_)) => vec![AROUND.get_or_init(around).clone()],
+        }
+    }
+
+    /// Gives a line of a shell script that runs it in the shell's place.
+    pub fn script(self) -> String {
+        let words = self.words();
+        let quoted = words.iter().map(|word| format!("'{}'", word.display()));
+        format!("exec {}", quoted.collect::<Vec<_>>().join(" "))
+    }
+
+    /// Gives the command that starts it.
+    pub fn start(self) -> Command {
+        let words = self.words();
+        let mut command = Command::new(&words[0]);
+        command.args(&words[1..]);
+        command
+    }
+
+    /// Gives the command that has a shell run the script, in which `"$@"` are the words that start it.
+    pub fn in_shell(self, script: &str) -> Command {
+        let mut command = Command::new("sh");
+        command.args(["-c", script, "sh"]).args(self.words());
+        command
+    }
+
+    /// Gives the status with which it ends when the command would say this; the program itself has none.
+    pub fn status(self, said: i32) -> i32 {
+        match self {
+            Tried::Program => 0,
+            Tried::Command => said,
+        }
     }
 }
 
-/// Gives the words that start the bench.
-fn bench() -> Vec<PathBuf> {
-    words("bench", stand_in())
-}
-
-/// Gives the command of these words.
-fn command(words: Vec<PathBuf>) -> Command {
-    let mut command = Command::new(&words[0]);
-    command.args(&words[1..]);
-    command
-}
-
-/// Gives the command that starts the program.
-pub fn program() -> Command {
-    command(bench())
-}
-
-/// Gives the command that starts the program which writes records again.
+/// Gives the command that starts the program which writes records again, or what stands in for it.
 pub fn rewriting() -> Command {
-    let stand_in = std::env::var_os("KVISTMAUR_REWRITING").map(PathBuf::from);
-    command(words("rewriting", stand_in))
-}
-
-/// Gives the command that has a shell run the script, in which `"$@"` are the program's words.
-pub fn program_in_shell(script: &str) -> Command {
-    let mut command = Command::new("sh");
-    command.args(["-c", script, "sh"]).args(bench());
-    command
+    match std::env::var_os("KVISTMAUR_REWRITING") {
+        Some(path) => Command::new(path),
+        None => {
+            let mut command = Command::new(root().join("host/run"));
+            command.arg("rewriting");
+            command
+        }
+    }
 }
 
 /// Runs a command to its end and gives what it left, or why there is nothing to compare.
 pub fn run(
+    command: Command,
+    stdin: impl Into<Stdio>,
+    stdout: impl Into<Stdio>,
+) -> Result<Output, String> {
+    run_on(command, stdin, stdout, Stdio::piped())
+}
+
+/// Runs a command to its end on these three streams and gives what it left, or why there is nothing to compare.
+pub fn run_on(
     mut command: Command,
     stdin: impl Into<Stdio>,
     stdout: impl Into<Stdio>,
+    stderr: impl Into<Stdio>,
 ) -> Result<Output, String> {
     let mut child = command
         .stdin(stdin)
         .stdout(stdout)
-        .stderr(Stdio::piped())
+        .stderr(stderr)
         .spawn()
         .map_err(|error| format!("it could not be started: {error}"))?;
+    // What the command still holds of the streams would keep them open.
+    drop(command);
     let stdout = child.stdout.take().map(collected);
     let stderr = child.stderr.take().map(collected);
     let status = ended(&mut child)?;

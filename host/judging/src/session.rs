@@ -1,42 +1,56 @@
-//! The program at work, with both its pipes in our hands.
+//! The program or the command at work, with its streams in our hands.
 
-use crate::program::{ended, LIMIT};
+use crate::end::ends_whole;
+use crate::program::{ended, Tried, LIMIT};
 use std::fs::read_to_string;
 use std::io::{Read, Write};
-use std::process::{Child, ChildStdin, ChildStdout, Command, Stdio};
+use std::process::{Child, Command, ExitStatus, Stdio};
 use std::sync::mpsc::{channel, Receiver};
 use std::thread::spawn;
 use std::time::{Duration, Instant};
 
-/// A running program and all that it has printed so far.
+/// What runs, and all that it has printed so far.
 pub struct Session {
+    tried: Tried,
     child: Child,
-    input: Option<ChildStdin>,
+    input: Option<Box<dyn Write>>,
     output: Receiver<Vec<u8>>,
     printed: Vec<u8>,
+    errors: Receiver<Vec<u8>>,
 }
 
 impl Session {
-    /// Starts the program.
-    pub fn start(mut command: Command) -> Session {
-        let mut child = command
-            .stdin(Stdio::piped())
-            .stdout(Stdio::piped())
+    /// Starts it at a pipe.
+    pub fn start(tried: Tried) -> Session {
+        let mut session = Session::start_on(tried, Stdio::piped(), Stdio::piped());
+        let pipe = session.child.stdin.take().expect("a pipe");
+        session.input = Some(Box::new(pipe));
+        session
+    }
+
+    /// Starts it on this input and this output.
+    pub fn start_on(tried: Tried, input: impl Into<Stdio>, output: impl Into<Stdio>) -> Session {
+        let mut child = tried
+            .start()
+            .stdin(input)
+            .stdout(output)
             .stderr(Stdio::piped())
             .spawn()
-            .expect("the program starts");
+            .expect("it starts");
         Session {
-            input: child.stdin.take(),
-            output: pieces(child.stdout.take().expect("a pipe")),
+            tried,
+            input: None,
+            output: pieces(child.stdout.take()),
             printed: Vec::new(),
+            errors: pieces(child.stderr.take()),
             child,
         }
     }
 
-    /// Hands the program bytes that fit into its pipe at once.
+    /// Hands over bytes that fit into the pipe at once.
     pub fn feed(&mut self, bytes: &[u8]) {
         let input = self.input.as_mut().expect("the input is still open");
-        input.write_all(bytes).expect("the program takes its input");
+        input.write_all(bytes).expect("the input is taken");
     }
 
     /// Waits until as many bytes are printed, or the limit is past, and gives how many are.
@@ -60,7 +74,7 @@ impl Session {
         self.so_far()
     }
 
-    /// Waits as long as said and gives all that is printed then.
+    /// Waits as long as said and gives all that is printed then; panics when anything is said on standard error.
     pub fn after(&mut self, pause: Duration) -> String {
         let end = Instant::now() + pause;
         while let Ok(piece) = self
@@ -69,6 +83,7 @@ impl Session {
         {
             self.printed.extend(piece);
         }
+        assert!(self.errors.try_recv().is_err(), "it says its end too early");
         self.so_far()
     }
 
@@ -84,16 +99,42 @@ impl Session {
         number.parse().expect("it is a number")
     }
 
-    /// Closes the input, panics unless the program then ends well and in silence, and gives all that it printed.
-    pub fn close(mut self) -> String {
+    /// Sends the program a signal, also where the command runs it.
+    pub fn signal_program(&self, name: &str) {
+        let mut process = self.child.id().to_string();
+        loop {
+            let children = format!("/proc/{process}/task/{process}/children");
+            let children = read_to_string(children).expect("the process is there");
+            match children.split_whitespace().next() {
+                Some(child) => process = child.to_string(),
+                None => return send(name, &process),
+            }
+        }
+    }
+
+    /// Sends a signal to what was started, and to nothing that this started in turn.
+    pub fn signal(&self, name: &str) {
+        send(name, &self.child.id().to_string());
+    }
+
+    /// Closes the input, panics unless the report then ends as a whole one does, and gives all of it.
+    pub fn close(self) -> String {
+        let tried = self.tried;
+        let (status, printed, said) = self.end();
+        ends_whole(tried, status, &said, printed.as_bytes());
+        printed
+    }
+
+    /// Closes the input and gives the status, all that was printed, and all that was said on standard error.
+    pub fn end(mut self) -> (ExitStatus, String, String) {
         self.input = None;
-        let status = ended(&mut self.child).expect("the program ends");
-        assert!(status.success(), "the program ended with {status}");
-        let mut said = String::new();
-        let mut errors = self.child.stderr.take().expect("a pipe");
-        errors.read_to_string(&mut said).expect("plain text");
-        assert_eq!(said, "", "on standard error");
-        self.printed(usize::MAX)
+        let status = ended(&mut self.child).expect("it ends");
+        let printed = self.printed(usize::MAX);
+        let mut said = Vec::new();
+        while let Ok(piece) = self.errors.recv_timeout(LIMIT) {
+            said.extend(piece);
+        }
+        (status, printed, String::from_utf8_lossy(&said).into_owned())
     }
 
     /// Gives what has arrived.
@@ -103,23 +144,31 @@ impl Session {
 }
 
 impl Drop for Session {
-    /// Leaves no program behind, however the test ends.
+    /// Leaves nothing behind, however the test ends.
     fn drop(&mut self) {
         let _ = self.child.kill();
         let _ = self.child.wait();
     }
 }
 
-/// Gives a place at which the pipe's bytes arrive as they come.
-fn pieces(mut pipe: ChildStdout) -> Receiver<Vec<u8>> {
+/// Sends a process a signal.
+fn send(name: &str, process: &str) {
+    let kill = Command::new("kill").args(["-s", name, process]).status();
+    assert!(kill.expect("kill starts").success(), "{name} can be sent");
+}
+
+/// Gives a place at which the bytes of a pipe, if there is one, arrive as they come.
+fn pieces(pipe: Option<impl Read + Send + 'static>) -> Receiver<Vec<u8>> {
     let (sender, receiver) = channel();
-    spawn(move || {
-        let mut room = [0; 4096];
-        while let Ok(count @ 1..) = pipe.read(&mut room) {
-            if sender.send(room[..count].to_vec()).is_err() {
-                break;
+    if let Some(mut pipe) = pipe {
+        spawn(move || {
+            let mut room = [0; 4096];
+            while let Ok(count @ 1..) = pipe.read(&mut room) {
+                if sender.send(room[..count].to_vec()).is_err() {
+                    break;
+                }
             }
-        }
-    });
+        });
+    }
     receiver
 }

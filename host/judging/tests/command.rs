@@ -1,6 +1,8 @@
-//! The command for people, `./bench`. It runs the program itself, so these tests do nothing for a stand-in.
+//! The words of the command for people, `./bench`, and its status.
 
-use judging::program::{root, run, stand_in};
+use judging::end::Counts;
+use judging::layout::place;
+use judging::program::{root, run, run_on, Tried};
 use second::judge::judge_all;
 use std::fs::{self, File};
 use std::io::pipe;
@@ -18,44 +20,46 @@ const SAMPLE: [&str; 6] = [
 
 /// Gives the command, called in a folder of the repository with these words.
 fn bench(folder: &str, words: &[&str]) -> Command {
-    let mut command = Command::new(root().join("bench"));
+    let mut command = Tried::Command.start();
     command.current_dir(root().join(folder)).args(words);
     command
 }
 
 /// Panics unless the command ends with this status, and gives what it leaves.
-fn ends(command: Command, input: Stdio, output: Stdio, status: i32) -> Output {
-    let output = run(command, input, output).expect("the command ends");
-    assert_eq!(output.status.code(), Some(status));
+fn ends(command: Command, input: Stdio, status: i32) -> Output {
+    let output = run(command, input, Stdio::piped()).expect("the command ends");
+    let words = String::from_utf8_lossy(&output.stderr);
+    assert_eq!(output.status.code(), Some(status), "{words}");
     output
 }
 
-/// Says whether a stand-in is tried, which this command doesn't run.
-fn stands_in() -> bool {
-    stand_in().inspect(|_| println!("not tried")).is_some()
+/// Gives the sample.
+fn sample() -> Vec<u8> {
+    fs::read(root().join("samples/records.txt")).expect("the sample can be read")
 }
 
 /// Says that the sample is judged as it was made, however the command is given it.
 #[test]
 fn the_sample() {
-    if stands_in() {
-        return;
-    }
-    let sample = root().join("samples/records.txt");
-    let wanted = judge_all(&fs::read(&sample).expect("the sample can be read"));
-    let opened = || Stdio::from(File::open(&sample).expect("the sample opens"));
+    let wanted = judge_all(&sample());
+    let opened = || Stdio::from(File::open(root().join("samples/records.txt")).expect("it opens"));
     let mut ran = 0;
     for (command, input) in [
         (bench("", &["samples/records.txt"]), Stdio::null()),
+        (bench("", &["judge", "samples/records.txt"]), Stdio::null()),
+        (bench("", &["--", "samples/records.txt"]), Stdio::null()),
         (bench("samples", &["records.txt"]), Stdio::null()),
         (bench("", &["-"]), opened()),
+        (bench("", &["judge", "-"]), opened()),
+        (bench("", &["judge"]), opened()),
         (bench("", &[]), opened()),
     ] {
-        let output = ends(command, input, Stdio::piped(), 0);
+        let output = ends(command, input, 1);
         assert!(output.stdout == wanted);
+        assert_eq!(output.stderr, Counts::of(&wanted).line().as_bytes());
         ran += 1;
     }
-    assert_eq!(ran, 4);
+    assert_eq!(ran, 8);
 
     let reports = String::from_utf8(wanted).expect("plain text");
     let lines: Vec<&str> = reports.lines().collect();
@@ -65,51 +69,145 @@ fn the_sample() {
     }
 }
 
+/// Says which status each kind of report has, and that what stands behind `&&` is done for no other than 0.
+#[test]
+fn the_status() {
+    let sample = sample();
+    let records: Vec<&[u8]> = sample.split_inclusive(|byte| *byte == b'\n').collect();
+    let records: Vec<Vec<u8>> = records.chunks(8).map(|lines| lines.concat()).collect();
+    let (equal, differs) = (&records[0], &records[3]);
+    let mut ran = 0;
+    for (records, status) in [
+        (vec![], 0),
+        (vec![equal], 0),
+        (vec![equal; 20], 0),
+        (vec![differs], 1),
+        (vec![equal, differs, equal], 1),
+        (vec![equal, &equal[..100].to_vec()], 1),
+        (vec![&b"\n".to_vec()], 1),
+    ] {
+        let path = place("status");
+        fs::write(
+            &path,
+            records.into_iter().flatten().copied().collect::<Vec<u8>>(),
+        )
+        .expect("a file for the test");
+        let mut command = Tried::Command.in_shell(r#""$@" && echo shipped"#);
+        command.arg(&path);
+        let output = ends(command, Stdio::null(), status);
+        assert_eq!(output.stdout.ends_with(b"shipped\n"), status == 0);
+        ran += 1;
+    }
+    assert_eq!(ran, 7);
+}
+
+/// Says that the name of a file may have blanks, begin with a minus behind `--` or in a folder, or be a word of the command in a folder.
+#[test]
+fn names_of_files() {
+    let folder = place("names");
+    fs::create_dir_all(&folder).expect("a folder for the test");
+    let mut ran = 0;
+    for (name, words) in [
+        ("two words", &["two words"][..]),
+        (" a $HOME * \"x\" ", &[" a $HOME * \"x\" "]),
+        ("-x", &["--", "-x"]),
+        ("-x", &["./-x"]),
+        ("--help", &["judge", "--", "--help"]),
+        ("judge", &["./judge"]),
+        ("judge", &["judge", "judge"]),
+    ] {
+        fs::write(folder.join(name), sample()).expect("a file for the test");
+        let mut command = bench("", words);
+        command.current_dir(&folder);
+        let output = ends(command, Stdio::null(), 1);
+        assert!(output.stdout == judge_all(&sample()));
+        ran += 1;
+    }
+    assert_eq!(ran, 7);
+}
+
 /// Says that a file which can't be opened and words that aren't understood are status 2, with no report.
 #[test]
 fn what_cannot_be_done() {
-    if stands_in() {
-        return;
-    }
     let mut ran = 0;
     for words in [
         &["samples/no-such-file"][..],
+        &["samples/records.txt/no-folder"],
         &[""],
         &["-x"],
+        &["--"],
+        &["judges", "samples/records.txt"],
+        &["judge", "judge", "samples/records.txt"],
         &["samples/records.txt", "samples/records.txt"],
+        &["--", "samples/records.txt", "samples/records.txt"],
+        &["-h", "samples/records.txt"],
     ] {
-        let output = ends(bench("", words), Stdio::null(), Stdio::piped(), 2);
+        let output = ends(bench("", words), Stdio::null(), 2);
         assert!(output.stdout.is_empty() && !output.stderr.is_empty());
         ran += 1;
     }
-    assert_eq!(ran, 4);
+    assert_eq!(ran, 10);
 }
 
-/// Says that help is printed when it is asked for.
+/// Says that help is printed when it is asked for, or is status 2 where it can't be.
 #[test]
 fn help() {
-    if stands_in() {
-        return;
-    }
-    for word in ["-h", "--help"] {
-        let output = ends(bench("", &[word]), Stdio::null(), Stdio::piped(), 0);
-        assert!(output.stdout.starts_with(b"usage: bench [FILE]\n"));
+    for words in [&["-h"][..], &["--help"], &["judge", "-h"]] {
+        let output = ends(bench("", words), Stdio::null(), 0);
+        assert!(output.stdout.starts_with(b"usage: bench [judge] [FILE]\n"));
+        let full = File::options().write(true).open("/dev/full");
+        let full = full.expect("the device opens");
+        let output = run(bench("", words), Stdio::null(), full).expect("it ends");
+        assert_eq!(output.status.code(), Some(2));
     }
 }
 
-/// Says that what the program says of failed reads and writes is passed on, with status 1.
+/// Says that what the program says of failed reads and writes is passed on, with status 2.
 #[test]
 fn what_fails() {
-    if stands_in() {
-        return;
-    }
-    let output = ends(bench("", &["samples"]), Stdio::null(), Stdio::piped(), 1);
+    let output = ends(bench("", &["samples"]), Stdio::null(), 2);
     assert!(output.stdout.is_empty());
-    assert!(String::from_utf8_lossy(&output.stderr).contains("bench: reading failed"));
+    assert!(output.stderr.starts_with(b"bench: reading failed"));
 
     let (reader, writer) = pipe().expect("a pipe");
     drop(reader);
     let command = bench("", &["samples/records.txt"]);
-    let output = ends(command, Stdio::null(), writer.into(), 1);
-    assert!(String::from_utf8_lossy(&output.stderr).contains("bench: writing failed"));
+    let output = run(command, Stdio::null(), writer).expect("it ends");
+    assert!(output.stderr.starts_with(b"bench: writing failed"));
+    assert_eq!(output.status.code(), Some(2));
+}
+
+/// Says that a closed stream is status 2, whichever it is, before anything is reported; a file needs no standard input.
+#[test]
+fn closed_streams() {
+    let mut ran = 0;
+    for (closed, status) in [
+        ("<&-", 2),
+        (">&-", 2),
+        ("2>&-", 2),
+        ("<&- >&-", 2),
+        (">&- 2>&-", 2),
+        ("<&- >&- 2>&-", 2),
+        (r#"- <&-"#, 2),
+        (r#""$SAMPLE" <&-"#, 1),
+        (r#""$SAMPLE" >&-"#, 2),
+        (r#""$SAMPLE" <&- >&-"#, 2),
+        (r#""$SAMPLE" 2>&-"#, 2),
+        (r#""$SAMPLE" <&- 2>&-"#, 2),
+        (r#""$SAMPLE" <&- >&- 2>&-"#, 2),
+    ] {
+        let mut command = Tried::Command.in_shell(&format!(r#""$@" {closed}"#));
+        command.env("SAMPLE", root().join("samples/records.txt"));
+        let output = run_on(command, Stdio::null(), Stdio::piped(), Stdio::piped());
+        let output = output.expect("it ends");
+        assert_eq!(output.status.code(), Some(status), "{closed}");
+        let wanted = if status == 1 {
+            judge_all(&sample())
+        } else {
+            vec![]
+        };
+        assert!(output.stdout == wanted, "{closed}");
+        ran += 1;
+    }
+    assert_eq!(ran, 13);
 }

@@ -1,8 +1,10 @@
-//! The program on every input of a folder: what it prints is compared with what the second program says.
+//! The program on every input of a folder, and the command on the first of each class: what they leave is compared with what the second
+//! program says.
 
 use judging::classes::{Class, CLASSES};
+use judging::end::Counts;
 use judging::folder::{cases, write, Case};
-use judging::program::{program, run};
+use judging::program::{run, Tried};
 use second::judge::judge_all;
 use std::collections::BTreeMap;
 use std::fs::{self, File};
@@ -29,12 +31,14 @@ struct Tally {
     failures: Vec<String>,
 }
 
-/// Says that the program prints for each input what the second program says, and nothing else.
+/// Says that the program prints for each input what the second program says, ends with the line that counts it, and says nothing else;
+/// and that the command passes both on, with the status that they give.
 #[test]
 fn the_program_says_what_the_second_program_says() {
     let folder = Path::new(env!("CARGO_TARGET_TMPDIR")).join("records");
     write(&folder);
-    let tallies = run_all(&cases(&folder));
+    let cases = cases(&folder);
+    let tallies = run_all(&cases);
 
     let mut short = Vec::new();
     let mut agreed = 0;
@@ -58,8 +62,28 @@ fn the_program_says_what_the_second_program_says() {
         "{agreed} agree; short in: {}",
         short.join(", ")
     );
+    let by_command = run_command(&cases);
     // Past the test runner, which would keep it back.
-    writeln!(io::stderr(), "folder: {agreed} inputs agree, all classes").expect("it can be said");
+    writeln!(
+        io::stderr(),
+        "folder: {agreed} inputs agree, all classes; by the command {by_command}"
+    )
+    .expect("it can be said");
+}
+
+/// Runs the command on the first case of each class, panics unless all agree, and gives how many.
+fn run_command(cases: &[Case]) -> usize {
+    let mut agreed = 0;
+    for Class { name, .. } in &CLASSES {
+        let case = cases.iter().find(|case| case.class == *name);
+        let path = &case.expect("the class has an input").path;
+        if let Err(Failure::Unended(why) | Failure::Other(why)) = compare(Tried::Command, path) {
+            panic!("{}: {why}", path.display());
+        }
+        agreed += 1;
+    }
+    assert_eq!(agreed, CLASSES.len());
+    agreed
 }
 
 /// Runs the program on each case, some at a time, and gives what became of each class.
@@ -71,7 +95,7 @@ fn run_all(cases: &[Case]) -> BTreeMap<&'static str, Tally> {
             let Some(case) = cases.get(next.fetch_add(1, Ordering::Relaxed)) else {
                 break;
             };
-            let result = compare(&case.path);
+            let result = compare(Tried::Program, &case.path);
             if matches!(result, Err(Failure::Unended(_))) {
                 endless.fetch_add(1, Ordering::Relaxed);
             }
@@ -105,21 +129,22 @@ enum Failure {
     Other(String),
 }
 
-/// Runs the program on a file and compares all that it leaves.
-fn compare(path: &Path) -> Result<(), Failure> {
+/// Runs what is tried on a file and compares all that it leaves.
+fn compare(tried: Tried, path: &Path) -> Result<(), Failure> {
     let input = fs::read(path).expect("the input can be read");
     let file = File::open(path).expect("the input can be opened");
-    let output = run(program(), file, Stdio::piped()).map_err(Failure::Unended)?;
+    let output = run(tried.start(), file, Stdio::piped()).map_err(Failure::Unended)?;
     let wanted = judge_all(&input);
-    if !output.status.success() {
+    let end = Counts::of(&wanted);
+    if output.status.code() != Some(tried.status(end.status())) {
         return Err(Failure::Other(format!("it ended with {}", output.status)));
-    }
-    if !output.stderr.is_empty() {
-        let said = String::from_utf8_lossy(&output.stderr).into_owned();
-        return Err(Failure::Other(format!("on standard error: {said:?}")));
     }
     if output.stdout != wanted {
         return Err(Failure::Other(difference(&wanted, &output.stdout)));
+    }
+    if output.stderr != end.line().as_bytes() {
+        let said = String::from_utf8_lossy(&output.stderr).into_owned();
+        return Err(Failure::Other(format!("on standard error: {said:?}")));
     }
     Ok(())
 }

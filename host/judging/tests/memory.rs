@@ -1,7 +1,7 @@
 //! The program's memory: it doesn't grow with the input.
 
 use judging::classes::many;
-use judging::program::program;
+use judging::program::Tried;
 use judging::session::Session;
 use second::judge::judge_all;
 
@@ -28,7 +28,7 @@ fn it_does_not_grow() {
         (RECORDS / AT_A_TIME, RECORDS / AT_A_TIME)
     );
 
-    let mut session = Session::start(program());
+    let mut session = Session::start(Tried::Program);
     let (mut length, mut early) = (0, 0);
     for (number, (records, reports)) in (1..).zip(input.iter().zip(&output)) {
         session.feed(records);

@@ -1,7 +1,7 @@
-//! The program at a pipe that stalls: what is there is reported at once, and no pause is taken for an end.
+//! The program and the command at a pipe that stalls: what is there is reported at once, and no pause is taken for an end.
 
 use judging::lines::Lines;
-use judging::program::program;
+use judging::program::Tried;
 use judging::session::Session;
 use second::cipher::SETS;
 use std::thread::sleep;
@@ -13,6 +13,11 @@ const PAUSE: Duration = Duration::from_millis(150);
 /// Says that a record which comes in halves is reported when it is whole, before more is sent.
 #[test]
 fn halves() {
+    Tried::BOTH.into_iter().for_each(halves_at);
+}
+
+/// Tries it with one of the two.
+fn halves_at(tried: Tried) {
     let right = SETS.each_ref().map(|set| Lines::right(set, 9, 20));
     let cases = [
         (&right[0], "verdict=equal\nfield=none"),
@@ -26,7 +31,7 @@ fn halves() {
         ),
         (&right[1], "verdict=equal\nfield=none"),
     ];
-    let mut session = Session::start(program());
+    let mut session = Session::start(tried);
     let mut wanted = String::new();
     for (number, (lines, said)) in (1..).zip(cases) {
         let bytes = lines.bytes();
@@ -44,10 +49,15 @@ fn halves() {
 /// Says that two records and a half that come at once are reported, and the half when it is whole.
 #[test]
 fn two_and_a_half() {
+    Tried::BOTH.into_iter().for_each(two_and_a_half_at);
+}
+
+/// Tries it with one of the two.
+fn two_and_a_half_at(tried: Tried) {
     let bytes = Lines::right(&SETS[0], 3, 4).bytes().repeat(3);
     let (first, second) = bytes.split_at(bytes.len() / 6 * 5);
     let equal = |number| format!("record={number}\nverdict=equal\nfield=none\n");
-    let mut session = Session::start(program());
+    let mut session = Session::start(tried);
     session.feed(first);
     let wanted = equal(1) + &equal(2);
     assert_eq!(session.printed(wanted.len()), wanted);
@@ -61,7 +71,12 @@ fn two_and_a_half() {
 /// Says that records which come byte by byte are reported with their last byte.
 #[test]
 fn byte_by_byte() {
-    let mut session = Session::start(program());
+    Tried::BOTH.into_iter().for_each(byte_by_byte_at);
+}
+
+/// Tries it with one of the two.
+fn byte_by_byte_at(tried: Tried) {
+    let mut session = Session::start(tried);
     let mut wanted = String::new();
     for (number, set) in (1..).zip(&SETS) {
         let bytes = Lines::right(set, 2, 3).bytes();
@@ -85,11 +100,16 @@ fn byte_by_byte() {
 /// Says that a record which stops in a line, pauses and ends there is unread in that line.
 #[test]
 fn a_pause_and_the_end() {
+    Tried::BOTH.into_iter().for_each(a_pause_and_the_end_at);
+}
+
+/// Tries it with one of the two.
+fn a_pause_and_the_end_at(tried: Tried) {
     let mut ran = 0;
     for line in 1..=8 {
         let lines = Lines::right(&SETS[line % 2], 5, 6);
         let before: usize = (1..line).map(|line| lines.line(line).len()).sum();
-        let mut session = Session::start(program());
+        let mut session = Session::start(tried);
         session.feed(&lines.bytes());
         let equal = "record=1\nverdict=equal\nfield=none\n";
         assert_eq!(session.printed(equal.len()), equal);

@@ -1,7 +1,8 @@
 //! Times the program and the second program on the same records, in one run, and prints the ratio of the best times.
 
 use judging::classes::many;
-use judging::program::{program, run};
+use judging::end::Counts;
+use judging::program::{run, Tried};
 use second::judge::judge_all;
 use std::fs::{self, File};
 use std::path::Path;
@@ -47,9 +48,10 @@ fn main() {
 /// Gives what the program prints for a file.
 fn printed(path: &Path) -> Vec<u8> {
     let file = File::open(path).expect("the input opens");
-    let output = run(program(), file, Stdio::piped()).expect("the program ends");
+    let output = run(Tried::Program.start(), file, Stdio::piped()).expect("the program ends");
+    let end = Counts::of(&output.stdout).line();
     assert!(
-        output.status.success() && output.stderr.is_empty(),
+        output.status.success() && output.stderr == end.as_bytes(),
         "the program failed"
     );
     output.stdout
