@@ -2,7 +2,7 @@
 
 use crate::end::ends_whole;
 use crate::program::{ended, Tried, LIMIT};
-use std::fs::read_to_string;
+use std::fs::{read_dir, read_to_string};
 use std::io::{Read, Write};
 use std::process::{Child, Command, ExitStatus, Stdio};
 use std::sync::mpsc::{channel, Receiver};
@@ -102,14 +102,10 @@ impl Session {
     /// Sends the program a signal, also where the command runs it.
     pub fn signal_program(&self, name: &str) {
         let mut process = self.child.id().to_string();
-        loop {
-            let children = format!("/proc/{process}/task/{process}/children");
-            let children = read_to_string(children).expect("the process is there");
-            match children.split_whitespace().next() {
-                Some(child) => process = child.to_string(),
-                None => return send(name, &process),
-            }
+        while let Some(child) = child_of(&process) {
+            process = child;
         }
+        send(name, &process);
     }
 
     /// Sends a signal to what was started, and to nothing that this started in turn.
@@ -149,6 +145,18 @@ impl Drop for Session {
         let _ = self.child.kill();
         let _ = self.child.wait();
     }
+}
+
+/// Gives a process that this one has started, if there is any.
+fn child_of(process: &str) -> Option<String> {
+    let entries = read_dir("/proc").expect("the processes are listed");
+    entries.flatten().find_map(|entry| {
+        let stat = read_to_string(entry.path().join("stat")).ok()?;
+        let (number, rest) = stat.split_once(' ')?;
+        // A name in brackets comes first, and may hold brackets and blanks; the parent is the second word behind it.
+        let parent = rest.rsplit_once(')')?.1.split_whitespace().nth(1)?;
+        (parent == process).then(|| number.to_string())
+    })
 }
 
 /// Sends a process a signal.

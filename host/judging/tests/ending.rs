@@ -127,8 +127,11 @@ fn stopped_while_it_reads() {
         let (mut ours, theirs) = UnixStream::pair().expect("a pair of sockets");
         theirs.set_read_timeout(NEVER).expect("it can be set");
         let mut session = Session::start_on(tried, OwnedFd::from(theirs), Stdio::piped());
-        let bytes = record().repeat(2);
-        for part in bytes.chunks(bytes.len() / 4) {
+        let bytes = record().repeat(3);
+        let (first, others) = bytes.split_at(record().len());
+        ours.write_all(first).expect("the socket has room");
+        assert_eq!(session.printed(EQUAL.len()), EQUAL);
+        for part in others.chunks(others.len() / 4) {
             ours.write_all(part).expect("the socket has room");
             sleep(PAUSE);
             session.signal_program("STOP");
