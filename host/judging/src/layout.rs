@@ -1,7 +1,7 @@
 //! A repository of its own for the command, with something else in place of the program.
 
 use crate::program::root;
-use std::fs::create_dir_all;
+use std::fs::{create_dir_all, write, File};
 use std::path::{Path, PathBuf};
 use std::process::Command;
 
@@ -19,6 +19,13 @@ pub fn place(name: &str) -> PathBuf {
     let folder = Path::new(env!("CARGO_MANIFEST_DIR")).join("../target/tmp");
     create_dir_all(&folder).expect("a folder for the tests");
     folder.join(name)
+}
+
+/// Gives a file of this name with these bytes, opened to be read.
+pub fn file_of(name: &str, bytes: &[u8]) -> File {
+    let path = place(name);
+    write(&path, bytes).expect("a file for the test");
+    File::open(path).expect("the file opens")
 }
 
 /// Lays out a repository of this name, in which the program counts as built and this script runs it, and gives the command.

@@ -2,13 +2,12 @@
 
 use judging::classes::many;
 use judging::end::{ends_whole, Counts, NOT_WHOLE};
-use judging::layout::place;
+use judging::layout::file_of;
 use judging::lines::Lines;
 use judging::program::{run_on, Tried};
 use judging::session::Session;
 use second::cipher::SETS;
 use second::judge::judge_all;
-use std::fs::{self, File};
 use std::io::{pipe, Read, Write};
 use std::os::fd::OwnedFd;
 use std::os::unix::net::UnixStream;
@@ -28,13 +27,6 @@ const NEVER: Option<Duration> = Some(Duration::from_secs(600));
 /// Gives one right record.
 fn record() -> Vec<u8> {
     Lines::right(&SETS[0], 9, 20).bytes()
-}
-
-/// Gives a file with these bytes.
-fn file_of(name: &str, bytes: &[u8]) -> File {
-    let path = place(name);
-    fs::write(&path, bytes).expect("a file for the test");
-    File::open(path).expect("the file opens")
 }
 
 /// Says that on one pipe for both streams the end's line comes behind every report.

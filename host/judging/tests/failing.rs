@@ -2,7 +2,7 @@
 
 use judging::classes::many;
 use judging::end::{Counts, NOT_WHOLE};
-use judging::layout::place;
+use judging::layout::{file_of, place};
 use judging::lines::Lines;
 use judging::program::{run, run_on, Tried};
 use second::cipher::SETS;
@@ -56,13 +56,6 @@ fn open_input() -> (PipeReader, PipeWriter) {
     let (reader, mut writer) = pipe().expect("a pipe");
     writer.write_all(&many(30)).expect("the pipe has room");
     (reader, writer)
-}
-
-/// Gives a file of this name with these bytes.
-fn file_of(name: &str, bytes: &[u8]) -> File {
-    let path = place(name);
-    fs::write(&path, bytes).expect("a file for the test");
-    File::open(path).expect("the file opens")
 }
 
 /// Gives the device that is always full.

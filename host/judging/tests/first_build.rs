@@ -9,13 +9,22 @@ use std::path::{Path, PathBuf};
 use std::process::{Child, ChildStderr, Command, Output, Stdio};
 use std::time::Instant;
 
-/// A kit that proves two crates as the kit does: it says much of each, waits between them until the file `go` is there, takes a stamp
-/// for a built program, and removes it before it builds. With the file `wrong` it finds something wrong in the second.
+/// A kit that proves two crates as the kit does: it says much of each, waits some seconds between them for the file `go`, and takes a stamp
+/// for a built program. With the file `wrong` it finds something wrong in the second, with the file `killed` it is killed there;
+/// with the file `refused` it does nothing.
 const KIT: &str = r#"echo "$@" >>asked
+[ ! -f refused ] || {
+    echo 'rt: crates.txt: a line is wrong' >&2
+    exit 2
+}
 echo 'fn digits::put: proved'
 echo 'logic=proved functions=1'
 echo 'rt: digits proved (1 s)'
-while [ ! -f go ]; do sleep 0.01; done
+waited=0
+while [ ! -f go ]; do
+    [ $((waited += 1)) -lt 500 ] || exit 1
+    sleep 0.01
+done
 [ ! -f target/stamp/bench ] || {
     echo 'rt: bench proved (unchanged since it was last proved)'
     exit 0
@@ -211,10 +220,15 @@ fn a_check_that_fails() {
     }
     repository.shell("rm wrong", "sh");
     assert_eq!(repository.run().0, Some(1));
-    repository.make("wrong");
-    repository.shell("sleep 0.05; rm target/stamp/bench; : >crates/new", "sh");
+    repository.shell("sleep 0.05; : >crates/new; : >refused", "sh");
+    for asked in 4..=5 {
+        let wanted = format!("{BEGINS}rt: crates.txt: a line is wrong\n{NOT_BUILT}");
+        assert_eq!(repository.run(), (Some(2), wanted));
+        assert_eq!(repository.asked(), asked);
+    }
+    repository.shell("rm refused target/stamp/bench; : >wrong", "sh");
     assert_eq!(repository.run().0, Some(2));
-    assert_eq!(repository.asked(), 4);
+    assert_eq!(repository.asked(), 6);
 }
 
 /// Says that a build which was broken off is none.

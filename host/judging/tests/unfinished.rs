@@ -2,10 +2,10 @@
 
 use judging::classes::many;
 use judging::end::NOT_WHOLE;
-use judging::layout::{lay_out, place};
+use judging::layout::{file_of, lay_out, place};
 use judging::program::{run, run_on, Tried};
 use second::judge::judge_all;
-use std::fs::{self, File};
+use std::fs::File;
 use std::io::pipe;
 use std::path::PathBuf;
 use std::process::{Command, Output, Stdio};
@@ -40,9 +40,8 @@ fn ends(command: Command, said: &str, status: i32) -> Output {
 #[test]
 fn the_program_itself() {
     let command = lay_out("unfinished-right", &Tried::Program.script());
-    let (path, records) = (place("unfinished-records"), many(3));
-    fs::write(&path, &records).expect("a file for the test");
-    let input = File::open(&path).expect("the file opens");
+    let records = many(3);
+    let input = file_of("unfinished-records", &records);
     let output = run(Command::new(command), input, Stdio::piped()).expect("it ends");
     assert_eq!(output.stdout, judge_all(&records));
     assert_eq!(output.status.code(), Some(1));
