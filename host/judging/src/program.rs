@@ -27,6 +27,16 @@ pub fn root() -> PathBuf {
     Path::new(env!("CARGO_MANIFEST_DIR")).join("../..")
 }
 
+/// Gives the command for people, after a first run that builds the program where a source is newer.
+fn built() -> PathBuf {
+    let path = root().join("bench");
+    let mut first = Command::new(&path);
+    first.stdin(Stdio::null()).stderr(Stdio::null());
+    let status = first.status().expect("the command starts");
+    assert!(status.success(), "on no records it ended with {status}");
+    path
+}
+
 /// What is tried: the program, or the command for people, which runs it.
 #[derive(Clone, Copy, Debug, PartialEq, Eq)]
 pub enum Tried {
@@ -39,12 +49,13 @@ impl Tried {
 
     /// Gives the words that start it; a stand-in is run by a copy of the command, which has no other way to another program.
     fn words(self) -> Vec<PathBuf> {
+        static BUILT: OnceLock<PathBuf> = OnceLock::new();
         static AROUND: OnceLock<PathBuf> = OnceLock::new();
         let around = || lay_out("around-the-stand-in", &Tried::Program.script());
         match (self, stand_in()) {
             (Tried::Program, None) => vec![root().join("host/run"), "bench".into()],
             (Tried::Program, Some(path)) => vec![path],
-            (Tried::Command, None) => vec![root().join("bench")],
+            (Tried::Command, None) => vec![BUILT.get_or_init(built).clone()],
             (Tried::Command, Some(_)) => vec![AROUND.get_or_init(around).clone()],
         }
     }
