@@ -9,6 +9,7 @@ use Rattle.ascon.specs.Mode.{zeros}
 use Rattle.stream.specs.declared.Direction.the-variants.{Sealing, Checking}
 use Rattle.stream.specs.declared.Phase.the-variants.{Data, Text, Ended}
 use Rattle.stream.specs.State.{ended}
+use Rattle.digits.specs.Ascii.{ascii}
 use Rattle.digits.specs.declared.hex.Digit.the-variants.{Value}
 use Rattle.digits.specs.declared.hex.Pair.the-variants.{Byte}
 use Rattle.record.specs.Form.{fieldOf, blank}
@@ -137,7 +138,7 @@ pub record Wrong : Type 0 where
   -- `0g` is no byte
   pub read-pair-half : Never digits.read_pair.Reads.Learnt (0x30, (0x67, tt)) (Byte 0)
   -- 1f is not put as `f1`
-  pub put-bytes-low : NeverLeaves digits.put_bytes.Reads.Learnt (lent (0x1f ∷ []), (lent (zeros 2), tt)) 2 (lent (0x1f ∷ []), (lent (0x66 ∷ 0x31 ∷ []), tt))
+  pub put-bytes-low : NeverLeaves digits.put_bytes.Reads.Learnt (lent (0x1f ∷ []), (lent (zeros 2), tt)) 2 (lent (0x1f ∷ []), (lent (ascii "f1"), tt))
   -- 1f is not put where one place is lent
   pub put-bytes-room : Never digits.put_bytes.Reads.Learnt (lent (0x1f ∷ []), (lent (zeros 1), tt)) 2
   -- two bytes do not go into one place
@@ -151,20 +152,20 @@ pub record Wrong : Type 0 where
   -- 0 has one digit
   pub number-length-nought : Never digits.number_length.Reads.Learnt (0, tt) 0
   -- 10 is not put as `01`
-  pub put-number-ten : NeverLeaves digits.put_number.Reads.Learnt (10, (lent (zeros 2), tt)) 2 (10, (lent (0x30 ∷ 0x31 ∷ []), tt))
+  pub put-number-ten : NeverLeaves digits.put_number.Reads.Learnt (10, (lent (zeros 2), tt)) 2 (10, (lent (ascii "01"), tt))
   -- 10 is not put as one digit
   pub put-number-room : Never digits.put_number.Reads.Learnt (10, (lent (zeros 1), tt)) 1
   -- nothing is broken at its first line, and not at its last
   pub read-nothing : Never record-crate.read.Reads.Learnt (lent [], tt) (record { answer = BrokenRecord; line = 8; taken = 0; content = blank })
   -- a line that has no line feed is broken itself, and not the next one
-  pub read-feed : Never record-crate.read.Reads.Learnt (lent (0x73 ∷ 0x65 ∷ 0x74 ∷ 0x3d ∷ 0x31 ∷ []), tt)
+  pub read-feed : Never record-crate.read.Reads.Learnt (lent (ascii "set=1"), tt)
       (record { answer = BrokenRecord; line = 2; taken = 0; content = blank })
   -- a record that is refused in writing has its line named, and no byte written
   pub write-no-line : Never record-crate.write.Reads.Learnt (blank, (lent [], tt)) (record { answer = BrokenRecord; line = 0; written = 0 })
   pub write-touched : NeverLeaves record-crate.write.Reads.Learnt (blank, (lent (0 ∷ []), tt)) (record { answer = BrokenRecord; line = 1; written = 0 })
       (blank, (lent (1 ∷ []), tt))
   -- the third line is not called `nonse=`
-  pub read-name : Never record-crate.read.Reads.Learnt (lent (0x73 ∷ 0x65 ∷ 0x74 ∷ 0x3d ∷ 0x31 ∷ 0x0a ∷ 0x6b ∷ 0x65 ∷ 0x79 ∷ 0x3d ∷ (replicate 32 0x30 ++ (0x0a ∷ 0x6e ∷ 0x6f ∷ 0x6e ∷ 0x73 ∷ 0x65 ∷ 0x3d ∷ (replicate 32 0x30 ++ (0x0a ∷ []))))), tt)
+  pub read-name : Never record-crate.read.Reads.Learnt (lent (ascii "set=1\nkey=00000000000000000000000000000000\nnonse=00000000000000000000000000000000\n"), tt)
       (record { answer = BrokenRecord; line = 4; taken = 0; content = blank })
   -- a text of 257 bytes breaks line 5, and not the cipher's
   pub first-broken-text : Never record-crate.first_broken.Reads.Learnt (

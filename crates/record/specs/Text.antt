@@ -3,24 +3,16 @@ use mathlib.Core.Bool.{cond}
 use mathlib.Core.List.{List, [], _∷_, _++_}
 use Prim.Native.Nat.{ℕ, zero, suc, _+_, _-_}
 use lib.ListN.{getD}
+use Rattle.digits.specs.Ascii.{ascii}
 use Rattle.digits.specs.Hex.{hexOf}
 use Rattle.digits.specs.Numbers.{numeral}
 use Rattle.digits.specs.Room.{lineOf}
 use Rattle.record.specs.declared.lines.Record.{Record}
 use Rattle.record.specs.Form.{held, isNumber, numberAt, fieldAt}
 
--- `set=`, `key=`, `nonce=`, `ad=`, `text=`, `cipher=`, `tag=`, `rounds=`
+-- the names of the lines
 unfoldable pub names : List (List ℕ)
-names =
-    (0x73 ∷ 0x65 ∷ 0x74 ∷ 0x3d ∷ [])
-    ∷ (0x6b ∷ 0x65 ∷ 0x79 ∷ 0x3d ∷ [])
-    ∷ (0x6e ∷ 0x6f ∷ 0x6e ∷ 0x63 ∷ 0x65 ∷ 0x3d ∷ [])
-    ∷ (0x61 ∷ 0x64 ∷ 0x3d ∷ [])
-    ∷ (0x74 ∷ 0x65 ∷ 0x78 ∷ 0x74 ∷ 0x3d ∷ [])
-    ∷ (0x63 ∷ 0x69 ∷ 0x70 ∷ 0x68 ∷ 0x65 ∷ 0x72 ∷ 0x3d ∷ [])
-    ∷ (0x74 ∷ 0x61 ∷ 0x67 ∷ 0x3d ∷ [])
-    ∷ (0x72 ∷ 0x6f ∷ 0x75 ∷ 0x6e ∷ 0x64 ∷ 0x73 ∷ 0x3d ∷ [])
-    ∷ []
+names = ascii "set=" ∷ ascii "key=" ∷ ascii "nonce=" ∷ ascii "ad=" ∷ ascii "text=" ∷ ascii "cipher=" ∷ ascii "tag=" ∷ ascii "rounds=" ∷ []
 
 -- the name of a line
 unfoldable pub name : ℕ → List ℕ

@@ -5,6 +5,7 @@ use Prim.Native.Nat.{ℕ}
 use lib.Dec.{leb}
 use lib.ListN.{length, drop}
 use Rattle.answers.specs.declared.Answer.the-variants.{Done, NoRoom}
+use Rattle.digits.specs.Ascii.{ascii}
 use Rattle.digits.specs.Numbers.{numeral}
 use Rattle.digits.specs.Room.{lineOf}
 use Rattle.report.specs.declared.Verdict.{Verdict}
@@ -13,31 +14,31 @@ use Rattle.report.specs.declared.Reported.{Reported}
 
 -- `equal`, `differs` or `unread`
 abbrev pub word : Verdict → List ℕ
-word Equal = 0x65 ∷ 0x71 ∷ 0x75 ∷ 0x61 ∷ 0x6c ∷ []
-word Rounds = 0x64 ∷ 0x69 ∷ 0x66 ∷ 0x66 ∷ 0x65 ∷ 0x72 ∷ 0x73 ∷ []
-word Cipher = 0x64 ∷ 0x69 ∷ 0x66 ∷ 0x66 ∷ 0x65 ∷ 0x72 ∷ 0x73 ∷ []
-word Tag = 0x64 ∷ 0x69 ∷ 0x66 ∷ 0x66 ∷ 0x65 ∷ 0x72 ∷ 0x73 ∷ []
-word (Unread line) = 0x75 ∷ 0x6e ∷ 0x72 ∷ 0x65 ∷ 0x61 ∷ 0x64 ∷ []
+word Equal = ascii "equal"
+word Rounds = ascii "differs"
+word Cipher = ascii "differs"
+word Tag = ascii "differs"
+word (Unread line) = ascii "unread"
 
 -- `none`; the first differing field, `rounds`, `cipher` or `tag`; the number of the broken line
 abbrev pub part : Verdict → List ℕ
-part Equal = 0x6e ∷ 0x6f ∷ 0x6e ∷ 0x65 ∷ []
-part Rounds = 0x72 ∷ 0x6f ∷ 0x75 ∷ 0x6e ∷ 0x64 ∷ 0x73 ∷ []
-part Cipher = 0x63 ∷ 0x69 ∷ 0x70 ∷ 0x68 ∷ 0x65 ∷ 0x72 ∷ []
-part Tag = 0x74 ∷ 0x61 ∷ 0x67 ∷ []
+part Equal = ascii "none"
+part Rounds = ascii "rounds"
+part Cipher = ascii "cipher"
+part Tag = ascii "tag"
 part (Unread line) = numeral line
 
 -- `record=` and the record's number
 unfoldable pub recordLine : ℕ → List ℕ
-recordLine number = lineOf (0x72 ∷ 0x65 ∷ 0x63 ∷ 0x6f ∷ 0x72 ∷ 0x64 ∷ 0x3d ∷ []) (numeral number)
+recordLine number = lineOf (ascii "record=") (numeral number)
 
 -- `verdict=` and the word
 unfoldable pub verdictLine : Verdict → List ℕ
-verdictLine verdict = lineOf (0x76 ∷ 0x65 ∷ 0x72 ∷ 0x64 ∷ 0x69 ∷ 0x63 ∷ 0x74 ∷ 0x3d ∷ []) (word verdict)
+verdictLine verdict = lineOf (ascii "verdict=") (word verdict)
 
 -- `field=` and the field or the line
 unfoldable pub fieldLine : Verdict → List ℕ
-fieldLine verdict = lineOf (0x66 ∷ 0x69 ∷ 0x65 ∷ 0x6c ∷ 0x64 ∷ 0x3d ∷ []) (part verdict)
+fieldLine verdict = lineOf (ascii "field=") (part verdict)
 
 -- the report on a record
 unfoldable pub reportText : ℕ → Verdict → List ℕ
