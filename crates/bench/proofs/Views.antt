@@ -19,7 +19,7 @@ use Rattle.turns.specs.Run.{next, isClosing, isReading, isWriting, behind, fail
 use Rattle.turns.specs.Run as run
 use Rattle.turns.specs.Tallies.{endLine}
 use Rattle.bench.specs.Lines.{Follows}
-use Rattle.turns.specs.Laws.{Answered}
+use Rattle.turns.specs.Laws.{OneAnswer}
 use Rattle.bench.specs.Progress.{isSignal, heardOf, failing, ending, front, readMore, wrote, wroteMore, movedBy, Sound, view, More, Less, Closed}
 
 -- ---- parts of lists
@@ -67,11 +67,11 @@ moved-inside n (negsuc k) error h = go (isSignal error)
 
 -- the answer to a read, as the run hears it
 pub answered-read : (p q : Progress) (before after text : List ℕ) → isReading (p .stage) ≡ true → More p before q after
-    → Answered (view p before text) (view q after text)
+    → OneAnswer (view p before text) (view q after text)
 unfolding came
-answered-read p q before after text reading m = subst (λ (r : Progress). Answered (view p before text) (view r after text)) (sym (m .is)) (go (m .heard) (m .fits))
+answered-read p q before after text reading m = subst (λ (r : Progress). OneAnswer (view p before text) (view r after text)) (sym (m .is)) (go (m .heard) (m .fits))
   where
-    go : (h : Heard) → p .filled - p .start + movedBy h ≤ length after → Answered (view p before text) (view (readMore (front p) h) after text)
+    go : (h : Heard) → p .filled - p .start + movedBy h ≤ length after → OneAnswer (view p before text) (view (readMore (front p) h) after text)
     go (Moved n) fits =
         let size = p .filled - p .start in
         let room : length (take n (drop size after)) ≡ n = length-take-le n (drop size after) (omega (arith, length-drop size after)) in
@@ -144,9 +144,9 @@ none-left n size from l h k = go (eqb (from + n) size) refl
 
 -- the answer to a write, as the run hears it
 pub answered-write : (p q : Progress) (buffer text : List ℕ) → isWriting (p .stage) ≡ true → Sound p buffer text → Less p q
-    → Answered (view p buffer text) (view q buffer text)
+    → OneAnswer (view p buffer text) (view q buffer text)
 unfolding took wrote
-answered-write p q buffer text writing s l = subst (λ (r : Progress). Answered (view p buffer text) (view r buffer text)) (sym (l .is)) (go (l .heard) (l .fits))
+answered-write p q buffer text writing s l = subst (λ (r : Progress). OneAnswer (view p buffer text) (view r buffer text)) (sym (l .is)) (go (l .heard) (l .fits))
   where
     by-count : (n : ℕ) → p .from + n ≤ p .size → (t : Bool)
         → view
@@ -174,7 +174,7 @@ answered-write p q buffer text writing s l = subst (λ (r : Progress). Answered 
     by-count n fits true = refl
     by-count n fits false = rw (drop-part n (p .size) (p .from) text (omega arith), none-left n (p .size) (p .from) text fits (s .size-text))
 
-    go : (h : Heard) → p .from + movedBy h ≤ p .size → Answered (view p buffer text) (view (wroteMore p h) buffer text)
+    go : (h : Heard) → p .from + movedBy h ≤ p .size → OneAnswer (view p buffer text) (view (wroteMore p h) buffer text)
     go (Moved n) fits = record { reply = Took n; is = rw writing (by-count n fits (eqb n 0)) }
     go Again fits = record { reply = run.Again; is = refl }
     go Failed fits = record { reply = run.Failed; is = refl }

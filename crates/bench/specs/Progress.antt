@@ -18,7 +18,7 @@ use Rattle.turns.specs.declared.Stage.{Stage}
 use Rattle.turns.specs.declared.Stage.the-variants.{Judge, Close, Read, Write, Say, Over}
 use Rattle.bench.specs.declared.progress.Progress.{Progress}
 use Rattle.turns.specs.Tallies.{none, countedWith, recordsOf, largest}
-use Rattle.turns.specs.Run.{Run, closed, behind, failed}
+use Rattle.turns.specs.Run.{Standing, closed, behind, failed}
 
 -- the number of standard error for the line that ends the run, of standard output else
 abbrev pub descriptorOf : Stage → ℤ
@@ -112,8 +112,8 @@ movedBy (Moved count) = count
 movedBy Again = 0
 movedBy Failed = 0
 
--- the window lies in the buffer, which has room for more than the most bytes of a record, and so do all windows that want more; what is left to write lies in
--- the text, which has room for a report and for the line that ends a run; the next verdict can be counted
+-- the window lies in the buffer, which has room for more than the most bytes of a record; where a read is next, the window is shorter than that; what is left to write
+-- lies in the text, which has room for a report and for the line that ends a run; the next verdict can be counted
 pub record Sound (p : Progress) (buffer text : List ℕ) : Type 0 where
   pub begins : p .start ≤ p .filled
   pub inside : p .filled ≤ length buffer
@@ -127,7 +127,7 @@ pub record Sound (p : Progress) (buffer text : List ℕ) : Type 0 where
 -- ---- as the program's run
 
 -- the window, what is left to write, and the rest as it is
-abbrev pub view : Progress → List ℕ → List ℕ → Run
+abbrev pub view : Progress → List ℕ → List ℕ → Standing
 view p buffer text =
     record {
       window = take (p .filled - p .start) (drop (p .start) buffer);

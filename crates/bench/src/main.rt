@@ -9,14 +9,14 @@ ghost use lib.ListN.{length, take, drop};
 ghost use Rattle.turns.specs.Tallies.{recordsOf, largest};
 ghost use Rattle.turns.specs.Run.{looked, judged};
 ghost use Rattle.bench.specs.Progress.{movedBy, front, Sound, view, More, Less, Closed};
-ghost use Rattle.turns.specs.Laws.{Answered, Turned, Ran};
+ghost use Rattle.turns.specs.Laws.{OneAnswer, Turned, Ran};
 use libc::STDIN_FILENO;
 use progress::Heard;
 use progress::Progress;
 use turns::Ending;
 use turns::Stage;
 
-// One read from standard input into a place that has room, so that no byte means its end.
+// One read from standard input into a place that has room, so that a read of no byte means the end of the input.
 fn read_some(room: &mut [u8]) -> Heard
     requires { ⌜ 1 ≤ length (now room) ⌝ }
     ensures { λ r. ⌜ movedBy r ≤ length (now (room .entry)) ⌝ }
@@ -90,7 +90,7 @@ fn write_more(text: &[u8], p: Progress) -> Progress
 fn call(buffer: &mut [u8], text: &[u8], p: Progress) -> Progress
     requires { ⌜ Sound p (now buffer) (now text) ⌝ }
     ensures { λ r. ⌜ Sound r (now (buffer .exit)) (now (text .entry)) ⌝ }
-    ensures { λ r. ⌜ Answered (view p (now (buffer .entry)) (now (text .entry))) (view r (now (buffer .exit)) (now (text .entry))) ⌝ }
+    ensures { λ r. ⌜ OneAnswer (view p (now (buffer .entry)) (now (text .entry))) (view r (now (buffer .exit)) (now (text .entry))) ⌝ }
 {
     let stage = p.stage;
     if progress::is_reading(stage) {

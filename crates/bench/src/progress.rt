@@ -248,6 +248,7 @@ pub(crate) fn after_step(p: Progress, step: Step) -> Progress
         Step::Stopped { line, written } => count_record(p, Verdict::Unread(line), 0, written),
         Step::Wait => at_stage(p, Stage::Read),
         Step::End => at_stage(p, Stage::Close),
+        // It never comes: the text has room for every report.
         Step::Short => at_stage(p, Stage::Over(Ending::TooMany)),
     }
 }
@@ -275,7 +276,7 @@ pub(crate) fn after_read(p: Progress, heard: Heard) -> Progress
     }
 }
 
-// What it makes of the progress that a write took so many bytes: they are behind it, and none is a failure.
+// The progress after a write took so many bytes; none is a failure.
 fn after_bytes(p: Progress, count: usize) -> Progress
     requires { ⌜ p .from + count ≤ p .size ⌝ }
     ensures { λ r. ⌜ r ≡ wrote p count ⌝ }

@@ -8,7 +8,8 @@ use Rattle.ascon.proofs.Sealing.{bytes-tag, bytes-encrypted, bytes-decrypted}
 use Rattle.sets.proofs.Rows.{row-fits}
 use Rattle.ascon.proofs.Rounds.{runs-total}
 use Rattle.ascon.proofs.Marks.{runs-marked}
-use Rattle.turns.proofs.Runs.{runs}
+use Rattle.judge.proofs.Laws.{judges}
+use Rattle.turns.proofs.Runs.{whole-reports}
 use Rattle.letter.specs.Letter.{Letter}
 use Rattle.letter.proofs.Model.{keeps}
 use Rattle.letter.proofs.First.{first-demand}
@@ -35,7 +36,8 @@ letter =
       sealed-bytes = λ set K N A P key k h.
           (bytes-encrypted (rowOf set) (row-fits set) K key N A k P h, bytes-tag (rowOf set) (row-fits set) K key k (encrypted (rowOf set) K N A P .state));
       opened-bytes = λ set K N A C key k h. bytes-decrypted (rowOf set) (row-fits set) K key N A k C h;
-      program = runs;
+      judging = judges;
+      program = whole-reports;
       worthless = worthless;
       wrong = wrong;
     }

@@ -10,7 +10,8 @@ use Rattle.ascon.specs.Mode.{decrypted, sealed}
 use Rattle.ascon.specs.Rounds.{runs, total, messageRounds, Marked}
 use Rattle.ascon.specs.Cases.{Cases}
 use Rattle.ascon.specs.Known as ascon
-use Rattle.turns.specs.Laws.{Runs}
+use Rattle.judge.specs.Laws.{Judges}
+use Rattle.turns.specs.Laws.{WholeReports}
 use Rattle.letter.specs.Model.{Model, ours, Keeps}
 use Rattle.letter.specs.First.{First}
 use Rattle.letter.specs.Second.{Second}
@@ -42,8 +43,10 @@ pub record Letter : Type 2 where
   pub sealed-bytes : (set : ℕ) (K N A P : List ℕ) → length K ≡ rowOf set .key → Bytes K → Bytes P
       → Bytes (sealed (rowOf set) K N A P .cipher) × Bytes (sealed (rowOf set) K N A P .tag)
   pub opened-bytes : (set : ℕ) (K N A C : List ℕ) → length K ≡ rowOf set .key → Bytes K → Bytes C → Bytes (decrypted (rowOf set) K N A C .out)
-  -- the bench's program: it says its end exactly where all of its report is written
-  pub program : Runs
+  -- verdicts and reports: equal exactly where rounds, cipher and tag agree by the rules, and the report of an input, record by record
+  pub judging : Judges
+  -- the bench's program: it says its end only where all of its report is written, and there if no call fails
+  pub program : WholeReports
   -- what the demands and the contracts shut out
   pub worthless : Worthless
   pub wrong : Wrong

@@ -24,14 +24,14 @@ use Rattle.turns.specs.declared.Stage.{Stage}
 use Rattle.turns.specs.declared.Stage.the-variants.{Judge, Close, Read, Write, Say, Over}
 use Rattle.turns.specs.declared.Tally.{Tally}
 use Rattle.turns.specs.Tallies.{none, countedWith, countedAll, recordsOf, largest, endLine}
-use Rattle.turns.specs.Run.{Run, Reply, Came, Took, Again, Failed, begun, next, isJudging, isClosing, isReading, isWriting, withReport, looked, judged, closed, came, took, failed, behind, heard, turned, ranFrom, joined, fromInput, outputAt, toOutput, errorAt, toError}
+use Rattle.turns.specs.Run.{Standing, Reply, Came, Took, Again, Failed, begun, next, isJudging, isClosing, isReading, isWriting, withReport, looked, judged, closed, came, took, failed, behind, heard, turned, ranFrom, joined, fromInput, outputAt, toOutput, errorAt, toError}
 use Rattle.turns.proofs.Stages.{reading-is, judging-is, closing-is}
 use Rattle.turns.proofs.Tallies.{unread-stays, counted-behind, records-counted, line-some}
 
 -- ---- what is still to come
 
 -- the verdicts that are still to be given, with this left of the input
-pub remaining : Run → List ℕ → List Verdict
+pub remaining : Standing → List ℕ → List Verdict
 remaining r rest = cond (eqb (r .tally .unread) 0) (verdictsOf (r .window ++ rest)) []
 
 -- what is left of the last report
@@ -102,7 +102,7 @@ isLeft (Over ending) = leftAt ending
 
 -- the verdicts so far are counted; with those to come they are the input's, whatever is left of it; what is written and what is left of the last report are their reports; what
 -- is said and what is left of the line are the line; at the end none is to come; an input that is read has not ended; what is left to write is not nothing
-pub record Keeps (r : Run) (came wrote said : List ℕ) : Type 0 where
+pub record Keeps (r : Standing) (came wrote said : List ℕ) : Type 0 where
   pub verdicts : List Verdict
   pub counted : r .tally ≡ countedAll none verdicts
   pub ahead : (rest : List ℕ) → (r .ended ≡ true → rest ≡ []) → verdicts ++ remaining r rest ≡ verdictsOf (came ++ rest)
@@ -130,7 +130,7 @@ keeps-begun =
 -- ---- one answer
 
 -- nothing joined
-keeps-nil : (r : Run) (came wrote said : List ℕ) → Keeps r came wrote said → Keeps r (came ++ []) (wrote ++ []) (said ++ [])
+keeps-nil : (r : Standing) (came wrote said : List ℕ) → Keeps r came wrote said → Keeps r (came ++ []) (wrote ++ []) (said ++ [])
 keeps-nil r came wrote said k = rw (append-nil came, append-nil wrote, append-nil said) k
 
 -- what is taken and what is left
@@ -138,7 +138,7 @@ taken-left : (x left all : List ℕ) (n : ℕ) → x ++ left ≡ all → (x ++ t
 taken-left x left all n e = append-assoc x (take n left) (drop n left) ∙ ap (λ (l : List ℕ). x ++ l) (take-append-drop n left) ∙ e
 
 -- the same window, end and counts, with another thing left and another stage
-keeps-with : (r : Run) (came wrote said : List ℕ) → Keeps r came wrote said → (left : List ℕ) (stage : Stage) (wrote' said' : List ℕ)
+keeps-with : (r : Standing) (came wrote said : List ℕ) → Keeps r came wrote said → (left : List ℕ) (stage : Stage) (wrote' said' : List ℕ)
     → wrote' ++ reportLeft stage left ≡ wrote ++ reportLeft (r .stage) (r .left)
     → said' ++ lineLeft stage left (endLine (r .tally)) ≡ said ++ lineLeft (r .stage) (r .left) (endLine (r .tally))
     → (isEnd stage ≡ true → isEnd (r .stage) ≡ true) → (isReading stage ≡ true → r .ended ≡ false) → (isLeft stage ≡ true → 1 ≤ length left)
@@ -168,14 +168,14 @@ failed-same Say left line = (refl, refl, refl, refl, refl)
 failed-same (Over ending) left line = (refl, refl, refl, refl, refl)
 
 -- a call that failed
-keeps-failed : (r : Run) (came wrote said : List ℕ) → Keeps r came wrote said → Keeps (next (failed (r .stage)) r) came wrote said
+keeps-failed : (r : Standing) (came wrote said : List ℕ) → Keeps r came wrote said → Keeps (next (failed (r .stage)) r) came wrote said
 keeps-failed r came wrote said k =
     let f = failed-same (r .stage) (r .left) (endLine (r .tally)) in
     keeps-with r came wrote said k (r .left) (failed (r .stage)) wrote said (ap (λ (l : List ℕ). wrote ++ l) (f .0)) (ap (λ (l : List ℕ). said ++ l) (f .1)) (λ e. sym (f .2) ∙ e)
     (λ e. absurd (false≢true (sym (f .3) ∙ e))) (λ e. k .leaves (sym (f .4) ∙ e))
 
 -- bytes that came
-keeps-came : (r : Run) (had wrote said bytes : List ℕ) → Keeps r had wrote said → r .stage ≡ Read → Keeps (came bytes r) (had ++ bytes) wrote said
+keeps-came : (r : Standing) (had wrote said bytes : List ℕ) → Keeps r had wrote said → r .stage ≡ Read → Keeps (came bytes r) (had ++ bytes) wrote said
 unfolding remaining came
 keeps-came r had wrote said bytes k stage =
     record {
@@ -237,7 +237,7 @@ no-length [] e = refl
 no-length (x ∷ l) e = absurd (omega arith)
 
 -- bytes that a write took
-keeps-took : (r : Run) (had wrote said : List ℕ) (n : ℕ) → Keeps r had wrote said → isWriting (r .stage) ≡ true
+keeps-took : (r : Standing) (had wrote said : List ℕ) (n : ℕ) → Keeps r had wrote said → isWriting (r .stage) ≡ true
     → Keeps (took n r) had (wrote ++ outputAt (r .stage) (take n (r .left))) (said ++ errorAt (r .stage) (take n (r .left)))
 unfolding took
 keeps-took r had wrote said n k w = go (eqb n 0) refl (eqb (length (drop n (r .left))) 0) refl
@@ -274,7 +274,7 @@ keeps-took r had wrote said n k w = go (eqb n 0) refl (eqb (length (drop n (r .l
         (λ e. let some = eqb-false (length (drop n (r .left))) 0 v in omega arith)
 
 -- any answer
-pub keeps-heard : (r : Run) (had wrote said : List ℕ) → Keeps r had wrote said → (reply : Reply)
+pub keeps-heard : (r : Standing) (had wrote said : List ℕ) → Keeps r had wrote said → (reply : Reply)
     → Keeps (heard r reply) (had ++ fromInput r reply) (wrote ++ toOutput r reply) (said ++ toError r reply)
 keeps-heard r had wrote said k Again = let none = none-moved (r .stage) in rw (none .0, none .1, append-nil had, append-nil wrote, append-nil said) k
 keeps-heard r had wrote said k Failed =
@@ -299,7 +299,7 @@ keeps-heard r had wrote said k (Took n) = go (isWriting (r .stage)) refl
 -- ---- judging
 
 -- another stage that has nothing left, where the stage is judging
-keeps-next : (r : Run) (had wrote said : List ℕ) → Keeps r had wrote said → r .stage ≡ Judge → (stage : Stage)
+keeps-next : (r : Standing) (had wrote said : List ℕ) → Keeps r had wrote said → r .stage ≡ Judge → (stage : Stage)
     → reportLeft stage (r .left) ≡ [] → lineLeft stage (r .left) (endLine (r .tally)) ≡ endLine (r .tally)
     → (isEnd stage ≡ true → (rest : List ℕ) → (r .ended ≡ true → rest ≡ []) → remaining r rest ≡ []) → (isReading stage ≡ true → r .ended ≡ false) → isLeft stage ≡ false
     → Keeps (next stage r) had wrote said
@@ -321,7 +321,7 @@ no-front : (x y : List ℕ) → x ++ y ≡ y → x ≡ []
 no-front x y e = no-length x (omega (arith, ap length e, length-append x y))
 
 -- a final window tells the first verdict that is to come, and what comes behind it
-first-verdict : (r : Run) (rest : List ℕ) → (r .ended ≡ true → rest ≡ []) → r .tally .unread ≡ 0 → eqb (length (r .window)) 0 ≡ false → isFinal (r .window) (r .ended) ≡ true
+first-verdict : (r : Standing) (rest : List ℕ) → (r .ended ≡ true → rest ≡ []) → r .tally .unread ≡ 0 → eqb (length (r .window)) 0 ≡ false → isFinal (r .window) (r .ended) ≡ true
     → remaining r rest ≡ verdictRead (readCall (r .window)) ∷ remaining (withReport r) rest
 unfolding remaining withReport
 first-verdict r rest h unread some final =
@@ -355,7 +355,7 @@ first-verdict r rest h unread some final =
         rw (ne-eqb (countedWith (r .tally) (verdictRead (readCall (r .window))) .unread) 0 (λ (z : countedWith (r .tally) (verdictRead (readCall (r .window))) .unread ≡ 0). omega (arith, counts)))
 
 -- a report
-keeps-report : (r : Run) (had wrote said : List ℕ) → Keeps r had wrote said → r .stage ≡ Judge → r .tally .unread ≡ 0 → eqb (length (r .window)) 0 ≡ false
+keeps-report : (r : Standing) (had wrote said : List ℕ) → Keeps r had wrote said → r .stage ≡ Judge → r .tally .unread ≡ 0 → eqb (length (r .window)) 0 ≡ false
     → isFinal (r .window) (r .ended) ≡ true → Keeps (withReport r) had wrote said
 unfolding withReport
 keeps-report r had wrote said k judging unread some final =
@@ -403,7 +403,7 @@ both-none true verdicts e = e
 both-none false verdicts e = refl
 
 -- what stands in the window
-keeps-looked : (r : Run) (had wrote said : List ℕ) → Keeps r had wrote said → r .stage ≡ Judge → Keeps (looked r) had wrote said
+keeps-looked : (r : Standing) (had wrote said : List ℕ) → Keeps r had wrote said → r .stage ≡ Judge → Keeps (looked r) had wrote said
 unfolding looked remaining
 keeps-looked r had wrote said k judging =
     go (eqb (r .tally .unread) 0) (eqb (recordsOf (r .tally) + 1) largest) (eqb (length (r .window)) 0) (r .ended) (isFinal (r .window) (r .ended)) refl refl refl refl
@@ -427,7 +427,7 @@ keeps-looked r had wrote said k judging =
     go false m w e f eu ew ee ef = after Close refl refl (λ z rest h. rw eu) (λ z. absurd (false≢true z)) refl
 
 -- judging, where that is next
-keeps-judged : (r : Run) (had wrote said : List ℕ) → Keeps r had wrote said → Keeps (judged r) had wrote said
+keeps-judged : (r : Standing) (had wrote said : List ℕ) → Keeps r had wrote said → Keeps (judged r) had wrote said
 keeps-judged r had wrote said k = go (isJudging (r .stage)) refl
   where
     go : (t : Bool) → isJudging (r .stage) ≡ t → Keeps (cond t (looked r) r) had wrote said
@@ -435,7 +435,7 @@ keeps-judged r had wrote said k = go (isJudging (r .stage)) refl
     go false e = k
 
 -- the end, where that is next
-keeps-closed : (r : Run) (had wrote said : List ℕ) → Keeps r had wrote said → Keeps (closed r) had wrote said
+keeps-closed : (r : Standing) (had wrote said : List ℕ) → Keeps r had wrote said → Keeps (closed r) had wrote said
 keeps-closed r had wrote said k = go (isClosing (r .stage)) refl
   where
     go : (t : Bool) → isClosing (r .stage) ≡ t
@@ -449,13 +449,13 @@ keeps-closed r had wrote said k = go (isClosing (r .stage)) refl
 -- ---- turns
 
 -- one turn
-pub keeps-turned : (r : Run) (had wrote said : List ℕ) → Keeps r had wrote said → (reply : Reply)
+pub keeps-turned : (r : Standing) (had wrote said : List ℕ) → Keeps r had wrote said → (reply : Reply)
     → Keeps (turned r reply) (had ++ fromInput r reply) (wrote ++ toOutput r reply) (said ++ toError r reply)
 unfolding turned
 keeps-turned r had wrote said k reply = keeps-closed _ _ _ _ (keeps-judged _ _ _ _ (keeps-heard r had wrote said k reply))
 
 -- turn after turn
-pub keeps-ran : (r : Run) (had wrote said : List ℕ) → Keeps r had wrote said → (replies : List Reply)
+pub keeps-ran : (r : Standing) (had wrote said : List ℕ) → Keeps r had wrote said → (replies : List Reply)
     → Keeps (ranFrom r replies) (had ++ joined fromInput r replies) (wrote ++ joined toOutput r replies) (said ++ joined toError r replies)
 keeps-ran r had wrote said k [] = rw (append-nil had, append-nil wrote, append-nil said) k
 keeps-ran r had wrote said k (reply ∷ replies) =

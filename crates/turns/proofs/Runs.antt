@@ -1,6 +1,6 @@
 -- The program's run keeps its promises.
 use mathlib.Core.Path.{_≡_, refl, sym, ap, ap₂, _∙_}
-use mathlib.Core.Bool.{Bool, true, false, cond, false≢true, true≢false}
+use mathlib.Core.Bool.{Bool, true, false, cond, _||_, false≢true, true≢false}
 use mathlib.Core.List.{List, [], _∷_, _++_, append-nil, append-assoc}
 use mathlib.Core.Logic.{_⊎_, inl, inr, ⊎-elim}
 use Prim.Native.Nat.{ℕ, zero, suc, _+_, _≤_, _<_}
@@ -18,8 +18,8 @@ use Rattle.turns.specs.declared.Ending.the-variants.{Said, ReadFailed, W
 use Rattle.turns.specs.declared.Stage.{Stage}
 use Rattle.turns.specs.declared.Stage.the-variants.{Judge, Close, Read, Write, Say, Over}
 use Rattle.turns.specs.Tallies.{none, countedAll, recordsOf, largest, numbered, endLine}
-use Rattle.turns.specs.Run.{Run, Reply, Came, Took, Again, Failed, begun, next, isJudging, isClosing, isReading, isWriting, asks, behind, failed, withReport, looked, judged, closed, came, took, heard, turned, ranFrom, joined, fromInput, outputAt, toOutput, errorAt, toError, ran, delivered, written, said, Choice, Moves, Interrupts, Breaks, replyTo, playedFrom, played, moves, breaks}
-use Rattle.turns.specs.Laws.{Of, lineOn, enough, Runs}
+use Rattle.turns.specs.Run.{Standing, Reply, Came, Took, Again, Failed, begun, next, isJudging, isClosing, isReading, isWriting, asks, behind, failed, withReport, looked, judged, closed, came, took, heard, turned, ranFrom, joined, fromInput, outputAt, toOutput, errorAt, toError, ran, delivered, written, said, Choice, Moves, Interrupts, Breaks, replyTo, playedFrom, played, moves, breaks}
+use Rattle.turns.specs.Laws.{Of, lineOn, enough, WholeReports}
 use Rattle.turns.proofs.Tallies.{records-counted, line-some}
 use Rattle.turns.proofs.Turns.{ran-append}
 use Rattle.turns.proofs.Keeps.{remaining, reportLeft, lineLeft, isLeft, isEnd, Keeps, keeps-begun, keeps-heard, keeps-turned, keeps-ran}
@@ -31,7 +31,7 @@ kept : (replies : List Reply) → Keeps (ran replies) (delivered replies) (writt
 kept replies = keeps-ran begun [] [] [] keeps-begun replies
 
 -- the output of an input is what is written, what is left of the last report, and the reports on the verdicts that are to come
-output-of : (r : Run) (had wrote said : List ℕ) (k : Keeps r had wrote said) (rest : List ℕ) → (r .ended ≡ true → rest ≡ [])
+output-of : (r : Standing) (had wrote said : List ℕ) (k : Keeps r had wrote said) (rest : List ℕ) → (r .ended ≡ true → rest ≡ [])
     → outputFrom 1 (had ++ rest) ≡ wrote ++ (reportLeft (r .stage) (r .left) ++ reportsFrom (1 + length (k .verdicts)) (remaining r rest))
 unfolding outputFrom
 output-of r had wrote said k rest h =
@@ -42,7 +42,7 @@ output-of r had wrote said k rest h =
     ∙ append-assoc wrote (reportLeft (r .stage) (r .left)) more
 
 -- at the end all verdicts are counted
-line-of : (r : Run) (had wrote said : List ℕ) (k : Keeps r had wrote said) (rest : List ℕ) → (r .ended ≡ true → rest ≡ []) → isEnd (r .stage) ≡ true
+line-of : (r : Standing) (had wrote said : List ℕ) (k : Keeps r had wrote said) (rest : List ℕ) → (r .ended ≡ true → rest ≡ []) → isEnd (r .stage) ≡ true
     → endLine (r .tally) ≡ lineOn (had ++ rest)
 unfolding lineOn
 line-of r had wrote said k rest h e =
@@ -98,17 +98,17 @@ unsaid replies h = (lineLeft (ran replies .stage) (ran replies .left) (endLine (
 -- ---- after a failure
 
 -- a run that asks something, or nothing, has nothing to judge and nothing to close
-idle : (r : Run) → isJudging (r .stage) ≡ false → isClosing (r .stage) ≡ false → closed (judged r) ≡ r
+idle : (r : Standing) → isJudging (r .stage) ≡ false → isClosing (r .stage) ≡ false → closed (judged r) ≡ r
 idle r judging closing = rw (judging, closing)
 
 -- the same run with the stage that it has
-same-stage : (r : Run) (stage : Stage) → stage ≡ r .stage → next stage r ≡ r
+same-stage : (r : Standing) (stage : Stage) → stage ≡ r .stage → next stage r ≡ r
 same-stage r stage e = ap (λ (s : Stage). next s r) e
 
 -- a run that is over hears nothing
-over-turned : (r : Run) (ending : Ending) → r .stage ≡ Over ending → (reply : Reply) → turned r reply ≡ r
+over-turned : (r : Standing) (ending : Ending) → r .stage ≡ Over ending → (reply : Reply) → turned r reply ≡ r
 unfolding turned
-over-turned r ending e reply = ap (λ (q : Run). closed (judged q)) (hears reply) ∙ idle r (ap isJudging e) (ap isClosing e)
+over-turned r ending e reply = ap (λ (q : Standing). closed (judged q)) (hears reply) ∙ idle r (ap isJudging e) (ap isClosing e)
   where
     hears : (reply : Reply) → heard r reply ≡ r
     hears (Came bytes) = rw (ap isReading e)
@@ -117,9 +117,9 @@ over-turned r ending e reply = ap (λ (q : Run). closed (judged q)) (hears reply
     hears Failed = same-stage r (failed (r .stage)) (ap failed e ∙ sym e)
 
 -- and stays as it is
-pub over-stays : (r : Run) (ending : Ending) → r .stage ≡ Over ending → (replies : List Reply) → ranFrom r replies ≡ r
+pub over-stays : (r : Standing) (ending : Ending) → r .stage ≡ Over ending → (replies : List Reply) → ranFrom r replies ≡ r
 over-stays r ending e [] = refl
-over-stays r ending e (reply ∷ replies) = ap (λ (q : Run). ranFrom q replies) (over-turned r ending e reply) ∙ over-stays r ending e replies
+over-stays r ending e (reply ∷ replies) = ap (λ (q : Standing). ranFrom q replies) (over-turned r ending e reply) ∙ over-stays r ending e replies
 
 -- how a call that failed ends a run that asked it, and that this is not the proper end
 failed-over : (stage : Stage) → asks stage ≡ true → (ending : Ending) × (failed stage ≡ Over ending) × (Over ending ≡ Over Said → ⊥)
@@ -130,20 +130,37 @@ failed-over Write a = (WriteFailed, refl, λ e. let z : _≡_ {A = ℕ} 0 1 = cc
 failed-over Say a = (SayFailed, refl, λ e. let z : _≡_ {A = ℕ} 0 1 = cc in omega arith)
 failed-over (Over ending) a = absurd (false≢true a)
 
--- after a call that failed the end is never said
-pub fails : (before after : List Reply) → asks (ran before .stage) ≡ true → ran (before ++ Failed ∷ after) .stage ≡ Over Said → ⊥
+-- a run that heard a failure, however it was told
+stopped : (before after : List Reply) (reply : Reply) → asks (ran before .stage) ≡ true → heard (ran before) reply ≡ next (failed (ran before .stage)) (ran before)
+    → ran (before ++ reply ∷ after) .stage ≡ Over Said → ⊥
 unfolding turned
-fails before after a e =
+stopped before after reply a heard-is e =
     let r = ran before in
     let f = failed-over (r .stage) a in
     let q = next (failed (r .stage)) r in
-    let stopped : turned r Failed ≡ q = idle q (ap isJudging (f .1)) (ap isClosing (f .1)) in
+    let turned-is : turned r reply ≡ q = ap (λ (s : Standing). closed (judged s)) heard-is ∙ idle q (ap isJudging (f .1)) (ap isClosing (f .1)) in
     f .2
     (sym (f .1)
-    ∙ ap (λ (s : Run). s .stage) (sym (over-stays q (f .0) (f .1) after))
-    ∙ ap (λ (s : Run). ranFrom s after .stage) (sym stopped)
-    ∙ ap (λ (s : Run). s .stage) (sym (ran-append begun before (Failed ∷ after)))
+    ∙ ap (λ (s : Standing). s .stage) (sym (over-stays q (f .0) (f .1) after))
+    ∙ ap (λ (s : Standing). ranFrom s after .stage) (sym turned-is)
+    ∙ ap (λ (s : Standing). s .stage) (sym (ran-append begun before (reply ∷ after)))
     ∙ e)
+
+-- after a call that failed the end is never said
+pub fails : (before after : List Reply) → asks (ran before .stage) ≡ true → ran (before ++ Failed ∷ after) .stage ≡ Over Said → ⊥
+fails before after a = stopped before after Failed a refl
+
+-- and a write that takes no byte is one
+pub no-byte : (before after : List Reply) → isWriting (ran before .stage) ≡ true → ran (before ++ Took 0 ∷ after) .stage ≡ Over Said → ⊥
+unfolding took
+no-byte before after w = stopped before after (Took 0) (writing-asks (ran before .stage) w) (rw w)
+  where
+    or-true : (t : Bool) → (t || true) ≡ true
+    or-true true = refl
+    or-true false = refl
+
+    writing-asks : (s : Stage) → isWriting s ≡ true → asks s ≡ true
+    writing-asks s e = rw e (or-true (isReading s))
 
 -- ---- an operating system that has an input
 
@@ -154,7 +171,7 @@ front (suc n) [] = refl
 front (suc n) (x ∷ l) = ap (λ (m : List ℕ). x ∷ m) (front n l)
 
 -- judging and closing leave the end of the input alone
-judged-ended : (r : Run) → judged r .ended ≡ r .ended
+judged-ended : (r : Standing) → judged r .ended ≡ r .ended
 unfolding looked withReport
 judged-ended r = go (isJudging (r .stage)) (eqb (r .tally .unread) 0) (eqb (recordsOf (r .tally) + 1) largest) (eqb (length (r .window)) 0) (isFinal (r .window) (r .ended))
   where
@@ -168,7 +185,7 @@ judged-ended r = go (isJudging (r .stage)) (eqb (r .tally .unread) 0) (eqb (reco
     go true false m w f = refl
     go false u m w f = refl
 
-closed-ended : (r : Run) → closed r .ended ≡ r .ended
+closed-ended : (r : Standing) → closed r .ended ≡ r .ended
 closed-ended r = go (isClosing (r .stage))
   where
     go : (t : Bool) → cond t (record { window = r .window; ended = r .ended; tally = r .tally; left = endLine (r .tally); stage = Say }) r .ended ≡ r .ended
@@ -176,7 +193,7 @@ closed-ended r = go (isClosing (r .stage))
     go false = refl
 
 -- and so does what is written
-took-ended : (n : ℕ) (r : Run) → took n r .ended ≡ r .ended
+took-ended : (n : ℕ) (r : Standing) → took n r .ended ≡ r .ended
 unfolding took
 took-ended n r = go (eqb n 0)
   where
@@ -195,15 +212,15 @@ took-ended n r = go (eqb n 0)
     go false = refl
 
 -- the end of the input is told by an answer alone
-turned-ended : (r : Run) (reply : Reply) → turned r reply .ended ≡ heard r reply .ended
+turned-ended : (r : Standing) (reply : Reply) → turned r reply .ended ≡ heard r reply .ended
 unfolding turned
 turned-ended r reply = closed-ended (judged (heard r reply)) ∙ judged-ended (heard r reply)
 
-came-ended : (r : Run) (bytes : List ℕ) → isReading (r .stage) ≡ true → turned r (Came bytes) .ended ≡ eqb (length bytes) 0
+came-ended : (r : Standing) (bytes : List ℕ) → isReading (r .stage) ≡ true → turned r (Came bytes) .ended ≡ eqb (length bytes) 0
 unfolding came
 came-ended r bytes reading = turned-ended r (Came bytes) ∙ rw reading
 
-wrote-ended : (r : Run) (n : ℕ) → turned r (Took n) .ended ≡ r .ended
+wrote-ended : (r : Standing) (n : ℕ) → turned r (Took n) .ended ≡ r .ended
 wrote-ended r n = turned-ended r (Took n) ∙ go (isWriting (r .stage))
   where
     go : (t : Bool) → cond t (took n r) r .ended ≡ r .ended
@@ -216,7 +233,7 @@ nothing-came n [] e = refl
 nothing-came n (x ∷ input) e = absurd (omega (arith, eqb-true (length (take (suc n) (x ∷ input))) 0 e))
 
 -- one answer of an operating system delivers the beginning of what it has left, and tells the end only where nothing is left
-one-answer : (r : Run) (input : List ℕ) (choice : Choice) → (r .ended ≡ true → input ≡ []) → let reply = replyTo r input choice in
+one-answer : (r : Standing) (input : List ℕ) (choice : Choice) → (r .ended ≡ true → input ≡ []) → let reply = replyTo r input choice in
     let left = drop (length (fromInput r reply)) input in
     (input ≡ fromInput r reply ++ left) × (turned r reply .ended ≡ true → left ≡ [])
 one-answer r input Interrupts h = (refl, λ e. h (sym (turned-ended r Again) ∙ e))
@@ -230,7 +247,7 @@ one-answer r input (Moves n) h = go (isReading (r .stage)) refl
     go false reading = (refl, λ e. h (sym (wrote-ended r (suc n)) ∙ e))
 
 -- the answers are of that input
-answers-from : (r : Run) (input : List ℕ) (choices : List Choice) → (r .ended ≡ true → input ≡ [])
+answers-from : (r : Standing) (input : List ℕ) (choices : List Choice) → (r .ended ≡ true → input ≡ [])
     → (rest : List ℕ) × (input ≡ joined fromInput r (playedFrom r input choices) ++ rest) × (ranFrom r (playedFrom r input choices) .ended ≡ true → rest ≡ [])
 answers-from r input [] h = (input, refl, h)
 answers-from r input (choice ∷ choices) h =
@@ -305,7 +322,7 @@ behind-good Say w = (refl, refl)
 behind-good (Over ending) w = absurd (false≢true w)
 
 -- an answer that is no failure leaves a good stage
-heard-good : (r : Run) (input : List ℕ) (choice : Choice) → isFine (r .stage) ≡ true → breaks (choice ∷ []) ≡ 0 → isGood (heard r (replyTo r input choice) .stage) ≡ true
+heard-good : (r : Standing) (input : List ℕ) (choice : Choice) → isFine (r .stage) ≡ true → breaks (choice ∷ []) ≡ 0 → isGood (heard r (replyTo r input choice) .stage) ≡ true
 unfolding came took
 heard-good r input Interrupts f b = fine-good (r .stage) f
 heard-good r input Breaks f b = absurd (omega arith)
@@ -322,13 +339,13 @@ heard-good r input (Moves n) f b = go (isReading (r .stage)) refl
     go false reading = rw (ne-eqb (suc n) 0 (λ e. omega arith)) (wrote (isWriting (r .stage)) (eqb (length (drop (suc n) (r .left))) 0) refl)
 
 -- judging leaves a good stage that does not judge, where the next record has a number
-judged-good : (r : Run) → isGood (r .stage) ≡ true → (recordsOf (r .tally) + 1 ≡ largest → ⊥) → (isGood (judged r .stage) ≡ true) × (isJudging (judged r .stage) ≡ false)
+judged-good : (r : Standing) → isGood (r .stage) ≡ true → (recordsOf (r .tally) + 1 ≡ largest → ⊥) → (isGood (judged r .stage) ≡ true) × (isJudging (judged r .stage) ≡ false)
 unfolding looked withReport
 judged-good r good numbers =
     go (isJudging (r .stage)) (eqb (r .tally .unread) 0) (eqb (recordsOf (r .tally) + 1) largest) (eqb (length (r .window)) 0) (r .ended) (isFinal (r .window) (r .ended)) refl refl
   where
     go : (j u m w e f : Bool) → isJudging (r .stage) ≡ j → eqb (recordsOf (r .tally) + 1) largest ≡ m
-        → let q : Run = cond j (cond u (cond m (next (Over TooMany) r) (cond w (next (cond e Close Read) r) (cond f (withReport r) (next Read r)))) (next Close r)) r in
+        → let q : Standing = cond j (cond u (cond m (next (Over TooMany) r) (cond w (next (cond e Close Read) r) (cond f (withReport r) (next Read r)))) (next Close r)) r in
         (isGood (q .stage) ≡ true) × (isJudging (q .stage) ≡ false)
     go true true true w e f ej em = absurd (numbers (eqb-true (recordsOf (r .tally) + 1) largest em))
     go true true false true true f ej em = (refl, refl)
@@ -339,7 +356,7 @@ judged-good r good numbers =
     go false u m w e f ej em = (good, ej)
 
 -- closing makes it fine
-closed-fine : (r : Run) → isGood (r .stage) ≡ true → isJudging (r .stage) ≡ false → isFine (closed r .stage) ≡ true
+closed-fine : (r : Standing) → isGood (r .stage) ≡ true → isJudging (r .stage) ≡ false → isFine (closed r .stage) ≡ true
 closed-fine r good judging = go (isClosing (r .stage)) refl
   where
     fine : (s : Stage) → isGood s ≡ true → isJudging s ≡ false → isClosing s ≡ false → isFine s ≡ true
@@ -393,7 +410,7 @@ some-taken n [] h = h
 some-taken n (x ∷ l) h = omega arith
 
 -- a call that moves bytes brings the run farther
-goes-farther : (r : Run) (had wrote said input : List ℕ) (n : ℕ) → Keeps r had wrote said → asks (r .stage) ≡ true → let reply = replyTo r input (Moves n) in
+goes-farther : (r : Standing) (had wrote said input : List ℕ) (n : ℕ) → Keeps r had wrote said → asks (r .stage) ≡ true → let reply = replyTo r input (Moves n) in
     far (r .ended) had wrote said + 1 ≤ far (turned r reply .ended) (had ++ fromInput r reply) (wrote ++ toOutput r reply) (said ++ toError r reply)
 goes-farther r had wrote said input n k a = go (isReading (r .stage)) refl
   where
@@ -411,12 +428,12 @@ goes-farther r had wrote said input n k a = go (isReading (r .stage)) refl
         (arith, length-append had [], length-append wrote (outputAt (r .stage) bytes), length-append said (errorAt (r .stage) bytes), moved-all (r .stage) writing bytes, some-taken n (r .left) (k .leaves (writing-leaves (r .stage) writing))))
 
 -- a signal takes it no way back
-goes-on : (r : Run) (had wrote said : List ℕ) → far (r .ended) had wrote said ≤ far (turned r Again .ended) (had ++ []) (wrote ++ toOutput r Again) (said ++ toError r Again)
+goes-on : (r : Standing) (had wrote said : List ℕ) → far (r .ended) had wrote said ≤ far (turned r Again .ended) (had ++ []) (wrote ++ toOutput r Again) (said ++ toError r Again)
 goes-on r had wrote said =
     rw (turned-ended r Again) (omega (arith, length-append had [], length-append wrote (outputAt (r .stage) []), length-append said (errorAt (r .stage) [])))
 
 -- a run that has come so far as is enough has said the end
-far-enough : (r : Run) (had wrote said rest : List ℕ) → Keeps r had wrote said → isFine (r .stage) ≡ true → (r .ended ≡ true → rest ≡ [])
+far-enough : (r : Standing) (had wrote said rest : List ℕ) → Keeps r had wrote said → isFine (r .stage) ≡ true → (r .ended ≡ true → rest ≡ [])
     → enough (had ++ rest) ≤ far (r .ended) had wrote said → r .stage ≡ Over Said
 unfolding enough lineOn
 far-enough r had wrote said rest k fine h here = go (r .stage) refl
@@ -454,12 +471,12 @@ far-enough r had wrote said rest k fine h here = go (r .stage) refl
 -- ---- the promise
 
 -- the records that were judged are no more than the input has
-few-records : (r : Run) (had wrote said rest : List ℕ) → Keeps r had wrote said → (r .ended ≡ true → rest ≡ []) → recordsOf (r .tally) ≤ length (verdictsOf (had ++ rest))
+few-records : (r : Standing) (had wrote said rest : List ℕ) → Keeps r had wrote said → (r .ended ≡ true → rest ≡ []) → recordsOf (r .tally) ≤ length (verdictsOf (had ++ rest))
 few-records r had wrote said rest k h =
     omega (arith, ap recordsOf (k .counted), records-counted none (k .verdicts), ap length (k .ahead rest h), length-append (k .verdicts) (remaining r rest))
 
 -- a turn without failure is fine again
-turned-fine : (r : Run) (had wrote said input : List ℕ) (choice : Choice) → Keeps r had wrote said → isFine (r .stage) ≡ true → breaks (choice ∷ []) ≡ 0
+turned-fine : (r : Standing) (had wrote said input : List ℕ) (choice : Choice) → Keeps r had wrote said → isFine (r .stage) ≡ true → breaks (choice ∷ []) ≡ 0
     → (r .ended ≡ true → input ≡ []) → length (verdictsOf (had ++ input)) + 1 < largest → isFine (turned r (replyTo r input choice) .stage) ≡ true
 unfolding turned
 turned-fine r had wrote said input choice k fine unbroken h few =
@@ -474,7 +491,7 @@ turned-fine r had wrote said input choice k fine unbroken h few =
     closed-fine (judged q) (judged-fine .0) (judged-fine .1)
 
 -- a call that does not fail brings the run as much farther as it counts
-advances : (r : Run) (had wrote said input : List ℕ) → Keeps r had wrote said → asks (r .stage) ≡ true → (choice : Choice) (choices : List Choice) → breaks (choice ∷ choices) ≡ 0
+advances : (r : Standing) (had wrote said input : List ℕ) → Keeps r had wrote said → asks (r .stage) ≡ true → (choice : Choice) (choices : List Choice) → breaks (choice ∷ choices) ≡ 0
     → let reply = replyTo r input choice in
     (breaks (choice ∷ []) ≡ 0) × (breaks choices ≡ 0)
     × (far (r .ended) had wrote said + moves (choice ∷ choices)
@@ -484,7 +501,7 @@ advances r had wrote said input k asked Interrupts choices e = (refl, e, omega (
 advances r had wrote said input k asked Breaks choices e = absurd (omega arith)
 
 -- where no call fails, the end is said after enough calls
-ends-from : (choices : List Choice) (r : Run) (had wrote said input : List ℕ) → Keeps r had wrote said → isFine (r .stage) ≡ true → (r .ended ≡ true → input ≡ [])
+ends-from : (choices : List Choice) (r : Standing) (had wrote said input : List ℕ) → Keeps r had wrote said → isFine (r .stage) ≡ true → (r .ended ≡ true → input ≡ [])
     → length (verdictsOf (had ++ input)) + 1 < largest → breaks choices ≡ 0 → enough (had ++ input) ≤ far (r .ended) had wrote said + moves choices
     → ranFrom r (playedFrom r input choices) .stage ≡ Over Said
 ends-from [] r had wrote said input k fine h few unbroken here = far-enough r had wrote said input k fine h (omega arith)
@@ -502,7 +519,7 @@ ends-from (choice ∷ choices) r had wrote said input k fine h few unbroken here
     (rw all few)
     (on .1)
     (rw all (omega (arith, on .2))))
-    (λ (over : r .stage ≡ Over Said). ap (λ (q : Run). q .stage) (over-stays r Said over (playedFrom r input (choice ∷ choices))) ∙ over)
+    (λ (over : r .stage ≡ Over Said). ap (λ (q : Standing). q .stage) (over-stays r Said over (playedFrom r input (choice ∷ choices))) ∙ over)
     (fine-is (r .stage) fine)
 
 pub ends : (input : List ℕ) (choices : List Choice) → length (verdictsOf input) + 1 < largest → breaks choices ≡ 0 → enough input ≤ moves choices
@@ -516,5 +533,5 @@ unfolding endLine numbered numeral places
 line-spelled = (refl, refl)
 
 -- the run keeps its promises
-pub runs : Runs
-runs = record { line = line-spelled .0; no-line = line-spelled .1; counts = refl; begins = begins; whole = whole; unsaid = unsaid; fails = fails; answers = answers; ends = ends }
+pub whole-reports : WholeReports
+whole-reports = record { line = line-spelled .0; no-line = line-spelled .1; counts = refl; begins = begins; whole = whole; unsaid = unsaid; fails = fails; no-byte = no-byte; answers = answers; ends = ends }

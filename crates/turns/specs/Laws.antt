@@ -1,6 +1,7 @@
 -- What is promised of the program's run.
 use mathlib.Core.Bool.{true}
 use mathlib.Core.List.{List, [], _∷_, _++_}
+use mathlib.Core.Logic.{_⊎_}
 use mathlib.Core.Path.{_≡_}
 use Prim.Native.Nat.{ℕ, _+_, _≤_, _<_}
 use lib.ListN.{length}
@@ -10,9 +11,9 @@ use Rattle.judge.specs.Steps.{verdictsOf, outputFrom}
 use Rattle.turns.specs.declared.Ending.the-variants.{Said}
 use Rattle.turns.specs.declared.Stage.the-variants.{Over}
 use Rattle.turns.specs.Tallies.{none, countedAll, largest, endLine}
-use Rattle.turns.specs.Run.{Run, Reply, Failed, asks, turned, heard, ran, delivered, written, said, Choice, played, moves, breaks}
+use Rattle.turns.specs.Run.{Standing, Reply, Took, Failed, isWriting, isOver, asks, turned, heard, ran, delivered, written, said, Choice, played, moves, breaks}
 
--- an input of which the answers may be told: it begins with what was delivered, and has no more where its end was told
+-- an input that these answers can come from: it begins with what was delivered, and has no more where its end was told
 pub record Of (replies : List Reply) (input : List ℕ) : Type 0 where
   pub rest : List ℕ
   pub begins : input ≡ delivered replies ++ rest
@@ -26,7 +27,7 @@ lineOn input = endLine (countedAll none (verdictsOf input))
 unfoldable pub enough : List ℕ → ℕ
 enough input = length input + 1 + length (outputFrom 1 input) + length (lineOn input)
 
-pub record Runs : Type 0 where
+pub record WholeReports : Type 0 where
   -- the line that ends a run, spelled out for 6,000 records and for none; each verdict is counted under its own word
   pub line : endLine (record { equal = 5_990; differ = 9; unread = 1 }) ≡ ascii "bench: 6000 records: 5990 equal, 9 differ, 1 unread\n"
   pub no-line : endLine none ≡ ascii "bench: 0 records: 0 equal, 0 differ, 0 unread\n"
@@ -39,27 +40,29 @@ pub record Runs : Type 0 where
   -- where it is not, the line lacks its last byte at the least
   pub unsaid : (replies : List Reply) → (ran replies .stage ≡ Over Said → ⊥)
       → (more : List ℕ) × (endLine (ran replies .tally) ≡ said replies ++ more) × (1 ≤ length more)
-  -- after a call that failed the end is never said
+  -- after a call that failed the end is never said, and a write that takes no byte is one
   pub fails : (before after : List Reply) → asks (ran before .stage) ≡ true → ran (before ++ Failed ∷ after) .stage ≡ Over Said → ⊥
-  -- an operating system that has an input answers of that input, however it cuts it
+  pub no-byte : (before after : List Reply) → isWriting (ran before .stage) ≡ true → ran (before ++ Took 0 ∷ after) .stage ≡ Over Said → ⊥
+  -- an operating system that has an input gives answers that can come from it, however it cuts it
   pub answers : (input : List ℕ) (choices : List Choice) → Of (played input choices) input
-  -- and where it lets no call fail, the end is said after enough calls, unless the records have no more numbers
+  -- and where it lets no call fail, the end is said after enough calls, unless there are 2^64 - 2 records or more
   pub ends : (input : List ℕ) (choices : List Choice) → length (verdictsOf input) + 1 < largest → breaks choices ≡ 0 → enough input ≤ moves choices
       → ran (played input choices) .stage ≡ Over Said
 
 -- ---- what the code's functions promise
 
 -- one answer heard
-pub record Answered (r s : Run) : Type 0 where
+pub record OneAnswer (r s : Standing) : Type 0 where
   pub reply : Reply
   pub is : s ≡ heard r reply
 
 -- one turn
-pub record Turned (r s : Run) : Type 0 where
+pub record Turned (r s : Standing) : Type 0 where
   pub reply : Reply
   pub is : s ≡ turned r reply
 
--- turns from the beginning
-pub record Ran (s : Run) : Type 0 where
+-- where some answers lead to, one a turn; it is left only when nothing is next, or after the largest number of turns
+pub record Ran (s : Standing) : Type 0 where
   pub replies : List Reply
   pub is : s ≡ ran replies
+  pub over : (isOver (s .stage) ≡ true) ⊎ (length replies ≡ largest)

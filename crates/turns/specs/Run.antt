@@ -16,7 +16,7 @@ use Rattle.turns.specs.Tallies.{none, countedWith, recordsOf, largest, e
 -- ---- where the program stands
 
 -- what was delivered and is not judged yet; whether the input has ended behind it; the verdicts so far, counted; what is left to write; what is next
-pub record Run : Type 0 where
+pub record Standing : Type 0 where
   pub window : List ℕ
   pub ended : Bool
   pub tally : Tally
@@ -24,11 +24,11 @@ pub record Run : Type 0 where
   pub stage : Stage
 
 -- nothing is delivered, and nothing is judged
-abbrev pub begun : Run
+abbrev pub begun : Standing
 begun = record { window = []; ended = false; tally = none; left = []; stage = Read }
 
 -- the same, and this is next
-abbrev pub next : Stage → Run → Run
+abbrev pub next : Stage → Standing → Standing
 next stage r = record { window = r .window; ended = r .ended; tally = r .tally; left = r .left; stage = stage }
 
 -- ---- what is next
@@ -42,7 +42,7 @@ isJudging Write = false
 isJudging Say = false
 isJudging (Over ending) = false
 
--- the end is
+-- the line that ends the run is to be put next
 abbrev pub isClosing : Stage → Bool
 isClosing Judge = false
 isClosing Close = true
@@ -51,7 +51,7 @@ isClosing Write = false
 isClosing Say = false
 isClosing (Over ending) = false
 
--- a read is
+-- a read is next
 abbrev pub isReading : Stage → Bool
 isReading Judge = false
 isReading Close = false
@@ -60,7 +60,7 @@ isReading Write = false
 isReading Say = false
 isReading (Over ending) = false
 
--- a write is, to standard output or to standard error
+-- a write is next, to standard output or to standard error
 abbrev pub isWriting : Stage → Bool
 isWriting Judge = false
 isWriting Close = false
@@ -69,7 +69,7 @@ isWriting Write = true
 isWriting Say = true
 isWriting (Over ending) = false
 
--- nothing is
+-- nothing is next
 abbrev pub isOver : Stage → Bool
 isOver Judge = false
 isOver Close = false
@@ -78,14 +78,14 @@ isOver Write = false
 isOver Say = false
 isOver (Over ending) = true
 
--- a call to the operating system is
+-- a call to the operating system is next
 abbrev pub asks : Stage → Bool
 asks stage = isReading stage || isWriting stage
 
 -- ---- judging
 
 -- the record that the window begins with is counted, and its report is next
-unfoldable pub withReport : Run → Run
+unfoldable pub withReport : Standing → Standing
 withReport r =
     let reading = readCall (r .window) in
     let verdict = verdictRead reading in
@@ -97,8 +97,9 @@ withReport r =
       stage = Write;
     }
 
--- a record that can not be read was the last; a record needs a number; no byte is the end, where the input has ended; a window that is not final wants more
-unfoldable pub looked : Run → Run
+-- after an unread record nothing is judged; where no number is left the run is over; an empty window is the end if the input has ended, and else wants more; a final
+-- window gives a report, any other wants more
+unfoldable pub looked : Standing → Standing
 looked r =
     cond (eqb (r .tally .unread) 0)
     (cond (eqb (recordsOf (r .tally) + 1) largest) (next (Over TooMany) r)
@@ -106,11 +107,11 @@ looked r =
     (next Close r)
 
 -- judging, where that is next
-abbrev pub judged : Run → Run
+abbrev pub judged : Standing → Standing
 judged r = cond (isJudging (r .stage)) (looked r) r
 
 -- the line that ends the run is to be said, where that is next
-abbrev pub closed : Run → Run
+abbrev pub closed : Standing → Standing
 closed r = cond (isClosing (r .stage)) (record { window = r .window; ended = r .ended; tally = r .tally; left = endLine (r .tally); stage = Say }) r
 
 -- ---- one answer
@@ -141,11 +142,11 @@ failed Say = Over SayFailed
 failed (Over ending) = Over ending
 
 -- bytes join the window, and none is the end of the input
-unfoldable pub came : List ℕ → Run → Run
+unfoldable pub came : List ℕ → Standing → Standing
 came bytes r = record { window = r .window ++ bytes; ended = eqb (length bytes) 0; tally = r .tally; left = r .left; stage = Judge }
 
 -- what was taken is written, and none taken is a failure
-unfoldable pub took : ℕ → Run → Run
+unfoldable pub took : ℕ → Standing → Standing
 took n r =
     cond (eqb n 0) (next (failed (r .stage)) r)
     (record {
@@ -157,37 +158,37 @@ took n r =
     })
 
 -- an answer to a call that was not made changes nothing
-abbrev pub heard : Run → Reply → Run
+abbrev pub heard : Standing → Reply → Standing
 heard r (Came bytes) = cond (isReading (r .stage)) (came bytes r) r
 heard r (Took n) = cond (isWriting (r .stage)) (took n r) r
 heard r Again = r
 heard r Failed = next (failed (r .stage)) r
 
 -- one turn
-unfoldable pub turned : Run → Reply → Run
+unfoldable pub turned : Standing → Reply → Standing
 turned r reply = closed (judged (heard r reply))
 
 -- ---- the whole run
 
 -- turn after turn, from a place
-abbrev pub ranFrom : Run → List Reply → Run
+abbrev pub ranFrom : Standing → List Reply → Standing
 ranFrom r [] = r
 ranFrom r (reply ∷ replies) = ranFrom (turned r reply) replies
 
 -- what is moved turn by turn, joined
-abbrev pub joined : (Run → Reply → List ℕ) → Run → List Reply → List ℕ
+abbrev pub joined : (Standing → Reply → List ℕ) → Standing → List Reply → List ℕ
 joined moved r [] = []
 joined moved r (reply ∷ replies) = moved r reply ++ joined moved (turned r reply) replies
 
 -- the bytes that an answer delivers from standard input
-abbrev pub fromInput : Run → Reply → List ℕ
+abbrev pub fromInput : Standing → Reply → List ℕ
 fromInput r (Came bytes) = cond (isReading (r .stage)) bytes []
 fromInput r (Took n) = []
 fromInput r Again = []
 fromInput r Failed = []
 
 -- the bytes that an answer takes of what is left
-abbrev pub taken : Run → Reply → List ℕ
+abbrev pub taken : Standing → Reply → List ℕ
 taken r (Came bytes) = []
 taken r (Took n) = take n (r .left)
 taken r Again = []
@@ -202,7 +203,7 @@ outputAt Write bytes = bytes
 outputAt Say bytes = []
 outputAt (Over ending) bytes = []
 
-abbrev pub toOutput : Run → Reply → List ℕ
+abbrev pub toOutput : Standing → Reply → List ℕ
 toOutput r reply = outputAt (r .stage) (taken r reply)
 
 -- those that go to standard error, in the stage that says the line which ends the run
@@ -214,11 +215,11 @@ errorAt Write bytes = []
 errorAt Say bytes = bytes
 errorAt (Over ending) bytes = []
 
-abbrev pub toError : Run → Reply → List ℕ
+abbrev pub toError : Standing → Reply → List ℕ
 toError r reply = errorAt (r .stage) (taken r reply)
 
 -- the program after these answers, and all that was delivered, written and said by then
-abbrev pub ran : List Reply → Run
+abbrev pub ran : List Reply → Standing
 ran replies = ranFrom begun replies
 
 abbrev pub delivered : List Reply → List ℕ
@@ -232,20 +233,20 @@ said replies = joined toError begun replies
 
 -- ---- an operating system that has an input
 
--- what it does with a call: it moves so many bytes and one more, as far as there are any; a signal comes first; it fails
+-- what it does with a call: `Moves n` moves n + 1 bytes, or all that there are; a signal comes first; it fails
 pub data Choice : Type 0 where
   Moves : ℕ → Choice
   Interrupts : Choice
   Breaks : Choice
 
 -- its answer, with this input left
-abbrev pub replyTo : Run → List ℕ → Choice → Reply
+abbrev pub replyTo : Standing → List ℕ → Choice → Reply
 replyTo r input (Moves n) = cond (isReading (r .stage)) (Came (take (suc n) input)) (Took (suc n))
 replyTo r input Interrupts = Again
 replyTo r input Breaks = Failed
 
 -- its answers to the program's calls, one after another
-abbrev pub playedFrom : Run → List ℕ → List Choice → List Reply
+abbrev pub playedFrom : Standing → List ℕ → List Choice → List Reply
 playedFrom r input [] = []
 playedFrom r input (choice ∷ choices) =
     let reply = replyTo r input choice in

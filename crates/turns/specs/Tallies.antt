@@ -28,7 +28,7 @@ countedAll t (verdict ∷ verdicts) = countedAll (countedWith t verdict) verdict
 abbrev pub recordsOf : Tally → ℕ
 recordsOf t = t .equal + t .differ + t .unread
 
--- the largest number of a record
+-- the largest number of 64 bits; no record gets it
 abbrev pub largest : ℕ
 largest = 18_446_744_073_709_551_615
 

@@ -1,22 +1,26 @@
--- `bench::run` meets its contract. The loop's invariant: the places are within their bounds, they are what turns from the beginning give, and the lent slices keep their
--- lengths. The measure is the number of turns left.
-use mathlib.Core.Path.{_≡_, refl, sym, subst, _∙_}
-use mathlib.Core.List.{List, []}
-use Prim.Native.Nat.{ℕ, _≤_, _<_}
+-- `bench::run` meets its contract. The loop's invariant: the places are within their bounds, they are where answers lead to, one a turn, and the lent
+-- slices keep their lengths. The measure is the number of turns left.
+use mathlib.Core.Path.{_≡_, refl, sym, ap, subst, _∙_}
+use mathlib.Core.List.{List, [], _∷_, _++_}
+use mathlib.Core.Logic.{inl, inr}
+use Prim.Native.Nat.{ℕ, _+_, _≤_, _<_}
 use native.Mathlib.Omega.{arith}
-use lib.ListN.{length}
+use lib.ListN.{length, length-append}
 use borrow.Author.Needs.{needs}
 use Rattle.bench.specs.declared.progress.Progress.{Progress}
-use Rattle.turns.specs.Laws.{Ran}
+use Rattle.turns.specs.Tallies.{largest}
+use Rattle.turns.specs.Run.{Reply, ran}
 use Rattle.bench.specs.Progress.{fresh, Sound, view}
 use Rattle.turns.proofs.Turns.{ran-more}
 use Rattle.bench.proofs.run.Statement.{statement}
 use Rattle.bench.proofs.run.Tie as tie
 
 -- what holds before each turn
-record Going (buffer₀ text₀ buffer text : List ℕ) (p : Progress) : Type 0 where
+record Going (buffer₀ text₀ buffer text : List ℕ) (p : Progress) (turns : ℕ) : Type 0 where
   sound : Sound p buffer text
-  ran : Ran (view p buffer text)
+  replies : List Reply
+  is : view p buffer text ≡ ran replies
+  count : length replies + turns ≡ largest
   same-buffer : length buffer ≡ length buffer₀
   same-text : length text ≡ length text₀
 
@@ -35,7 +39,7 @@ fresh-sound buffer text wide long =
     }
 
 abbrev Inv-loop : tie.InvT-loop
-Inv-loop buffer₀ text₀ p₀ turns₀ buffer text p turns = Going buffer₀ text₀ buffer text p
+Inv-loop buffer₀ text₀ p₀ turns₀ buffer text p turns = Going buffer₀ text₀ buffer text p turns
 
 abbrev μ-loop : tie.MeasureT-loop
 μ-loop buffer₀ text₀ p₀ turns₀ buffer text p turns = turns
@@ -48,7 +52,9 @@ loop-holds c =
     let s = c .before .before .before in
     record {
       sound = subst (λ (p : Progress). Sound p (s .args .buffer .now) (s .args .text .now)) (sym (c .begin .ensures)) (fresh-sound (s .args .buffer .now) (s .args .text .now) (s .pre .0) (s .pre .1));
-      ran = subst (λ (p : Progress). Ran (view p (s .args .buffer .now) (s .args .text .now))) (sym (c .begin .ensures)) (record { replies = []; is = refl });
+      replies = [];
+      is = ap (λ (p : Progress). view p (s .args .buffer .now) (s .args .text .now)) (c .begin .ensures);
+      count = refl;
       same-buffer = refl;
       same-text = refl;
     }
@@ -63,7 +69,9 @@ same-length-2 : tie.Need-same-length-2 Inv-loop μ-loop
 same-length-2 c = c .before .before .before .loop .inv .same-text
 
 returns : tie.Need-returns Inv-loop μ-loop
-returns c = c .before .before .before .loop .inv .ran
+returns c =
+    let inv = c .before .before .before .loop .inv in
+    record { replies = inv .replies; is = inv .is; over = inl (sym (c .before .is-over .ensures) ∙ c .if1 .taken) }
 
 turn-requires : tie.Need-turn-requires Inv-loop μ-loop
 turn-requires c κs = c .before .before .before .before .before .loop .inv .sound
@@ -80,7 +88,9 @@ loop-again c =
     let turned = c .before .before .before .before .turn .ensures in
     record {
       sound = turned .0;
-      ran = ran-more (inv .ran) (turned .1);
+      replies = inv .replies ++ turned .1 .reply ∷ [];
+      is = ran-more _ _ (inv .replies) (inv .is) (turned .1);
+      count = omega (arith, inv .count, length-append (inv .replies) (turned .1 .reply ∷ []), c .before .before .before .before .before .before .before .before .before .loop-test .taken);
       same-buffer = c .before .before .before .buffer .given ∙ inv .same-buffer;
       same-text = c .before .text .given ∙ inv .same-text;
     }
@@ -92,7 +102,9 @@ same-length-4 : tie.Need-same-length-4 Inv-loop μ-loop
 same-length-4 c = c .before .loop .inv .same-text
 
 returns-2 : tie.Need-returns-2 Inv-loop μ-loop
-returns-2 c = c .before .loop .inv .ran
+returns-2 c =
+    let l = c .before .loop in
+    record { replies = l .inv .replies; is = l .inv .is; over = inr (omega (arith, l .inv .count, c .loop-test .left)) }
 
 pub run-spec : {M : Type 1} → statement M
 run-spec =

@@ -1,7 +1,7 @@
 -- `bench::turn` meets its contract: the answer is heard, what follows is judged, and the end is closed.
 use mathlib.Core.Path.{ap, _∙_}
 use borrow.Author.Needs.{needs}
-use Rattle.turns.specs.Run.{Run, judged, closed, turned}
+use Rattle.turns.specs.Run.{Standing, judged, closed, turned}
 use Rattle.bench.proofs.turn.Statement.{statement}
 use Rattle.bench.proofs.turn.Tie as tie
 
@@ -30,7 +30,7 @@ returns c =
       end .sound (called .last .0) (looked .ensures .0),
       record {
         reply = answer .reply;
-        is = end .is (called .last .0) ∙ ap closed (looked .ensures .1) ∙ ap (λ (r : Run). closed (judged r)) (answer .is);
+        is = end .is (called .last .0) ∙ ap closed (looked .ensures .1) ∙ ap (λ (r : Standing). closed (judged r)) (answer .is);
       },
     )
 

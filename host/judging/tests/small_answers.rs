@@ -1,0 +1,64 @@
+//! The program where each read delivers one byte, each write takes few, and signals come in between: the report and the end's line are the same.
+
+use judging::classes::many;
+use judging::end::Counts;
+use judging::layout::file_of;
+use judging::program::{run, Tried};
+use second::judge::judge_all;
+use std::path::{Path, PathBuf};
+use std::process::{Command, Stdio};
+
+/// How many bytes a write takes at the most, case by case.
+const TAKES: [usize; 4] = [1, 2, 7, 64];
+
+/// Gives the library that makes the answers small, compiled from the C file beside this one.
+fn small_answers() -> PathBuf {
+    let source = Path::new(env!("CARGO_MANIFEST_DIR")).join("tests/small_answers.c");
+    let library = Path::new(env!("CARGO_TARGET_TMPDIR")).join("small_answers.so");
+    let mut compiler = Command::new("cc");
+    compiler.args(["-shared", "-fPIC", "-O1", "-o"]);
+    let status = compiler.arg(&library).arg(source).status();
+    assert!(status.expect("a C compiler").success(), "it compiles");
+    library
+}
+
+/// Gives what the program prints and says where a write takes at most so many bytes.
+fn printed_and_said(library: &Path, records: &[u8], takes: usize) -> [String; 2] {
+    let mut command = Tried::Program.start();
+    command
+        .env("LD_PRELOAD", library)
+        .env("BENCH_TAKES", takes.to_string());
+    let input = file_of("small-answers", records);
+    let output = run(command, input, Stdio::piped()).expect("it ends");
+    [output.stdout, output.stderr].map(|bytes| String::from_utf8_lossy(&bytes).into_owned())
+}
+
+/// Says that the smallest answers change neither the report nor the line that ends it, and that writes which take nothing leave neither.
+#[test]
+fn the_report_is_the_same() {
+    // Where the program runs in an emulator, no library can be loaded in front of its own.
+    if !cfg!(target_arch = "x86_64") {
+        println!("not run: the program is emulated on this machine");
+        return;
+    }
+    let library = small_answers();
+    let mut ran = 0;
+    for records in [
+        Vec::new(),
+        many(20),
+        [many(5), b"set=3\n".to_vec()].concat(),
+    ] {
+        let wanted = judge_all(&records);
+        let line = Counts::of(&wanted).line();
+        let wanted = [String::from_utf8_lossy(&wanted).into_owned(), line];
+        for takes in TAKES {
+            let found = printed_and_said(&library, &records, takes);
+            assert_eq!(found, wanted, "writes of at most {takes} bytes");
+            ran += 1;
+        }
+        let nothing = printed_and_said(&library, &records, 0);
+        assert_eq!(nothing, [String::new(), String::new()]);
+        ran += 1;
+    }
+    assert_eq!(ran, 15);
+}
