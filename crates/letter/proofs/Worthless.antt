@@ -2,14 +2,15 @@
 use mathlib.Core.Path.{_≡_, refl, sym, ap, _∙_}
 use mathlib.Core.Bool.{Bool, true, false, cond, not, _&&_, true≢false}
 use mathlib.Core.List.{List, [], _∷_, _++_}
-use Prim.Native.Nat.{ℕ, zero, suc, _+_, _≤_, _<_}
+use Prim.Native.Nat.{ℕ, zero, suc, _+_, _-_, _^_, _≤_, _<_}
 use native.Mathlib.Omega.{arith}
 use lib.Dec.{leb, lit≤, lit<}
-use lib.ListN.{length, getD, take, replicate, length-append, length-replicate}
+use lib.ListN.{length, getD, take, drop, replicate, length-append, length-replicate}
+use lib.Seq.{getD-drop}
 use borrow.Author.Tests.{leb-true, le-leb}
 use Rattle.permutation.specs.Round.{_⋙_, addConstant, sBox, bit, fromBits, column, substituted, substitute, Σ₀, Σ₁, Σ₂, Σ₃, Σ₄, diffuse, round}
 use Rattle.permutation.specs.Runs.{constants, constantsOf, roundsOf, rounds, permute}
-use Rattle.permutation.specs.Strings.{bytesOf, stringOf, stateOf}
+use Rattle.permutation.specs.Strings.{Bytes, bytesOf, stringOf, stateOf}
 use Rattle.permutation.specs.Strings as strings
 use Rattle.permutation.proofs.Strings.{bytes-none}
 use Rattle.answers.specs.declared.Answer.{Answer}
@@ -97,23 +98,45 @@ refuses-streams : (m : Model) → NeverStarts m → Listed m → ⊥
 unfolding isSet rowOf table
 refuses-streams m undone l = undone Sealing 1 sixteen sixteen (l .start Sealing 1 sixteen sixteen)
 
+-- another byte
+other : ℕ → ℕ
+other zero = 1
+other (suc byte) = 0
+
+other-differs : (byte : ℕ) → byte ≡ other byte → ⊥
+unfolding other
+other-differs zero e = omega (arith, e)
+other-differs (suc byte) e = omega (arith, e)
+
+-- with another first byte, bytes stay bytes
+bytes-other : (byte : ℕ) (rest : List ℕ) → Bytes (byte ∷ rest) → Bytes (other byte ∷ rest)
+unfolding other
+bytes-other byte rest b = record { at = go byte }
+  where
+    small : (byte : ℕ) → other byte < 2 ^ 8
+    small zero = lit< tt
+    small (suc byte) = lit< tt
+
+    go : (byte i : ℕ) → getD (other byte ∷ rest) i 0 < 2 ^ 8
+    go byte zero = small byte
+    go byte (suc i) = b .at (suc i)
+
 -- two texts that differ have no sealing in common
 answers-same : (m : Model) (same : ℕ → ℕ → ℕ → ℕ → ℕ → List ℕ → List ℕ → SealLeaves) → SealsBlindly m same
-    → (set : ℕ) (K N A : List ℕ) (byte : ℕ) (rest out tag : List ℕ) → length K ≡ rowOf set .key
+    → (set : ℕ) (K N A : List ℕ) (byte : ℕ) (rest out tag : List ℕ) → Bytes (byte ∷ rest) → length K ≡ rowOf set .key
     → m .seal set K N A (byte ∷ rest) out tag .outcome .answer ≡ Done
     → Second m → ⊥
-answers-same m same always set K N A byte rest out tag key done s =
+answers-same m same always set K N A byte rest out tag bytes key done s =
     let P : List ℕ = byte ∷ rest in
-    let Q : List ℕ = suc byte ∷ rest in
-    let one : m .seal set K N A P out tag ≡ m .seal set K N A Q out tag = always set K N A P out tag ∙ sym (always set K N A Q out tag) in
+    let Q : List ℕ = other byte ∷ rest in
+    let one : m .seal set K N A P out tag ≡ m .seal set K N A Q out tag = always set K N A P out tag bytes ∙ sym (always set K N A Q out tag (bytes-other byte rest bytes)) in
     let p = s .seals set K N A P out tag done in
     let q = s .seals set K N A Q out tag (ap (λ (x : SealLeaves). x .outcome .answer) (sym one) ∙ done) in
     let both : sealed (rowOf set) K N A P ≡ sealed (rowOf set) K N A Q = λ j. record {
       cipher = (sym (p .0) ∙ ap (λ (x : SealLeaves). take (length P) (x .out)) one ∙ q .0) j;
       tag = (sym (p .1) ∙ ap (λ (x : SealLeaves). x .tag) one ∙ q .1) j;
     } in
-    let bytes : byte ≡ suc byte = ap (λ (x : List ℕ). getD x 0 0) (is-published .only set K N A P Q key both) in
-    omega (arith, bytes)
+    other-differs byte (ap (λ (x : List ℕ). getD x 0 0) (is-published .only set K N A P Q key both))
 
 -- two zeros are not their own ciphertext
 copies : (m : Model) → Copies m → Listed m → Second m → ⊥
@@ -311,11 +334,13 @@ stays-open m same l r =
     omega arith
 
 -- an empty piece of it is done, and leaves the one byte lent
-writes-beyond : (m : Model) → WritesBeyond m → Listed m → Reported m → ⊥
-unfolding isSet rowOf table isSound isSoundOpen fresh
-writes-beyond m changed l r =
-    let done = l .seal-piece fresh [] (0 ∷ []) in
-    changed fresh [] (0 ∷ []) done (lit< tt) (ap (λ (x : List ℕ). getD x 0 0) (r .seal-piece fresh [] (0 ∷ []) done .3))
+writes-beyond : (m : Model) (s : Stream) (piece out : List ℕ) (place : ℕ) → WritesBeyond m s piece out place → Reported m → ⊥
+writes-beyond m s piece out place (done, behind, changed) r =
+    let lent = m .streams .seal s piece out .lent in
+    let n = length piece in
+    let here : place ≡ n + (place - n) = omega arith in
+    let at : (l : List ℕ) → getD l place 0 ≡ getD (drop n l) (place - n) 0 = λ l. ap (λ (k : ℕ). getD l k 0) here ∙ sym (getD-drop n l (place - n) 0) in
+    changed (at lent ∙ ap (λ (l : List ℕ). getD l (place - n) 0) (r .seal-piece s piece out done .3) ∙ sym (at out))
 
 pub worthless : Worthless
 worthless =

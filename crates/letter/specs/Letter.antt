@@ -33,7 +33,7 @@ pub record Letter : Type 2 where
   pub some-model : Keeps ours
   -- the cases marked P
   pub cases : Cases
-  -- known answers of the definitions, from outside this project
+  -- known answers of the definitions: published ones, and the second program's where none is published
   pub known-runs : permutation.Known
   pub known-messages : ascon.Known
   -- the formula counts the runs of Algorithm 1, and the definition makes those runs

@@ -23,7 +23,8 @@ use Rattle.report.proofs as reporting
 use Rattle.judge.proofs as judging
 use Rattle.letter.specs.EveryCall.{Lent, SealWord, sealWordCall, OpenWord, openWordCall}
 
--- what each call that has an answer to choose answers, and what it leaves in each lent place, on any input; `unseal` is the opening of a whole message
+-- the calls of messages, streams, records and the bench: what each answers, and what it leaves in each lent place, on any input; `unseal` is the opening of a whole
+-- message. The calls below them, of which these are built, are in `EveryCall` alone
 pub record Model : Type 0 where
   pub streams : histories.Streams
   pub startTest : ℕ → ℕ → ℕ → Answer

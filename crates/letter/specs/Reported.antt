@@ -1,4 +1,5 @@
--- What a call that is done, or answers 9, reports and leaves: the rules' rounds, call by call, and every byte of a lent place that the demands do not speak of.
+-- What a call that is done, or answers 9, reports and leaves: the rules' rounds, call by call, and the bytes of a lent place beyond its result. What a piece gives, and the
+-- state after it, is in the third demand for states that a start gave, and in `EveryCall` for all others.
 use mathlib.Core.Bool.{Bool}
 use mathlib.Core.List.{List, _++_}
 use mathlib.Core.Logic.{_⊎_}

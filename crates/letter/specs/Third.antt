@@ -1,5 +1,5 @@
 -- The third demand: the cut does not matter.
-use Rattle.history.specs.History.{NeverRefused}
+use Rattle.history.specs.History.{NeverRefused, HistoryLaw}
 use Rattle.history.specs.Cuts.{CuttingDoesNotMatter}
 use Rattle.letter.specs.Model.{Model}
 
@@ -8,5 +8,7 @@ use Rattle.letter.specs.Model.{Model}
 -- `CheckedWhole` is a checking's yes and the sum of its rounds; `states` says that two cuttings of one start hold equal states.
 pub record Third (m : Model) : Type 0 where
   pub cutting : CuttingDoesNotMatter (m .streams)
-  -- the other half: a piece in its phase and direction, within the limits and with room, is taken
+  -- and there are such cuttings: a piece in its phase and direction, within the limits and with room, is always taken
   pub taken : NeverRefused (m .streams)
+  -- behind both: after any calls, also refused ones, the state, with its counts, is that of the start, the phase, and what was taken
+  pub history : HistoryLaw (m .streams)

@@ -1,9 +1,10 @@
 -- Worthless versions, and what each of them breaks. A version is any model that does what is said of it, whatever else it does.
 use mathlib.Core.List.{List, [], _∷_}
 use mathlib.Core.Path.{_≡_}
-use Prim.Native.Nat.{ℕ, _<_}
+use Prim.Native.Nat.{ℕ, _≤_}
 use lib.ListN.{length, getD, take}
 use Rattle.answers.specs.declared.Answer.the-variants.{Done}
+use Rattle.permutation.specs.Strings.{Bytes}
 use Rattle.ascon.specs.Sets.{rowOf}
 use Rattle.ascon.specs.Mode.{sealed}
 use Rattle.stream.specs.declared.Direction.{Direction}
@@ -21,22 +22,22 @@ use Rattle.letter.specs.Reported.{Reported}
 
 -- ---- the versions
 
--- never says done to a whole message, or to a start
+-- never says done to the sealing of a whole message; to a start
 abbrev pub NeverSeals : Model → Type 0
 NeverSeals m = (set : ℕ) (K N A P out tag : List ℕ) → m .seal set K N A P out tag .outcome .answer ≡ Done → ⊥
 
 abbrev pub NeverStarts : Model → Type 0
 NeverStarts m = (d : Direction) (set : ℕ) (K N : List ℕ) → m .streams .start d set K N .answer ≡ Done → ⊥
 
--- answers and leaves the same for all keys, nonces, data and texts of the same lengths: by the set, the lengths and the lent places alone
+-- its answer and what it leaves depend only on the set, the lengths and what the lent places held, for any text of bytes
 abbrev pub SealsBlindly : Model → (ℕ → ℕ → ℕ → ℕ → ℕ → List ℕ → List ℕ → SealLeaves) → Type 0
-SealsBlindly m same = (set : ℕ) (K N A P out tag : List ℕ) → m .seal set K N A P out tag ≡ same set (length K) (length N) (length A) (length P) out tag
+SealsBlindly m same = (set : ℕ) (K N A P out tag : List ℕ) → Bytes P → m .seal set K N A P out tag ≡ same set (length K) (length N) (length A) (length P) out tag
 
 -- copies the text
 abbrev pub Copies : Model → Type 0
 Copies m = (set : ℕ) (K N A P out tag : List ℕ) → let leaves = m .seal set K N A P out tag in leaves .outcome .answer ≡ Done → take (length P) (leaves .out) ≡ P
 
--- copies each piece behind text that it took, whatever it does with the first
+-- once it has taken some text, copies every later piece, whatever it does with the first
 abbrev pub CopiesLater : Model → Type 0
 CopiesLater m =
     (set : ℕ) (K N : List ℕ) (calls : List Call) (piece out : List ℕ) → let before = after (m .streams) (begun (m .streams) Sealing set K N) calls in
@@ -74,11 +75,11 @@ ReportsLate m = (d : Direction) (set : ℕ) (K N : List ℕ) → m .streams .sta
 abbrev pub StaysOpen : Model → Type 0
 StaysOpen m = (s : Stream) (tag : List ℕ) → let outcome = m .streams .finishSealing s tag .outcome in outcome .answer ≡ Done → outcome .next ≡ s
 
--- changes the byte behind each piece of text: what the third demand joins may still be right
-abbrev pub WritesBeyond : Model → Type 0
-WritesBeyond m =
-    (s : Stream) (piece out : List ℕ) → let leaves = m .streams .seal s piece out in
-    leaves .outcome .answer ≡ Done → length piece < length out → getD (leaves .lent) (length piece) 0 ≡ getD out (length piece) 0 → ⊥
+-- changes a byte behind one piece of text, which the third demand does not see
+abbrev pub WritesBeyond : Model → Stream → List ℕ → List ℕ → ℕ → Type 0
+WritesBeyond m s piece out place =
+    let leaves = m .streams .seal s piece out in
+    (leaves .outcome .answer ≡ Done) × (length piece ≤ place) × (getD (leaves .lent) place 0 ≡ getD out place 0 → ⊥)
 
 -- ---- what they break
 
@@ -88,7 +89,7 @@ pub record Worthless : Type 0 where
   pub refuses-streams : (m : Model) → NeverStarts m → Listed m → ⊥
   -- the second demand, once it is done with a text that is not empty
   pub answers-same : (m : Model) (same : ℕ → ℕ → ℕ → ℕ → ℕ → List ℕ → List ℕ → SealLeaves) → SealsBlindly m same
-      → (set : ℕ) (K N A : List ℕ) (byte : ℕ) (rest out tag : List ℕ) → length K ≡ rowOf set .key
+      → (set : ℕ) (K N A : List ℕ) (byte : ℕ) (rest out tag : List ℕ) → Bytes (byte ∷ rest) → length K ≡ rowOf set .key
       → m .seal set K N A (byte ∷ rest) out tag .outcome .answer ≡ Done
       → Second m → ⊥
   -- the second demand
@@ -108,4 +109,5 @@ pub record Worthless : Type 0 where
   pub makes-up : (m : Model) (n : ℕ) → SameRounds m n → Listed m → Reported m → ⊥
   pub reports-late : (m : Model) → ReportsLate m → Listed m → Reported m → ⊥
   pub stays-open : (m : Model) → StaysOpen m → Listed m → Reported m → ⊥
-  pub writes-beyond : (m : Model) → WritesBeyond m → Listed m → Reported m → ⊥
+  -- what a call has to leave
+  pub writes-beyond : (m : Model) (s : Stream) (piece out : List ℕ) (place : ℕ) → WritesBeyond m s piece out place → Reported m → ⊥

@@ -1,4 +1,4 @@
--- Known answers of the definitions: what they have to give for inputs whose answers come from outside this project.
+-- Known answers of the definitions: published ones, and the second program's (host/second) where none is published.
 use mathlib.Core.Path.{_≡_}
 use Prim.Native.Nat.{ℕ}
 use lib.ListN.{drop}
