@@ -48,6 +48,11 @@ wrong = record {
   is-done-differs = λ κ e p. off (cc p);
   is-done-done = λ κ e p. off (cc p);
   rounded-complement = λ κ e p. let x2 : _≡_ {A = ℕ} 0 0xffffffffffffffff = ap (λ (s : State). s .x2) p in absurd (omega arith);
+  rounded-turn-x0 = λ x1 x2 x3 x4 κ e p. let word : _≡_ {A = ℕ} 0x0000401000000001 0x0000201000000001 = ap (λ (s : State). s .x0) p in absurd (omega arith);
+  rounded-turn-x1 = λ x0 x2 x3 x4 κ e p. let word : _≡_ {A = ℕ} 0x0000000002000011 0x0000000002000009 = ap (λ (s : State). s .x1) p in absurd (omega arith);
+  rounded-turn-x2 = λ x0 x1 x3 x4 κ e p. let word : _≡_ {A = ℕ} 0xbbfffffffffffffe 0x7bfffffffffffffe = ap (λ (s : State). s .x2) p in absurd (omega arith);
+  rounded-turn-x3 = λ x0 x1 x2 x4 κ e p. let word : _≡_ {A = ℕ} 0x0020800000000001 0x0040800000000001 = ap (λ (s : State). s .x3) p in absurd (omega arith);
+  rounded-turn-x4 = λ x0 x1 x2 x3 κ e p. let word : _≡_ {A = ℕ} 0x0100000000800001 0x0200000000800001 = ap (λ (s : State). s .x4) p in absurd (omega arith);
   permuted-last-eight = λ κ e p. let x0 : _≡_ {A = ℕ} 0x1418f8af721aa830 0x28023e518b813540 = ap (λ (s : State). s .x0) p in absurd (omega arith);
   permute-words-swapped = λ κ p. let x0 : _≡_ {A = ℕ} 0xffe8b912453958f1 0x202caaa308f6e2b0 = ap (λ w. getD w 0 0) p in absurd (omega arith);
   permute-words-constant = λ κ p. let x0 : _≡_ {A = ℕ} 0x533b0f1f0feb161b 0x202caaa308f6e2b0 = ap (λ w. getD w 0 0) p in absurd (omega arith);
@@ -128,12 +133,11 @@ wrong = record {
   put-number-high = λ κ p. let first : _≡_ {A = ℕ} 0x32 0x31 = ap (λ (x : Laid). getD (x .place) 0 0) p in absurd (omega arith);
   read-nothing = λ κ e p. let line : _≡_ {A = ℕ} 8 1 = ap (λ (x : Reading). x .line) p in absurd (omega arith);
   read-line-nought = λ κ e p. let line : _≡_ {A = ℕ} 0 1 = ap (λ (x : Reading). x .line) p in absurd (omega arith);
-  read-taken = λ κ e p. let taken : _≡_ {A = ℕ} 1 0 = ap (λ (x : Reading). x .taken) p in absurd (omega arith);
   read-odd = λ κ e p. let line : _≡_ {A = ℕ} 3 2 = ap (λ (x : Reading). x .line) p in absurd (omega arith);
   read-feed = λ κ e p. let line : _≡_ {A = ℕ} 2 1 = ap (λ (x : Reading). x .line) p in absurd (omega arith);
   write-no-line = λ κ e p. let line : _≡_ {A = ℕ} 0 1 = ap (λ (x : WriteLeaves). x .outcome .line) p in absurd (omega arith);
-  write-room = λ κ e p. let line : _≡_ {A = ℕ} 0 1 = ap (λ (x : WriteLeaves). x .outcome .line) p in absurd (omega arith);
   write-touched = λ κ p. let byte : _≡_ {A = ℕ} 1 0 = ap (λ (x : WriteLeaves). getD (x .out) 0 0) p in absurd (omega arith);
+  write-room = λ κ e p. let line : _≡_ {A = ℕ} 0 1 = ap (λ (x : WriteLeaves). x .outcome .line) p in absurd (omega arith);
   read-name = λ κ e p. let line : _≡_ {A = ℕ} 4 3 = ap (λ (x : Reading). x .line) p in absurd (omega arith);
   first-broken-text = λ κ e p. let line : _≡_ {A = ℕ} 6 5 = p in absurd (omega arith);
   first-broken-long = λ κ e p. let line : _≡_ {A = ℕ} 0 5 = p in absurd (omega arith);

@@ -1,4 +1,4 @@
--- Wrong answers that the contracts rule out, of the calls whose wrong versions are not tried as edits of the code (or only one of them is).
+-- Wrong answers that the contracts rule out, each at one input that tells it from the right one. Edits (`must-fail`) show that wrong code is refused.
 use mathlib.Core.Bool.{true, false}
 use mathlib.Core.List.{List, [], _∷_, _++_}
 use mathlib.Core.Path.{_≡_}
@@ -70,12 +70,22 @@ pub record Wrong : Type 0 where
   pub is-done-done : Never answers.is_done.Reads.Learnt (Done, tt) false
   -- x2 is complemented: a round does not leave zeros
   pub rounded-complement : Never permutation.rounded.Reads.Learnt (ofWords (zeros 5), (0, tt)) (ofWords (zeros 5))
+  -- x0 is turned by 19, and not by 18
+  pub rounded-turn-x0 : (x1 x2 x3 x4 : ℕ) → Never permutation.rounded.Reads.Learnt (ofWords (zeros 5), (1, tt)) (record { x0 = 0x0000401000000001; x1 = x1; x2 = x2; x3 = x3; x4 = x4 })
+  -- x1 is turned by 61, and not by 60
+  pub rounded-turn-x1 : (x0 x2 x3 x4 : ℕ) → Never permutation.rounded.Reads.Learnt (ofWords (zeros 4 ++ (1 ∷ [])), (0, tt)) (record { x0 = x0; x1 = 0x0000000002000011; x2 = x2; x3 = x3; x4 = x4 })
+  -- x2 is turned by 1, and not by 2
+  pub rounded-turn-x2 : (x0 x1 x3 x4 : ℕ) → Never permutation.rounded.Reads.Learnt (ofWords (zeros 4 ++ (1 ∷ [])), (0, tt)) (record { x0 = x0; x1 = x1; x2 = 0xbbfffffffffffffe; x3 = x3; x4 = x4 })
+  -- x3 is turned by 10, and not by 11
+  pub rounded-turn-x3 : (x0 x1 x2 x4 : ℕ) → Never permutation.rounded.Reads.Learnt (ofWords (zeros 4 ++ (1 ∷ [])), (0, tt)) (record { x0 = x0; x1 = x1; x2 = x2; x3 = 0x0020800000000001; x4 = x4 })
+  -- x4 is turned by 7, and not by 8
+  pub rounded-turn-x4 : (x0 x1 x2 x3 : ℕ) → Never permutation.rounded.Reads.Learnt (ofWords (zeros 4 ++ (1 ∷ [])), (0, tt)) (record { x0 = x0; x1 = x1; x2 = x2; x3 = x3; x4 = 0x0100000000800001 })
   -- eight rounds do not take the last eight constants
   pub permuted-last-eight : Never permutation.permuted.Reads.Learnt (ofWords (zeros 5), (FirstEight, tt)) (rounds (drop 4 constants) (ofWords (zeros 5)))
   -- x0 and x1 do not change places
   pub permute-words-swapped : let s = permute FirstSix (ofWords (zeros 5)) in
       NeverLeaves permutation.permute_words.Reads.Learnt (lent (zeros 5), (FirstSix, tt)) tt (lent (s .x1 ∷ s .x0 ∷ s .x2 ∷ s .x3 ∷ s .x4 ∷ []), (FirstSix, tt))
-  -- the constants do not fall by 10
+  -- the constants do not fall by 10: round 1 does not take e0
   pub permute-words-constant : NeverLeaves permutation.permute_words.Reads.Learnt (lent (zeros 5), (FirstSix, tt)) tt
       (lent (toWords (rounds (0xf0 ∷ 0xe0 ∷ 0xd0 ∷ 0xc0 ∷ 0xb0 ∷ 0xa0 ∷ []) (ofWords (zeros 5)))), (FirstSix, tt))
   -- seven rounds are not run
@@ -116,7 +126,7 @@ pub record Wrong : Type 0 where
   -- a piece behind the first is not copied
   pub crypt-later-copied : NeverLeaves sponge.crypt.Reads.Learnt (1, (Seal, (0x0001000000000000 ∷ zeros 4, (1, (lent (0 ∷ []), (lent (0 ∷ []), tt)))))) (0x0001000000000000 ∷ zeros 4)
       (1, (Seal, (0x0001000000000000 ∷ zeros 4, (1, (lent (0 ∷ []), (lent (0 ∷ []), tt))))))
-  -- closing empty data flips a bit
+  -- closing empty data flips the last bit
   pub close-no-flip : Never sponge.close_data.Reads.Learnt (1, (zeros 5, (0, tt))) (zeros 5)
   -- closing empty data does not flip a bit of the first word
   pub close-other-end : Never sponge.close_data.Reads.Learnt (1, (zeros 5, (0, tt))) (1 ∷ zeros 4)
@@ -181,7 +191,7 @@ pub record Wrong : Type 0 where
   pub ended-set : Never stream.Stream.ended.Reads.Learnt tt (record { words = zeros 5; set = 2; direction = Sealing; phase = Ended; key = zeros 16; ad = 0; text = 0; place = 0 })
   -- the ended state is not broken: 7 and not 8
   pub finish-checking-ended : Never stream.Stream.finish_checking.Reads.Learnt (ended, (lent [], tt)) (record { answer = BrokenState; rounds = 0; next = ended })
-  -- the tag's last byte is compared: it is b2
+  -- the tag's last byte is compared: it is b2, and not b3
   pub finish-checking-last : Never stream.Stream.finish_checking.Reads.Learnt (
     streamOf (zeros 5) Checking Text 0 0 0,
     (lent (bytesOf 16 0x344f68b335d2682c54e0c3ef895c25b3), tt),
@@ -262,9 +272,8 @@ pub record Wrong : Type 0 where
   pub put-number-high : NeverLeaves digits.put_number.Reads.Learnt (1, (lent (zeros 1), tt)) 1 (1, (lent (0x32 ∷ []), tt))
   -- nothing is broken at its first line, and not at its last
   pub read-nothing : Never record-crate.read.Reads.Learnt (lent [], tt) (record { answer = BrokenRecord; line = 8; taken = 0; content = blank })
+  -- nor before it
   pub read-line-nought : Never record-crate.read.Reads.Learnt (lent [], tt) (record { answer = BrokenRecord; line = 0; taken = 0; content = blank })
-  -- a refused reading takes nothing
-  pub read-taken : Never record-crate.read.Reads.Learnt (lent [], tt) (record { answer = BrokenRecord; line = 1; taken = 1; content = blank })
   -- a lone digit behind a key breaks the key's line, and not the next one
   pub read-odd : Never record-crate.read.Reads.Learnt (lent (0x73 ∷ 0x65 ∷ 0x74 ∷ 0x3d ∷ 0x31 ∷ 0x0a ∷ 0x6b ∷ 0x65 ∷ 0x79 ∷ 0x3d ∷ (replicate 33 0x30 ++ (0x0a ∷ []))), tt)
       (record { answer = BrokenRecord; line = 3; taken = 0; content = blank })
@@ -273,11 +282,10 @@ pub record Wrong : Type 0 where
       (record { answer = BrokenRecord; line = 2; taken = 0; content = blank })
   -- a record that is refused in writing has its line named, and no byte written
   pub write-no-line : Never record-crate.write.Reads.Learnt (blank, (lent [], tt)) (record { answer = BrokenRecord; line = 0; written = 0 })
-  -- answer 10 comes before answer 6
-  pub write-room : Never record-crate.write.Reads.Learnt (blank, (lent [], tt)) (record { answer = NoRoom; line = 0; written = 0 })
-  -- nor does it touch the place
   pub write-touched : NeverLeaves record-crate.write.Reads.Learnt (blank, (lent (0 ∷ []), tt)) (record { answer = BrokenRecord; line = 1; written = 0 })
       (blank, (lent (1 ∷ []), tt))
+  -- answer 10 comes before answer 6
+  pub write-room : Never record-crate.write.Reads.Learnt (blank, (lent [], tt)) (record { answer = NoRoom; line = 0; written = 0 })
   -- the third line is not called `nonse=`
   pub read-name : Never record-crate.read.Reads.Learnt (lent (ascii "set=1\nkey=00000000000000000000000000000000\nnonse=00000000000000000000000000000000\n"), tt)
       (record { answer = BrokenRecord; line = 4; taken = 0; content = blank })
@@ -296,7 +304,7 @@ pub record Wrong : Type 0 where
     tt,
   )
       6
-  -- nor is a record with it in form
+  -- a record with such a text is not in form
   pub first-broken-long : Never record-crate.first_broken.Reads.Learnt (withField 5 (record { bytes = zeros 256; size = 257 }) (caseOf 24), tt) 0
   -- key, nonce and tag of 16 bytes are not in form in set 2
   pub first-broken-key : Never record-crate.first_broken.Reads.Learnt (withNumber 1 2 (caseOf 24), tt) 0
@@ -321,7 +329,7 @@ pub record Wrong : Type 0 where
   pub tail-short : (part : Lent) → part .now ≡ 2 ∷ [] → Never judge.difference_tail.Reads.Learnt (lent (1 ∷ 2 ∷ []), (lent (1 ∷ []), tt)) part
   -- first bytes that differ have a tail
   pub tail-first : (part : Lent) → part .now ≡ [] → Never judge.difference_tail.Reads.Learnt (lent (1 ∷ []), (lent (2 ∷ []), tt)) part
-  -- where later ones differ, too, it is not empty
+  -- where later bytes differ, the tail is not empty
   pub tail-empty : (part : Lent) → part .now ≡ [] → Never judge.difference_tail.Reads.Learnt (lent (0 ∷ 1 ∷ []), (lent (0 ∷ 2 ∷ []), tt)) part
   -- rounds are compared before the tag: the rules' whole case
   pub judge-rounds : Never judge.judge.Reads.Learnt (caseOf 25, tt) Tag
