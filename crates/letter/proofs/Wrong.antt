@@ -3,7 +3,7 @@ use Prim.Native.Nat.{ℕ}
 use mathlib.Core.Path.{_≡_, sym, ap, _∙_}
 use native.Mathlib.Omega.{arith}
 use lib.ListN.{getD}
-use Rattle.answers.specs.declared.Answer.the-variants.{Done, PastLimit, NoRoom, TagDiffers}
+use Rattle.answers.specs.declared.Answer.the-variants.{Done, PastLimit, NoRoom, TagDiffers, BrokenRecord}
 use Rattle.permutation.specs.Round.{_⋙_, addConstant, sBox, bit, fromBits, column, substituted, substitute, Σ₀, Σ₁, Σ₂, Σ₃, Σ₄, diffuse, round}
 use Rattle.permutation.specs.declared.State.{State}
 use Rattle.permutation.specs.Runs.{constants, constantsOf, roundsOf, rounds, permute, permuteWords}
@@ -18,7 +18,7 @@ use Rattle.stream.specs.declared.Stream.{Stream}
 use Rattle.stream.specs.declared.Outcome.{Outcome}
 use Rattle.stream.specs.declared.Phase.the-variants.{Data, Text}
 use Rattle.stream.specs.State.{isSoundOpen, isSoundEnded, isSound}
-use Rattle.stream.specs.Calls.{startTest, pieceTest, finishTest, filledRounds, closingRounds, startCall, dataCall, textWords, tookText, checkCall, finishCheckingCall}
+use Rattle.stream.specs.Calls.{startTest, pieceTest, finishTest, filledRounds, closingRounds, startCall, dataCall, textWords, tookText, checkCall, finishSealingCall, finishCheckingCall}
 use Rattle.stream.specs.Calls as streamed
 use Rattle.message.specs.Message.{messageTest, SealLeaves, sealCall, OpenLeaves, openCall}
 use Rattle.digits.specs.Hex.{digitOf, hexDigit}
@@ -42,7 +42,7 @@ off : _≡_ {A = ℕ} 0 1 → ⊥
 off e = omega (arith, e)
 
 pub wrong : Wrong
-unfolding permuteWords decrypted finalise opened dataBlocks textBlocks messageRounds absorbed given cryptedOf tagOf filledRounds closingRounds textWords sealing compared verdictOn verdicts.rounds verdictRead isFinal stepBy reported stepCall writeCall blank withField checkCall tookText readCall lineRead begins refusedAt valueRead name names withNumber keeps decimal.numberOf isNumeral broken isField fieldOf sealed encrypted pad count beforeText isSet rowOf table roundsOf constantsOf constants permuteCall dataClosed separate started initialise firstBlock p permute rounds round diffuse Σ₀ Σ₁ Σ₂ Σ₃ Σ₄ _⋙_ substitute substituted column fromBits bit sBox addConstant stringOf stateOf bytesOf numberOf sixteenOf givenTag isSound isSoundOpen isSoundEnded startCall dataCall startTest pieceTest finishTest streamed.sealCall finishCheckingCall messageTest sealCall openCall digitOf hexDigit places numeral lineOf put recordLine verdictLine fieldLine reportText reportCall
+unfolding permuteWords decrypted finalise opened dataBlocks textBlocks messageRounds absorbed given cryptedOf tagOf filledRounds closingRounds textWords sealing compared verdictOn verdicts.rounds verdictRead isFinal stepBy reported stepCall writeCall blank withField checkCall tookText readCall lineRead begins refusedAt valueRead name names withNumber keeps decimal.numberOf isNumeral broken isField fieldOf sealed encrypted pad count beforeText isSet rowOf table roundsOf constantsOf constants permuteCall dataClosed separate started initialise firstBlock p permute rounds round diffuse Σ₀ Σ₁ Σ₂ Σ₃ Σ₄ _⋙_ substitute substituted column fromBits bit sBox addConstant stringOf stateOf bytesOf numberOf sixteenOf givenTag isSound isSoundOpen isSoundEnded startCall dataCall startTest pieceTest finishTest streamed.sealCall finishSealingCall finishCheckingCall messageTest sealCall openCall digitOf hexDigit places numeral lineOf put recordLine verdictLine fieldLine reportText reportCall
 wrong = record {
   number-done = λ κ e p. off (cc p);
   is-done-differs = λ κ e p. off (cc p);
@@ -99,11 +99,13 @@ wrong = record {
   check-limit = λ κ e p. off (cc (ap (λ (x : Outcome). x .answer) p));
   ended-open = λ κ e p. off (cc (ap (λ (x : Stream). x .phase) p));
   ended-set = λ κ e p. off (cc (ap (λ (x : Stream). x .set) p));
+  finish-sealing-ended = λ κ e p. off (cc (ap (λ (x : streamed.Called). x .outcome .answer) p));
   finish-checking-ended = λ κ e p. off (cc (ap (λ (x : Outcome). x .answer) p));
   finish-checking-last = λ κ e p. let answer : Done ≡ TagDiffers = ap (λ (x : Outcome). x .answer) p in off (cc answer);
   seal-piece-refused = λ κ p. let byte : _≡_ {A = ℕ} 1 0 = ap (λ (x : streamed.Called). getD (x .lent) 0 0) p in absurd (omega arith);
   seal-refused = λ κ p. let byte : _≡_ {A = ℕ} 1 0 = ap (λ (x : SealLeaves). getD (x .out) 0 0) p in absurd (omega arith);
   seal-beyond = λ κ p. let byte : _≡_ {A = ℕ} 1 0 = ap (λ (x : SealLeaves). getD (x .out) 0 0) p in absurd (omega arith);
+  seal-run-after = λ κ p. let byte : _≡_ {A = ℕ} 0xe6 0x7b = ap (λ (x : SealLeaves). getD (x .tag) 0 0) p in absurd (omega arith);
   seal-limit = λ κ e p. let answer : PastLimit ≡ NoRoom = ap (λ (x : SealLeaves). x .outcome .answer) p in off (cc answer);
   seal-room = λ κ e p. let answer : NoRoom ≡ PastLimit = ap (λ (x : SealLeaves). x .outcome .answer) p in off (cc answer);
   seal-tag-long = λ κ e p. off (cc (ap (λ (x : SealLeaves). x .outcome .answer) p));
@@ -137,7 +139,7 @@ wrong = record {
   read-feed = λ κ e p. let line : _≡_ {A = ℕ} 2 1 = ap (λ (x : Reading). x .line) p in absurd (omega arith);
   write-no-line = λ κ e p. let line : _≡_ {A = ℕ} 0 1 = ap (λ (x : WriteLeaves). x .outcome .line) p in absurd (omega arith);
   write-touched = λ κ p. let byte : _≡_ {A = ℕ} 1 0 = ap (λ (x : WriteLeaves). getD (x .out) 0 0) p in absurd (omega arith);
-  write-room = λ κ e p. let line : _≡_ {A = ℕ} 0 1 = ap (λ (x : WriteLeaves). x .outcome .line) p in absurd (omega arith);
+  write-room = λ line κ e p. let answer : NoRoom ≡ BrokenRecord = ap (λ (x : WriteLeaves). x .outcome .answer) p in off (cc answer);
   read-name = λ κ e p. let line : _≡_ {A = ℕ} 4 3 = ap (λ (x : Reading). x .line) p in absurd (omega arith);
   first-broken-text = λ κ e p. let line : _≡_ {A = ℕ} 6 5 = p in absurd (omega arith);
   first-broken-long = λ κ e p. let line : _≡_ {A = ℕ} 0 5 = p in absurd (omega arith);

@@ -4,7 +4,7 @@ use mathlib.Core.List.{List, [], _∷_, _++_}
 use mathlib.Core.Path.{_≡_}
 use Prim.Native.Nat.{ℕ}
 use lib.ListN.{replicate, drop}
-use Rattle.answers.specs.declared.Answer.the-variants.{Done, UnknownSet, KeyLength, NonceLength, PastLimit, NoRoom, OutOfPhase, BrokenState, TagDiffers, BrokenRecord}
+use Rattle.answers.specs.declared.Answer.the-variants.{Done, UnknownSet, KeyLength, NonceLength, TagLength, PastLimit, NoRoom, OutOfPhase, BrokenState, TagDiffers, BrokenRecord}
 use Rattle.permutation.specs.declared.Run.the-variants.{Twelve, FirstEight, FirstSix}
 use Rattle.permutation.specs.Runs.{constants, rounds, permute, ofWords, toWords, permuteWords}
 use Rattle.permutation.specs.Strings.{bytesOf}
@@ -189,6 +189,8 @@ pub record Wrong : Type 0 where
   pub ended-open : Never stream.Stream.ended.Reads.Learnt tt (record { words = zeros 5; set = 1; direction = Sealing; phase = Data; key = zeros 16; ad = 0; text = 0; place = 0 })
   -- the ended state is not of set 2
   pub ended-set : Never stream.Stream.ended.Reads.Learnt tt (record { words = zeros 5; set = 2; direction = Sealing; phase = Ended; key = zeros 16; ad = 0; text = 0; place = 0 })
+  -- answer 7 comes before answer 4
+  pub finish-sealing-ended : Never stream.Stream.finish_sealing.Reads.Learnt (ended, (lent [], tt)) (record { answer = TagLength; rounds = 0; next = ended })
   -- the ended state is not broken: 7 and not 8
   pub finish-checking-ended : Never stream.Stream.finish_checking.Reads.Learnt (ended, (lent [], tt)) (record { answer = BrokenState; rounds = 0; next = ended })
   -- the tag's last byte is compared: it is b2, and not b3
@@ -208,6 +210,10 @@ pub record Wrong : Type 0 where
   pub seal-beyond : NeverLeaves message.seal.Reads.Learnt (1, (lent (zeros 16), (lent (zeros 16), (lent [], (lent [], (lent (0 ∷ []), (lent (zeros 16), tt)))))))
       (record { answer = Done; rounds = 24 })
       (1, (lent (zeros 16), (lent (zeros 16), (lent [], (lent [], (lent (1 ∷ []), (lent (zeros 16), tt)))))))
+  -- no rounds are run between the last block of text and the end: the tag is not of a state that six more have run on
+  pub seal-run-after : NeverLeaves message.seal.Reads.Learnt (1, (lent (zeros 16), (lent (zeros 16), (lent [], (lent [], (lent [], (lent (zeros 16), tt)))))))
+      (record { answer = Done; rounds = 24 })
+      (1, (lent (zeros 16), (lent (zeros 16), (lent [], (lent [], (lent [], (lent (bytesOf 16 0xe6b2d7d5c3af6a8cd8b555b4822fa663), tt)))))))
   -- data of exactly the limit has not passed it
   pub seal-limit : Never message.seal.Reads.Learnt (1, (lent (zeros 16), (lent (zeros 16), (lent (zeros 65_536), (lent (0 ∷ []), (lent [], (lent (zeros 16), tt)))))))
       (record { answer = PastLimit; rounds = 0 })
@@ -285,7 +291,7 @@ pub record Wrong : Type 0 where
   pub write-touched : NeverLeaves record-crate.write.Reads.Learnt (blank, (lent (0 ∷ []), tt)) (record { answer = BrokenRecord; line = 1; written = 0 })
       (blank, (lent (1 ∷ []), tt))
   -- answer 10 comes before answer 6
-  pub write-room : Never record-crate.write.Reads.Learnt (blank, (lent [], tt)) (record { answer = NoRoom; line = 0; written = 0 })
+  pub write-room : (line : ℕ) → Never record-crate.write.Reads.Learnt (blank, (lent [], tt)) (record { answer = NoRoom; line = line; written = 0 })
   -- the third line is not called `nonse=`
   pub read-name : Never record-crate.read.Reads.Learnt (lent (ascii "set=1\nkey=00000000000000000000000000000000\nnonse=00000000000000000000000000000000\n"), tt)
       (record { answer = BrokenRecord; line = 4; taken = 0; content = blank })
