@@ -3,7 +3,7 @@ use Prim.Native.Nat.{ℕ}
 use mathlib.Core.Path.{_≡_, sym, ap, _∙_}
 use native.Mathlib.Omega.{arith}
 use lib.ListN.{getD}
-use Rattle.answers.specs.declared.Answer.the-variants.{Done, PastLimit, NoRoom, TagDiffers, BrokenRecord}
+use Rattle.answers.specs.declared.Answer.the-variants.{Done, KeyLength, NonceLength, TagLength, PastLimit, NoRoom, OutOfPhase, BrokenState, TagDiffers, BrokenRecord}
 use Rattle.permutation.specs.Round.{_⋙_, addConstant, sBox, bit, fromBits, column, substituted, substitute, Σ₀, Σ₁, Σ₂, Σ₃, Σ₄, diffuse, round}
 use Rattle.permutation.specs.declared.State.{State}
 use Rattle.permutation.specs.Runs.{constants, constantsOf, roundsOf, rounds, permute, permuteWords}
@@ -70,10 +70,10 @@ wrong = record {
   start-zeros = λ κ e p. off (cc p);
   start-other-block = λ κ e p. let x0 : _≡_ {A = ℕ} 0x0bd5c797efcdd5ae 0x76da0f6a16b926b1 = ap (λ w. getD w 0 0) p in absurd (omega arith);
   absorb-next-block = λ κ e p. let x1 : _≡_ {A = ℕ} 0xfee8b912453958f1 0xffe8b912453958f1 = ap (λ w. getD w 1 0) p in absurd (omega arith);
-  absorb-old-bit = λ κ e p. off (cc p);
+  absorb-old-bit = λ κ e p. let x0 : _≡_ {A = ℕ} 0x8000000000000000 0 = ap (λ w. getD w 0 0) p in absurd (omega arith);
   crypt-next-block = λ κ p. let byte : _≡_ {A = ℕ} 0xff 0x20 = ap (λ (x : Crypted). getD (x .out) 8 0) p in absurd (omega arith);
-  crypt-later-copied = λ κ p. off (cc (ap (λ (x : Crypted). x .out) p));
-  close-no-flip = λ κ e p. off (cc p);
+  crypt-later-copied = λ κ p. let byte : _≡_ {A = ℕ} 0 1 = ap (λ (x : Crypted). getD (x .out) 0 0) p in absurd (omega arith);
+  close-no-flip = λ κ e p. let x4 : _≡_ {A = ℕ} 0 1 = ap (λ w. getD w 4 0) p in absurd (omega arith);
   close-other-end = λ κ e p. off (cc p);
   finish-key-at-eight = λ κ e p. let byte : _≡_ {A = ℕ} 0xa4 0xee = ap (λ tag. getD tag 0 0) (p .0) in absurd (omega arith);
   both-one = λ κ e p. off (cc p);
@@ -88,18 +88,18 @@ wrong = record {
   same-tag-last = λ κ e p. off (cc p);
   start-test-set = λ κ e p. off (cc p);
   start-test-key = λ κ e p. off (cc p);
-  start-key = λ κ e p. off (cc (ap (λ (x : Outcome). x .answer) p));
+  start-key = λ κ e p. let answer : NonceLength ≡ KeyLength = ap (λ (x : Outcome). x .answer) p in off (cc answer);
   start-refused-open = λ κ e p. off (cc (ap (λ (x : Outcome). x .next .phase) p));
   ad-key-tail = λ κ e p. off (cc (ap (λ (x : Outcome). x .answer) p));
-  ad-broken-ended = λ κ e p. off (cc (ap (λ (x : Outcome). x .answer) p));
+  ad-broken-ended = λ κ e p. let answer : OutOfPhase ≡ BrokenState = ap (λ (x : Outcome). x .answer) p in off (cc answer);
   seal-piece-closes = λ words κ e p. let phase : Text ≡ Data = ap (λ (x : streamed.Called). x .outcome .next .phase) p in off (cc phase);
-  seal-piece-room = λ κ e p. off (cc (ap (λ (x : streamed.Called). x .outcome .answer) p));
-  check-plaintext = λ κ e p. off (cc (ap (λ (x : Outcome). x .next .words) p));
-  check-closing = λ next κ e p. off (cc (ap (λ (x : Outcome). x .rounds) p));
+  seal-piece-room = λ κ e p. let answer : NoRoom ≡ PastLimit = ap (λ (x : streamed.Called). x .outcome .answer) p in off (cc answer);
+  check-plaintext = λ κ e p. let x0 : _≡_ {A = ℕ} 0x0100000000000000 0 = ap (λ (x : Outcome). getD (x .next .words) 0 0) p in absurd (omega arith);
+  check-closing = λ next κ e p. let rounds : _≡_ {A = ℕ} 0 6 = ap (λ (x : Outcome). x .rounds) p in absurd (omega arith);
   check-limit = λ κ e p. off (cc (ap (λ (x : Outcome). x .answer) p));
   ended-open = λ κ e p. off (cc (ap (λ (x : Stream). x .phase) p));
   ended-set = λ κ e p. off (cc (ap (λ (x : Stream). x .set) p));
-  finish-sealing-ended = λ κ e p. off (cc (ap (λ (x : streamed.Called). x .outcome .answer) p));
+  finish-sealing-ended = λ κ e p. let answer : TagLength ≡ OutOfPhase = ap (λ (x : streamed.Called). x .outcome .answer) p in off (cc answer);
   finish-checking-ended = λ κ e p. off (cc (ap (λ (x : Outcome). x .answer) p));
   finish-checking-last = λ κ e p. let answer : Done ≡ TagDiffers = ap (λ (x : Outcome). x .answer) p in off (cc answer);
   seal-piece-refused = λ κ p. let byte : _≡_ {A = ℕ} 1 0 = ap (λ (x : streamed.Called). getD (x .lent) 0 0) p in absurd (omega arith);
@@ -108,7 +108,7 @@ wrong = record {
   seal-run-after = λ κ p. let byte : _≡_ {A = ℕ} 0xe6 0x7b = ap (λ (x : SealLeaves). getD (x .tag) 0 0) p in absurd (omega arith);
   seal-limit = λ κ e p. let answer : PastLimit ≡ NoRoom = ap (λ (x : SealLeaves). x .outcome .answer) p in off (cc answer);
   seal-room = λ κ e p. let answer : NoRoom ≡ PastLimit = ap (λ (x : SealLeaves). x .outcome .answer) p in off (cc answer);
-  seal-tag-long = λ κ e p. off (cc (ap (λ (x : SealLeaves). x .outcome .answer) p));
+  seal-tag-long = λ κ e p. let answer : Done ≡ TagLength = ap (λ (x : SealLeaves). x .outcome .answer) p in off (cc answer);
   open-plaintext = λ κ e p. let answer : TagDiffers ≡ Done = ap (λ (x : OpenLeaves). x .outcome .answer) p in off (cc answer);
   open-first-byte = λ κ p. let byte : _≡_ {A = ℕ} 0x27 0 = ap (λ (x : OpenLeaves). getD (x .out) 0 0) p in absurd (omega arith);
   open-refused = λ κ p. let byte : _≡_ {A = ℕ} 1 0 = ap (λ (x : OpenLeaves). getD (x .out) 0 0) p in absurd (omega arith);
