@@ -4,8 +4,8 @@ use mathlib.Core.Path.{_≡_, sym, ap, _∙_}
 use native.Mathlib.Omega.{arith}
 use lib.ListN.{getD}
 use Rattle.answers.specs.declared.Answer.the-variants.{Done, KeyLength, NonceLength, TagLength, PastLimit, NoRoom, OutOfPhase, BrokenState, TagDiffers, BrokenRecord}
-use Rattle.permutation.specs.Round.{_⋙_, addConstant, sBox, bit, fromBits, column, substituted, substitute, Σ₀, Σ₁, Σ₂, Σ₃, Σ₄, diffuse, round}
 use Rattle.permutation.specs.declared.State.{State}
+use Rattle.permutation.specs.Round.{_⋙_, addConstant, sBox, bit, fromBits, column, substituted, substitute, Σ₀, Σ₁, Σ₂, Σ₃, Σ₄, diffuse, round}
 use Rattle.permutation.specs.Runs.{constants, constantsOf, roundsOf, rounds, permute, permuteWords}
 use Rattle.permutation.specs.Strings.{bytesOf, numberOf, stringOf, stateOf}
 use Rattle.timing.specs.Call.{Called, permuteCall}
@@ -34,7 +34,7 @@ use Rattle.report.specs.declared.Verdict.the-variants.{Equal, Rounds, Tag}
 use Rattle.judge.specs.declared.stepping.Step.the-variants.{Stopped, Wait, End}
 use Rattle.judge.specs.Verdicts.{sealing, compared, verdictOn}
 use Rattle.judge.specs.Verdicts as verdicts
-use Rattle.judge.specs.Steps.{StepLeaves, verdictRead, isFinal, stepBy, reported, stepCall}
+use Rattle.judge.specs.Steps.{StepLeaves, isFinal, stepCall}
 use Rattle.letter.specs.Wrong.{Wrong}
 
 -- numbers that differ are not equal
@@ -42,7 +42,7 @@ off : _≡_ {A = ℕ} 0 1 → ⊥
 off e = omega (arith, e)
 
 pub wrong : Wrong
-unfolding permuteWords decrypted finalise opened dataBlocks textBlocks messageRounds absorbed given cryptedOf tagOf filledRounds closingRounds textWords sealing compared verdictOn verdicts.rounds verdictRead isFinal stepBy reported stepCall writeCall blank withField checkCall tookText readCall lineRead begins refusedAt valueRead name names withNumber keeps decimal.numberOf isNumeral broken isField fieldOf sealed encrypted pad count beforeText isSet rowOf table roundsOf constantsOf constants permuteCall dataClosed separate started initialise firstBlock p permute rounds round diffuse Σ₀ Σ₁ Σ₂ Σ₃ Σ₄ _⋙_ substitute substituted column fromBits bit sBox addConstant stringOf stateOf bytesOf numberOf sixteenOf givenTag isSound isSoundOpen isSoundEnded startCall dataCall startTest pieceTest finishTest streamed.sealCall finishSealingCall finishCheckingCall messageTest sealCall openCall digitOf hexDigit places numeral lineOf put recordLine verdictLine fieldLine reportText reportCall
+unfolding permuteWords decrypted finalise opened dataBlocks textBlocks messageRounds absorbed given cryptedOf tagOf filledRounds closingRounds textWords sealing compared verdictOn verdicts.rounds isFinal stepCall writeCall blank withField checkCall tookText readCall lineRead begins refusedAt valueRead name names withNumber keeps decimal.numberOf isNumeral broken isField fieldOf sealed encrypted pad count beforeText isSet rowOf table roundsOf constantsOf constants permuteCall dataClosed separate started initialise firstBlock p permute rounds round diffuse Σ₀ Σ₁ Σ₂ Σ₃ Σ₄ _⋙_ substitute substituted column fromBits bit sBox addConstant stringOf stateOf bytesOf numberOf sixteenOf givenTag isSound isSoundOpen isSoundEnded startCall dataCall startTest pieceTest finishTest streamed.sealCall finishSealingCall finishCheckingCall messageTest sealCall openCall digitOf hexDigit places numeral lineOf put recordLine verdictLine fieldLine reportText reportCall
 wrong = record {
   number-done = λ κ e p. off (cc p);
   is-done-differs = λ κ e p. off (cc p);
