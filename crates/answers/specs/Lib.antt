@@ -1,2 +1,3 @@
--- The rules' table of answer numbers.
+-- The rules' table of answer numbers, and how an answer is chosen.
 pub mod Numbers
+pub mod Order

@@ -1,7 +1,7 @@
 -- What a call answers where its tests passed, and where they did not.
 use mathlib.Core.Path.{_≡_, refl, ap, _∙_}
-use mathlib.Core.Bool.{Bool, true, false, cond, _&&_, true≢false}
-use mathlib.Core.List.{List, [], _++_, append-nil}
+use mathlib.Core.Bool.{Bool, true, false, cond, not, _&&_, true≢false}
+use mathlib.Core.List.{List, [], _∷_, _++_, append-nil}
 use Prim.Native.Nat.{ℕ, _+_}
 use native.Mathlib.Nat.{add-zero}
 use lib.Dec.{leb}
@@ -10,6 +10,7 @@ use lib.Seq.{take-at}
 use Rattle.answers.specs.declared.Answer.{Answer}
 use Rattle.answers.specs.declared.Answer.the-variants.{Done, NoRoom, TagDiffers, PastLimit, OutOfPhase, BrokenState}
 use Rattle.answers.specs.Numbers.{isDone}
+use Rattle.answers.specs.Order.{_when_, first}
 use Rattle.ascon.specs.Sets.{rowOf, dataLimit, textLimit}
 use Rattle.ascon.specs.Mode.{p, same}
 use Rattle.ascon.proofs.Bytewise.{length-outs}
@@ -21,6 +22,7 @@ use Rattle.stream.specs.declared.Stream.{Stream}
 use Rattle.stream.specs.declared.Outcome.{Outcome}
 use Rattle.stream.specs.State.{isData, isOpen, isSealing, isChecking, isSound}
 use Rattle.stream.specs.Calls.{refused, pieceTest, finishTest, dataCall, tookData, textWords, tookText, called, sealCall, checkCall, ownTag, finishedWith, finishSealingCall, finishCheckingCall}
+use Rattle.stream.proofs.Tests.{seal-test}
 use Rattle.history.specs.History.{ours, Call, giveText, reply, adOf, textOf, outOf, History, next}
 
 -- ---- one call more
@@ -56,7 +58,7 @@ pub unfit-piece : (s : Stream) (fits : Bool) (count n limit : ℕ) → fits ≡ 
 unfolding pieceTest
 unfit-piece s fits count n limit e = go (isSound s)
   where
-    go : (t : Bool) → isDone (cond t (cond fits (cond (leb (count + n) limit) Done PastLimit) OutOfPhase) BrokenState) ≡ false
+    go : (t : Bool) → isDone (first Done (BrokenState when not t ∷ OutOfPhase when not fits ∷ PastLimit when not (leb (count + n) limit) ∷ [])) ≡ false
     go true = rw e
     go false = refl
 
@@ -86,12 +88,12 @@ module _ (s : Stream) where
   pub seal-refused : (piece out : List ℕ) → let answer = pieceTest s (sealFits s) (s .text) (length piece) textLimit in
       isDone answer ≡ false → sealCall s piece out ≡ called (refused answer s) out
   unfolding sealCall
-  seal-refused piece out e = rw e
+  seal-refused piece out e = rw (seal-test s (length piece) (length out), e, e)
 
   pub seal-short : (piece out : List ℕ) → isDone (pieceTest s (sealFits s) (s .text) (length piece) textLimit) ≡ true
       → leb (length piece) (length out) ≡ false → sealCall s piece out ≡ called (refused NoRoom s) out
   unfolding sealCall
-  seal-short piece out e f = rw (e, f)
+  seal-short piece out e f = rw (seal-test s (length piece) (length out), e, f)
 
   pub seal-done : (piece out : List ℕ) → isDone (pieceTest s (sealFits s) (s .text) (length piece) textLimit) ≡ true
       → leb (length piece) (length out) ≡ true
@@ -99,7 +101,7 @@ module _ (s : Stream) where
       ≡ called (tookText s (absorbed (rowOf (s .set)) Seal (textWords s) (s .text) piece) (length piece))
       (given (rowOf (s .set)) Seal (textWords s) (s .text) piece ++ drop (length piece) out)
   unfolding sealCall
-  seal-done piece out e f = rw (e, f)
+  seal-done piece out e f = rw (seal-test s (length piece) (length out), e, f)
 
   pub check-refused : (piece : List ℕ) → let answer = pieceTest s (checkFits s) (s .text) (length piece) textLimit in
       isDone answer ≡ false → checkCall s piece ≡ refused answer s

@@ -9,19 +9,22 @@ use lib.Dec.{eqb, leb}
 use lib.ListN.{length, drop}
 use borrow.Author.Tests.{eqb-true}
 use Rattle.answers.specs.declared.Answer.{Answer}
-use Rattle.answers.specs.declared.Answer.the-variants.{Done, UnknownSet, KeyLength, NonceLength, TagLength, PastLimit, NoRoom, OutOfPhase, BrokenState, TagDiffers, BrokenRecord}
+use Rattle.answers.specs.declared.Answer.the-variants.{Done, NoRoom, TagDiffers, BrokenRecord}
 use Rattle.answers.specs.Numbers.{numberOf, isDone}
+use Rattle.answers.specs.Order.{Choice, _when_, first}
 use Rattle.answers.proofs.Numbers.{done-is}
-use Rattle.ascon.specs.Sets.{isSet, rowOf, dataLimit, textLimit}
+use Rattle.answers.proofs.Order.{first-append, first-most}
+use Rattle.ascon.specs.Sets.{rowOf, dataLimit, textLimit}
 use Rattle.ascon.specs.Mode.{zeros, same, opened}
 use Rattle.ascon.specs.Rounds.{messageRounds}
 use Rattle.stream.specs.declared.Direction.{Direction}
 use Rattle.stream.specs.declared.Stream.{Stream}
 use Rattle.stream.specs.declared.Outcome.{Outcome}
-use Rattle.stream.specs.State.{isData, isOpen, isSealing, isChecking, ended, isSound}
-use Rattle.stream.specs.Calls.{decided, refused, startTest, pieceTest, finishTest, startCall, dataCall, tookText, called, sealCall, checkCall, ownTag, finishedWith, finishSealingCall, finishCheckingCall}
+use Rattle.stream.specs.State.{isData, isOpen, isSealing, isChecking, ended}
+use Rattle.stream.specs.Calls.{decided, refused, startFaults, startTest, pieceFaults, pieceTest, sealFaults, sealTest, finishFaults, finishTest, startCall, dataCall, tookText, called, sealCall, checkCall, ownTag, finishedWith, finishSealingCall, finishCheckingCall}
 use Rattle.message.specs.Message as message
-use Rattle.message.specs.Demands.{Choice, _when_, first, startFaults, faults, isNone}
+use Rattle.message.specs.Message.{faults}
+use Rattle.message.specs.Demands.{isNone}
 use Rattle.message.proofs.Demands.{answers-anything}
 use Rattle.record.specs.declared.lines.Record.{Record}
 use Rattle.record.specs.declared.reading.Reading.{Reading}
@@ -39,7 +42,7 @@ use Rattle.judge.specs.Tail.{agree}
 use Rattle.judge.specs.Verdicts.{sealing, rounds, compared, verdictOn}
 use Rattle.judge.specs.Steps.{verdictRead, isFinal, StepLeaves, stepLeaves, stepBy, reported, stepCall}
 use Rattle.letter.specs.Model.{Model, ours, Keeps}
-use Rattle.letter.specs.First.{pieceFaults, finishFaults, Refused, Listed, Unchanged, Mismatch, First}
+use Rattle.letter.specs.First.{Refused, Listed, Unchanged, Mismatch, First}
 use Rattle.letter.proofs.EveryCall.{every-call}
 use Rattle.letter.proofs.Model.{is-ours}
 
@@ -58,97 +61,66 @@ done-says answer Kept e = record { is = e; kept = λ r. absurd (r .0 e) }
 says : (answer : Answer) (Kept : Type 0) → Kept → Says answer answer Kept
 says answer Kept k = record { is = refl; kept = λ _. k }
 
--- calls that give no byte out, by their three tests
-module _ (before : Stream) (done : Outcome) (e : done .answer ≡ Done) where
-  -- a start
-  start-says : (a b c : Bool) → let outcome = decided (cond a (cond b (cond c Done NonceLength) KeyLength) UnknownSet) before done in
-      Says (outcome .answer) (first Done (UnknownSet when not a ∷ KeyLength when not b ∷ NonceLength when not c ∷ []))
-      ((outcome .next ≡ before) × (outcome .rounds ≡ 0))
-  start-says true true true = done-says _ _ e
-  start-says true true false = says _ _ (refl, refl)
-  start-says true false c = says _ _ (refl, refl)
-  start-says false b c = says _ _ (refl, refl)
+-- a call that gives no byte out, by the answer of its tests
+decided-says : (answer : Answer) (before : Stream) (done : Outcome) → done .answer ≡ Done → let outcome = decided answer before done in
+    Says (outcome .answer) answer ((outcome .next ≡ before) × (outcome .rounds ≡ 0))
+decided-says answer before done e = go (isDone answer) refl
+  where
+    go : (b : Bool) → isDone answer ≡ b → let outcome = cond b done (refused answer before) in
+        Says (outcome .answer) answer ((outcome .next ≡ before) × (outcome .rounds ≡ 0))
+    go true f = record { is = e ∙ sym (done-is answer f); kept = λ r. absurd (r .0 e) }
+    go false f = says _ _ (refl, refl)
 
-  -- a piece
-  piece-says : (a b c : Bool) → let outcome = decided (cond a (cond b (cond c Done PastLimit) OutOfPhase) BrokenState) before done in
-      Says (outcome .answer) (first Done (BrokenState when not a ∷ OutOfPhase when not b ∷ PastLimit when not c ∷ []))
-      ((outcome .next ≡ before) × (outcome .rounds ≡ 0))
-  piece-says true true true = done-says _ _ e
-  piece-says true true false = says _ _ (refl, refl)
-  piece-says true false c = says _ _ (refl, refl)
-  piece-says false b c = says _ _ (refl, refl)
-
--- the three tests of a start
-tested : (a b c : Bool)
-    → cond a (cond b (cond c Done NonceLength) KeyLength) UnknownSet
-    ≡ first Done (UnknownSet when not a ∷ KeyLength when not b ∷ NonceLength when not c ∷ [])
-tested true true true = refl
-tested true true false = refl
-tested true false c = refl
-tested false b c = refl
+-- a call that gives bytes out, alike
+called-says : (answer : Answer) (s : Stream) (lent given : List ℕ) (done : Outcome) → done .answer ≡ Done
+    → let leaves = cond (isDone answer) (called done given) (called (refused answer s) lent) in
+    Says (leaves .outcome .answer) answer ((leaves .lent ≡ lent) × (leaves .outcome .next ≡ s) × (leaves .outcome .rounds ≡ 0))
+called-says answer s lent given done e = go (isDone answer) refl
+  where
+    go : (b : Bool) → isDone answer ≡ b → let leaves = cond b (called done given) (called (refused answer s) lent) in
+        Says (leaves .outcome .answer) answer ((leaves .lent ≡ lent) × (leaves .outcome .next ≡ s) × (leaves .outcome .rounds ≡ 0))
+    go true f = record { is = e ∙ sym (done-is answer f); kept = λ r. absurd (r .0 e) }
+    go false f = says _ _ (refl, refl, refl)
 
 -- a start's tests are its list
 tested-start : (set key nonce : ℕ) → startTest set key nonce ≡ first Done (startFaults set key nonce)
 unfolding startTest
-tested-start set key nonce = tested (isSet set) (eqb key (rowOf set .key)) (eqb nonce (rowOf set .key))
+tested-start set key nonce = refl
 
 -- a start
 start-said : (d : Direction) (set : ℕ) (K N : List ℕ) → let outcome = startCall d set K N in
     Says (outcome .answer) (first Done (startFaults set (length K) (length N))) ((outcome .next ≡ ended) × (outcome .rounds ≡ 0))
 unfolding startCall startTest
-start-said d set K N = start-says ended _ refl (isSet set) (eqb (length K) (rowOf set .key)) (eqb (length N) (rowOf set .key))
+start-said d set K N = decided-says (first Done (startFaults set (length K) (length N))) ended _ refl
 
 -- a piece of data
 ad-said : (s : Stream) (piece : List ℕ) → let outcome = dataCall s piece in
     Says (outcome .answer) (first Done (pieceFaults s (isData (s .phase)) (s .ad + length piece) dataLimit)) ((outcome .next ≡ s) × (outcome .rounds ≡ 0))
 unfolding dataCall pieceTest
-ad-said s piece = piece-says s _ refl (isSound s) (isData (s .phase)) (leb (s .ad + length piece) dataLimit)
+ad-said s piece = decided-says (first Done (pieceFaults s (isData (s .phase)) (s .ad + length piece) dataLimit)) s _ refl
 
 -- a piece of ciphertext
 check-said : (s : Stream) (piece : List ℕ) → let outcome = checkCall s piece in
     Says (outcome .answer) (first Done (pieceFaults s (isOpen (s .phase) && isChecking (s .direction)) (s .text + length piece) textLimit))
     ((outcome .next ≡ s) × (outcome .rounds ≡ 0))
 unfolding checkCall pieceTest tookText
-check-said s piece = piece-says s _ refl (isSound s) (isOpen (s .phase) && isChecking (s .direction)) (leb (s .text + length piece) textLimit)
+check-said s piece =
+    decided-says (first Done (pieceFaults s (isOpen (s .phase) && isChecking (s .direction)) (s .text + length piece) textLimit)) s _ refl
 
 -- a piece of text, with its room
 seal-said : (s : Stream) (piece out : List ℕ) → let leaves = sealCall s piece out in
-    Says (leaves .outcome .answer)
-    (first Done
-    (pieceFaults s (isOpen (s .phase) && isSealing (s .direction)) (s .text + length piece) textLimit ++ NoRoom when not (leb (length piece) (length out)) ∷ []))
+    Says (leaves .outcome .answer) (first Done (sealFaults s (length piece) (length out)))
     ((leaves .lent ≡ out) × (leaves .outcome .next ≡ s) × (leaves .outcome .rounds ≡ 0))
-unfolding sealCall pieceTest tookText
-seal-said s piece out =
-    go (isSound s) (isOpen (s .phase) && isSealing (s .direction)) (leb (s .text + length piece) textLimit) (leb (length piece) (length out)) _ _ refl
-  where
-    go : (a b c room : Bool) (done : Outcome) (given : List ℕ) → done .answer ≡ Done
-        → let answer = cond a (cond b (cond c Done PastLimit) OutOfPhase) BrokenState in
-        let leaves = cond (isDone answer) (cond room (called done given) (called (refused NoRoom s) out)) (called (refused answer s) out) in
-        Says (leaves .outcome .answer)
-        (first Done (BrokenState when not a ∷ OutOfPhase when not b ∷ PastLimit when not c ∷ NoRoom when not room ∷ []))
-        ((leaves .lent ≡ out) × (leaves .outcome .next ≡ s) × (leaves .outcome .rounds ≡ 0))
-    go true true true true done given e = done-says _ _ e
-    go true true true false done given e = says _ _ (refl, refl, refl)
-    go true true false room done given e = says _ _ (refl, refl, refl)
-    go true false c room done given e = says _ _ (refl, refl, refl)
-    go false b c room done given e = says _ _ (refl, refl, refl)
+unfolding sealCall sealTest tookText
+seal-said s piece out = called-says (first Done (sealFaults s (length piece) (length out))) s out _ _ refl
 
 -- the end of a sealing
 finish-sealing-said : (s : Stream) (tag : List ℕ) → let leaves = finishSealingCall s tag in
     Says (leaves .outcome .answer) (first Done (finishFaults s (isOpen (s .phase) && isSealing (s .direction)) (length tag)))
     ((leaves .lent ≡ tag) × (leaves .outcome .next ≡ s) × (leaves .outcome .rounds ≡ 0))
 unfolding finishSealingCall finishTest
-finish-sealing-said s tag = go (isSound s) (isOpen (s .phase) && isSealing (s .direction)) (eqb (length tag) (rowOf (s .set) .key)) _ _ refl
-  where
-    go : (a b c : Bool) (done : Outcome) (given : List ℕ) → done .answer ≡ Done
-        → let answer = cond a (cond b (cond c Done TagLength) OutOfPhase) BrokenState in
-        let leaves = cond (isDone answer) (called done given) (called (refused answer s) tag) in
-        Says (leaves .outcome .answer) (first Done (BrokenState when not a ∷ OutOfPhase when not b ∷ TagLength when not c ∷ []))
-        ((leaves .lent ≡ tag) × (leaves .outcome .next ≡ s) × (leaves .outcome .rounds ≡ 0))
-    go true true true done given e = done-says _ _ e
-    go true true false done given e = says _ _ (refl, refl, refl)
-    go true false c done given e = says _ _ (refl, refl, refl)
-    go false b c done given e = says _ _ (refl, refl, refl)
+finish-sealing-said s tag =
+    called-says (first Done (finishFaults s (isOpen (s .phase) && isSealing (s .direction)) (length tag))) s tag _ _ refl
 
 -- a checking's end may be 9, and then the stream is ended
 record SaysEnd (outcome : Outcome) (listed : Answer) (s : Stream) : Type 0 where
@@ -160,16 +132,22 @@ finish-checking-said : (s : Stream) (tag : List ℕ)
     → SaysEnd (finishCheckingCall s tag)
     (first Done (finishFaults s (isOpen (s .phase) && isChecking (s .direction)) (length tag) ++ TagDiffers when not (same tag (ownTag s)) ∷ [])) s
 unfolding finishCheckingCall finishTest
-finish-checking-said s tag = go (isSound s) (isOpen (s .phase) && isChecking (s .direction)) (eqb (length tag) (rowOf (s .set) .key)) (same tag (ownTag s))
+finish-checking-said s tag =
+    let faults : List (Choice Answer) = finishFaults s (isOpen (s .phase) && isChecking (s .direction)) (length tag) in
+    subst (λ (listed : Answer). SaysEnd (finishCheckingCall s tag) listed s) (sym (first-append faults (TagDiffers when not (same tag (ownTag s)) ∷ []) refl))
+    (go (first Done faults) (same tag (ownTag s)) (first-most 8 faults refl))
   where
-    go : (a b c d : Bool)
-        → SaysEnd (decided (cond a (cond b (cond c Done TagLength) OutOfPhase) BrokenState) s (finishedWith (cond d Done TagDiffers) s))
-        (first Done (BrokenState when not a ∷ OutOfPhase when not b ∷ TagLength when not c ∷ TagDiffers when not d ∷ [])) s
-    go true true true true = record { said = done-says _ _ refl; differs = λ e. refl }
-    go true true true false = record { said = record { is = refl; kept = λ r. absurd (r .1 refl) }; differs = λ e. refl }
-    go true true false d = record { said = says _ _ (refl, refl); differs = λ e. absurd (let z : 4 ≡ 9 = ap numberOf e in omega arith) }
-    go true false c d = record { said = says _ _ (refl, refl); differs = λ e. absurd (let z : 7 ≡ 9 = ap numberOf e in omega arith) }
-    go false b c d = record { said = says _ _ (refl, refl); differs = λ e. absurd (let z : 8 ≡ 9 = ap numberOf e in omega arith) }
+    go : (answer : Answer) (d : Bool) → numberOf answer ≤ 8
+        → SaysEnd (decided answer s (finishedWith (cond d Done TagDiffers) s)) (cond (isDone answer) (cond (not d) TagDiffers Done) answer) s
+    go answer d small = by (isDone answer) d
+      where
+        by : (b d : Bool) → SaysEnd (cond b (finishedWith (cond d Done TagDiffers) s) (refused answer s)) (cond b (cond (not d) TagDiffers Done) answer) s
+        by true true = record { said = done-says _ _ refl; differs = λ e. refl }
+        by true false = record { said = record { is = refl; kept = λ r. absurd (r .1 refl) }; differs = λ e. refl }
+        by false d = record {
+          said = says _ _ (refl, refl);
+          differs = λ e. absurd (let nine : numberOf answer ≡ 9 = ap numberOf e in omega (arith, nine, small));
+        }
 
 -- ---- whole messages
 

@@ -9,10 +9,12 @@ use native.Mathlib.Omega.{arith}
 use lib.Dec.{eqb, leb}
 use lib.ListN.{length, take, drop, length-append, length-drop}
 use lib.Seq.{drop-at}
-use borrow.Author.Tests.{leb-true}
+use borrow.Author.Tests.{leb-true, eqb-false, not-false}
 use Rattle.answers.specs.declared.Answer.{Answer}
-use Rattle.answers.specs.declared.Answer.the-variants.{Done, TagLength, NoRoom, OutOfPhase, BrokenState, TagDiffers, BrokenRecord}
+use Rattle.answers.specs.declared.Answer.the-variants.{Done, NoRoom, TagDiffers, BrokenRecord}
 use Rattle.answers.specs.Numbers.{numberOf, isDone}
+use Rattle.answers.specs.Order.{Choice, first}
+use Rattle.answers.proofs.Order.{none-holds, first-most}
 use Rattle.ascon.specs.Sets.{rowOf, dataLimit, textLimit}
 use Rattle.ascon.specs.Mode.{zeros, p, initialise, same, opened}
 use Rattle.ascon.specs.Rounds.{messageRounds}
@@ -24,8 +26,8 @@ use Rattle.stream.specs.declared.Direction.{Direction}
 use Rattle.stream.specs.declared.Phase.the-variants.{Data, Text}
 use Rattle.stream.specs.declared.Stream.{Stream}
 use Rattle.stream.specs.declared.Outcome.{Outcome}
-use Rattle.stream.specs.State.{isData, isOpen, isSealing, isChecking, ended, isSound}
-use Rattle.stream.specs.Calls.{refused, decided, startTest, pieceTest, finishTest, filledRounds, closingRounds, startCall, dataCall, tookData, textWords, tookText, called, sealCall, checkCall, ownTag, finishedWith, finishSealingCall, finishCheckingCall}
+use Rattle.stream.specs.State.{isData, isOpen, isSealing, isChecking, ended}
+use Rattle.stream.specs.Calls.{refused, decided, startTest, pieceTest, sealFaults, sealTest, finishFaults, finishTest, filledRounds, closingRounds, startCall, dataCall, tookData, textWords, tookText, called, sealCall, checkCall, ownTag, finishedWith, finishSealingCall, finishCheckingCall}
 use Rattle.message.specs.Message.{messageTest, SealLeaves, openLeaves, judged, openCall}
 use Rattle.message.proofs.Demands.{test-small, is-published}
 use Rattle.record.specs.declared.lines.Record.{Record}
@@ -93,6 +95,11 @@ check-reports s piece e =
     let done = decided-done (pieceTest s (isOpen (s .phase) && isChecking (s .direction)) (s .text) (length piece) textLimit) s (tookText s words (length piece)) e in
     (ap (λ (x : Outcome). x .rounds) done, ap (λ (x : Outcome). x .next .phase) done)
 
+-- a sealed piece has its room
+has-room : (s : Stream) (n room : ℕ) → isDone (sealTest s n room) ≡ true → n ≤ room
+unfolding sealTest
+has-room s n room e = leb-true n room (not-false (leb n room) (none-holds (sealFaults s n room) refl e .1 .1 .1 .0))
+
 -- a piece of text
 seal-reports : (s : Stream) (piece out : List ℕ) → let leaves = sealCall s piece out in
     leaves .outcome .answer ≡ Done
@@ -105,34 +112,24 @@ seal-reports s piece out =
     let row = rowOf (s .set) in
     let size : length (given row Seal (textWords s) (s .text) piece) ≡ length piece =
     length-outs (row .block) (p (row .between)) (keepOf Seal) (frontOf row (textWords s) (s .text)) piece in
-    go (pieceTest s (isOpen (s .phase) && isSealing (s .direction)) (s .text) (length piece) textLimit) (leb (length piece) (length out)) refl
+    go (isDone (sealTest s (length piece) (length out))) refl
     (tookText s (absorbed row Seal (textWords s) (s .text) piece) (length piece)) (given row Seal (textWords s) (s .text) piece) refl refl size
   where
-    go : (answer : Answer) (room : Bool) → leb (length piece) (length out) ≡ room
+    go : (b : Bool) → isDone (sealTest s (length piece) (length out)) ≡ b
         → (done : Outcome) (given : List ℕ) → done .rounds ≡ closingRounds s + filledRounds (rowOf (s .set)) (s .text) (length piece) → done .next .phase ≡ Text
         → length given ≡ length piece
-        → let leaves = cond (isDone answer) (cond room (called done (given ++ drop (length piece) out)) (called (refused NoRoom s) out)) (called (refused answer s) out) in
+        → let leaves = cond b (called done (given ++ drop (length piece) out)) (called (refused (sealTest s (length piece) (length out)) s) out) in
         leaves .outcome .answer ≡ Done
         → (leaves .outcome .rounds ≡ closingRounds s + filledRounds (rowOf (s .set)) (s .text) (length piece))
         × (leaves .outcome .next .phase ≡ Text)
         × (length (leaves .lent) ≡ length out)
         × (drop (length piece) (leaves .lent) ≡ drop (length piece) out)
-    go answer room h done given rounds phase size = by (isDone answer) refl room h
-      where
-        by : (b : Bool) → isDone answer ≡ b → (room : Bool) → leb (length piece) (length out) ≡ room
-            → let leaves = cond b (cond room (called done (given ++ drop (length piece) out)) (called (refused NoRoom s) out)) (called (refused answer s) out) in
-            leaves .outcome .answer ≡ Done
-            → (leaves .outcome .rounds ≡ closingRounds s + filledRounds (rowOf (s .set)) (s .text) (length piece))
-            × (leaves .outcome .next .phase ≡ Text)
-            × (length (leaves .lent) ≡ length out)
-            × (drop (length piece) (leaves .lent) ≡ drop (length piece) out)
-        by true f true h e =
-            let fits : length piece ≤ length out = leb-true (length piece) (length out) h in
-            let all = length-append given (drop (length piece) out) in
-            let rest = length-drop (length piece) out in
-            (rounds, phase, omega (arith, all, rest, size, fits), drop-at given (drop (length piece) out) (length piece) size)
-        by true f false h e = absurd (let z : _≡_ {A = ℕ} 6 0 = ap numberOf e in omega arith)
-        by false f room h e = absurd (false≢true (sym f ∙ ap isDone e))
+    go true f done given rounds phase size e =
+        let fits = has-room s (length piece) (length out) f in
+        let all = length-append given (drop (length piece) out) in
+        let rest = length-drop (length piece) out in
+        (rounds, phase, omega (arith, all, rest, size, fits), drop-at given (drop (length piece) out) (length piece) size)
+    go false f done given rounds phase size e = absurd (false≢true (sym f ∙ ap isDone e))
 
 -- the end of a sealing
 finish-sealing-reports : (s : Stream) (tag : List ℕ) → let leaves = finishSealingCall s tag in
@@ -154,14 +151,17 @@ finish-checking-reports : (s : Stream) (tag : List ℕ) → let outcome = finish
     Through (outcome .answer) → (outcome .rounds ≡ closingRounds s + 12) × (outcome .next ≡ ended)
 unfolding finishCheckingCall finishTest
 finish-checking-reports s tag =
-    go (isSound s) (isOpen (s .phase) && isChecking (s .direction)) (eqb (length tag) (rowOf (s .set) .key)) (cond (same tag (ownTag s)) Done TagDiffers)
+    let faults : List (Choice Answer) = finishFaults s (isOpen (s .phase) && isChecking (s .direction)) (length tag) in
+    go (first Done faults) (cond (same tag (ownTag s)) Done TagDiffers) (first-most 8 faults refl)
   where
-    go : (a b c : Bool) (end : Answer) → let outcome = decided (cond a (cond b (cond c Done TagLength) OutOfPhase) BrokenState) s (finishedWith end s) in
+    go : (answer end : Answer) → numberOf answer ≤ 8 → let outcome = decided answer s (finishedWith end s) in
         Through (outcome .answer) → (outcome .rounds ≡ closingRounds s + 12) × (outcome .next ≡ ended)
-    go true true true end t = (refl, refl)
-    go true true false end t = absurd (stopped TagLength (λ e. omega (arith, e)) (λ e. omega (arith, e)) t)
-    go true false c end t = absurd (stopped OutOfPhase (λ e. omega (arith, e)) (λ e. omega (arith, e)) t)
-    go false b c end t = absurd (stopped BrokenState (λ e. omega (arith, e)) (λ e. omega (arith, e)) t)
+    go answer end small = by (isDone answer) refl
+      where
+        by : (b : Bool) → isDone answer ≡ b → let outcome = cond b (finishedWith end s) (refused answer s) in
+            Through (outcome .answer) → (outcome .rounds ≡ closingRounds s + 12) × (outcome .next ≡ ended)
+        by true f t = (refl, refl)
+        by false f t = absurd (stopped answer (eqb-false (numberOf answer) 0 f) (λ e. omega (arith, e, small)) t)
 
 -- a sealed message
 seal-message-reports : (set : ℕ) (K N A P out tag : List ℕ) → ours .seal set K N A P out tag .outcome .answer ≡ Done

@@ -18,8 +18,8 @@ use Rattle.ascon.specs.Mode.{zeros, Sealed, sealed, opened}
 use Rattle.ascon.specs.Rounds.{messageRounds}
 use Rattle.ascon.proofs.Sealing.{seal-opened}
 use Rattle.sets.proofs.Rows.{row-fits}
-use Rattle.message.specs.Message.{messageTest, SealLeaves, sealCall, OpenLeaves, openLeaves, judged, openCall}
-use Rattle.message.specs.Demands.{first, faults}
+use Rattle.message.specs.Message.{faults, messageTest, SealLeaves, sealCall, OpenLeaves, openLeaves, judged, openCall}
+use Rattle.answers.specs.Order.{first}
 use Rattle.message.proofs.Tests.{message-passed}
 use Rattle.message.proofs.Demands.{test-first, test-small, answers-anything, is-published}
 use Rattle.message.proofs.Promise.{length-cipher}

@@ -32,7 +32,7 @@ use Rattle.stream.specs.Calls.{Called}
 use Rattle.history.specs.History.{Call, giveText, next, BytesIn}
 use Rattle.history.specs.Cuts.{TextCut, TextCut.text-end, TextCut.text-piece, Cut.data-end, Message}
 use Rattle.message.specs.Message.{SealLeaves}
-use Rattle.message.specs.Demands.{Choice, _when_, first}
+use Rattle.answers.specs.Order.{Choice, _when_, first}
 use Rattle.message.proofs.Demands.{is-published}
 use Rattle.message.proofs.Promise.{length-cipher}
 use Rattle.letter.specs.Model.{Model}

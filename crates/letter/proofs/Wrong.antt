@@ -18,7 +18,7 @@ use Rattle.stream.specs.declared.Stream.{Stream}
 use Rattle.stream.specs.declared.Outcome.{Outcome}
 use Rattle.stream.specs.declared.Phase.the-variants.{Data, Text}
 use Rattle.stream.specs.State.{isSoundOpen, isSoundEnded, isSound}
-use Rattle.stream.specs.Calls.{startTest, pieceTest, finishTest, filledRounds, closingRounds, startCall, dataCall, textWords, tookText, checkCall, finishSealingCall, finishCheckingCall}
+use Rattle.stream.specs.Calls.{startTest, pieceTest, sealTest, finishTest, filledRounds, closingRounds, startCall, dataCall, textWords, tookText, checkCall, finishSealingCall, finishCheckingCall}
 use Rattle.stream.specs.Calls as streamed
 use Rattle.message.specs.Message.{messageTest, SealLeaves, sealCall, OpenLeaves, openCall}
 use Rattle.digits.specs.Hex.{digitOf, hexDigit}
@@ -42,7 +42,7 @@ off : _≡_ {A = ℕ} 0 1 → ⊥
 off e = omega (arith, e)
 
 pub wrong : Wrong
-unfolding permuteWords decrypted finalise opened dataBlocks textBlocks messageRounds absorbed given cryptedOf tagOf filledRounds closingRounds textWords sealing compared verdictOn verdicts.rounds isFinal stepCall writeCall blank withField checkCall tookText readCall lineRead begins refusedAt valueRead name names withNumber keeps decimal.numberOf isNumeral broken isField fieldOf sealed encrypted pad count beforeText isSet rowOf table roundsOf constantsOf constants permuteCall dataClosed separate started initialise firstBlock p permute rounds round diffuse Σ₀ Σ₁ Σ₂ Σ₃ Σ₄ _⋙_ substitute substituted column fromBits bit sBox addConstant stringOf stateOf bytesOf numberOf sixteenOf givenTag isSound isSoundOpen isSoundEnded startCall dataCall startTest pieceTest finishTest streamed.sealCall finishSealingCall finishCheckingCall messageTest sealCall openCall digitOf hexDigit places numeral lineOf put recordLine verdictLine fieldLine reportText reportCall
+unfolding permuteWords decrypted finalise opened dataBlocks textBlocks messageRounds absorbed given cryptedOf tagOf filledRounds closingRounds textWords sealing compared verdictOn verdicts.rounds isFinal stepCall writeCall blank withField checkCall tookText readCall lineRead begins refusedAt valueRead name names withNumber keeps decimal.numberOf isNumeral broken isField fieldOf sealed encrypted pad count beforeText isSet rowOf table roundsOf constantsOf constants permuteCall dataClosed separate started initialise firstBlock p permute rounds round diffuse Σ₀ Σ₁ Σ₂ Σ₃ Σ₄ _⋙_ substitute substituted column fromBits bit sBox addConstant stringOf stateOf bytesOf numberOf sixteenOf givenTag isSound isSoundOpen isSoundEnded startCall dataCall startTest pieceTest sealTest finishTest streamed.sealCall finishSealingCall finishCheckingCall messageTest sealCall openCall digitOf hexDigit places numeral lineOf put recordLine verdictLine fieldLine reportText reportCall
 wrong = record {
   number-done = λ κ e p. off (cc p);
   is-done-differs = λ κ e p. off (cc p);

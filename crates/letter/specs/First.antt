@@ -7,16 +7,18 @@ use Prim.Native.Nat.{ℕ, _+_, _-_, _*_, _≤_}
 use lib.Dec.{eqb, leb}
 use lib.ListN.{length, drop}
 use Rattle.answers.specs.declared.Answer.{Answer}
-use Rattle.answers.specs.declared.Answer.the-variants.{Done, TagLength, PastLimit, NoRoom, OutOfPhase, BrokenState, TagDiffers, BrokenRecord}
+use Rattle.answers.specs.declared.Answer.the-variants.{Done, NoRoom, TagDiffers, BrokenRecord}
 use Rattle.answers.specs.Numbers.{numberOf, isDone}
+use Rattle.answers.specs.Order.{_when_, first}
 use Rattle.ascon.specs.Sets.{rowOf, dataLimit, textLimit}
 use Rattle.ascon.specs.Mode.{zeros, same, opened}
 use Rattle.ascon.specs.Rounds.{messageRounds}
 use Rattle.stream.specs.declared.Direction.{Direction}
 use Rattle.stream.specs.declared.Stream.{Stream}
-use Rattle.stream.specs.State.{isData, isOpen, isSealing, isChecking, ended, isSound}
-use Rattle.stream.specs.Calls.{ownTag}
-use Rattle.message.specs.Demands.{Choice, _when_, first, startFaults, faults, isNone}
+use Rattle.stream.specs.State.{isData, isOpen, isSealing, isChecking, ended}
+use Rattle.stream.specs.Calls.{startFaults, pieceFaults, sealFaults, finishFaults, ownTag}
+use Rattle.message.specs.Message.{faults}
+use Rattle.message.specs.Demands.{isNone}
 use Rattle.record.specs.declared.lines.Record.{Record}
 use Rattle.record.specs.Form.{held, blank, broken}
 use Rattle.record.specs.Text.{textOf}
@@ -34,14 +36,6 @@ use Rattle.letter.specs.Model.{Model, Keeps}
 
 -- ---- what is listed
 
--- state, call order, length of a piece
-abbrev pub pieceFaults : Stream → Bool → ℕ → ℕ → List (Choice Answer)
-pieceFaults s fits taken limit = BrokenState when not (isSound s) ∷ OutOfPhase when not fits ∷ PastLimit when not (leb taken limit) ∷ []
-
--- state, call order, tag of a finish
-abbrev pub finishFaults : Stream → Bool → ℕ → List (Choice Answer)
-finishFaults s fits tag = BrokenState when not (isSound s) ∷ OutOfPhase when not fits ∷ TagLength when not (eqb tag (rowOf (s .set) .key)) ∷ []
-
 -- each answer is the first whose condition holds, and `Done` where none does; `numberOf` gives its number
 pub record Listed (m : Model) : Type 0 where
   pub start : (d : Direction) (set : ℕ) (K N : List ℕ) → m .streams .start d set K N .answer ≡ first Done (startFaults set (length K) (length N))
@@ -49,9 +43,7 @@ pub record Listed (m : Model) : Type 0 where
   pub ad : (s : Stream) (piece : List ℕ)
       → m .streams .ad s piece .answer ≡ first Done (pieceFaults s (isData (s .phase)) (s .ad + length piece) dataLimit)
   pub seal-piece : (s : Stream) (piece out : List ℕ)
-      → m .streams .seal s piece out .outcome .answer
-      ≡ first Done
-      (pieceFaults s (isOpen (s .phase) && isSealing (s .direction)) (s .text + length piece) textLimit ++ NoRoom when not (leb (length piece) (length out)) ∷ [])
+      → m .streams .seal s piece out .outcome .answer ≡ first Done (sealFaults s (length piece) (length out))
   pub check : (s : Stream) (piece : List ℕ)
       → m .streams .check s piece .answer
       ≡ first Done (pieceFaults s (isOpen (s .phase) && isChecking (s .direction)) (s .text + length piece) textLimit)

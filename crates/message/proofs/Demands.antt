@@ -1,94 +1,45 @@
 -- Whole messages answer anything, and are the published cipher: the demands, from what the calls give.
 use mathlib.Core.Path.{_≡_, refl, sym, ap, _∙_}
-use mathlib.Core.Bool.{Bool, true, false, cond, not, _&&_, _||_}
+use mathlib.Core.Bool.{Bool, true, false, cond}
 use mathlib.Core.List.{List, [], _∷_, _++_}
 use mathlib.Core.Option.{Option, some, none}
 use Prim.Native.Nat.{ℕ, _≤_}
 use native.Mathlib.Omega.{arith}
-use lib.Dec.{eqb, leb, lit≤}
 use lib.ListN.{length, drop}
 use Rattle.answers.specs.declared.Answer.{Answer}
-use Rattle.answers.specs.declared.Answer.the-variants.{Done, UnknownSet, KeyLength, NonceLength, TagLength, PastLimit, NoRoom, TagDiffers}
+use Rattle.answers.specs.declared.Answer.the-variants.{Done, TagDiffers}
 use Rattle.answers.specs.Numbers.{numberOf, isDone}
+use Rattle.answers.specs.Order.{_when_, first}
 use Rattle.answers.proofs.Numbers.{done-is}
-use Rattle.ascon.specs.Sets.{isSet, rowOf, dataLimit, textLimit}
+use Rattle.answers.proofs.Order.{first-append, first-most}
+use Rattle.ascon.specs.Sets.{rowOf}
 use Rattle.ascon.specs.Mode.{zeros, Sealed, sealed, opened}
 use Rattle.ascon.specs.Rounds.{messageRounds}
 use Rattle.ascon.proofs.Sealing.{open-sealed, seal-opened}
 use Rattle.sets.proofs.Rows.{row-fits}
-use Rattle.stream.specs.Calls.{startTest}
-use Rattle.message.specs.Message.{messageTest, SealLeaves, sealLeaves, sealCall, OpenLeaves, openLeaves, judged, openCall}
-use Rattle.message.specs.Demands.{Choice, _when_, first, faults, isNone, AnswersAnything, IsPublished}
+use Rattle.message.specs.Message.{faults, messageTest, SealLeaves, sealLeaves, sealCall, OpenLeaves, openLeaves, judged, openCall}
+use Rattle.message.specs.Demands.{isNone, AnswersAnything, IsPublished}
 use Rattle.message.proofs.Tests.{message-passed}
 
--- ---- the tests are the first fault
-
--- of the tests as truth values: the tests in a chain, and the faults in a list with a last one
-abbrev chain : Bool → Bool → Bool → Bool → Bool → Bool → Bool → Answer
-chain a b c d e f g =
-    let start = cond a (cond b (cond c Done NonceLength) KeyLength) UnknownSet in
-    cond (isDone start) (cond d (cond (e && f) (cond g Done NoRoom) PastLimit) TagLength) start
-
-abbrev listed : Bool → Bool → Bool → Bool → Bool → Bool → Bool → List (Choice Answer)
-listed a b c d e f g =
-    UnknownSet when not a
-    ∷ KeyLength when not b
-    ∷ NonceLength when not c
-    ∷ TagLength when not d
-    ∷ PastLimit when (not e || not f)
-    ∷ NoRoom when not g
-    ∷ []
-
-chain-first : (a b c d e f g : Bool) → chain a b c d e f g ≡ first Done (listed a b c d e f g)
-chain-first false b c d e f g = refl
-chain-first true false c d e f g = refl
-chain-first true true false d e f g = refl
-chain-first true true true false e f g = refl
-chain-first true true true true false f g = refl
-chain-first true true true true true false g = refl
-chain-first true true true true true true false = refl
-chain-first true true true true true true true = refl
-
--- with a last fault
-chain-last : (a b c d e f g t : Bool)
-    → cond (isDone (chain a b c d e f g)) (cond t TagDiffers Done) (chain a b c d e f g) ≡ first Done (listed a b c d e f g ++ TagDiffers when t ∷ [])
-chain-last false b c d e f g t = refl
-chain-last true false c d e f g t = refl
-chain-last true true false d e f g t = refl
-chain-last true true true false e f g t = refl
-chain-last true true true true false f g t = refl
-chain-last true true true true true false g t = refl
-chain-last true true true true true true false t = refl
-chain-last true true true true true true true t = refl
-
--- the tests answer 0 to 6
-chain-small : (a b c d e f g : Bool) → numberOf (chain a b c d e f g) ≤ 6
-chain-small false b c d e f g = lit≤ tt
-chain-small true false c d e f g = lit≤ tt
-chain-small true true false d e f g = lit≤ tt
-chain-small true true true false e f g = lit≤ tt
-chain-small true true true true false f g = lit≤ tt
-chain-small true true true true true false g = lit≤ tt
-chain-small true true true true true true false = lit≤ tt
-chain-small true true true true true true true = lit≤ tt
+-- ---- the tests
 
 module _ (set key nonce tag ad text out : ℕ) where
+  -- they are their list
   pub test-first : messageTest set key nonce tag ad text out ≡ first Done (faults set key nonce tag ad text out)
-  unfolding messageTest startTest
-  test-first =
-      chain-first (isSet set) (eqb key (rowOf set .key)) (eqb nonce (rowOf set .key)) (eqb tag (rowOf set .key)) (leb ad dataLimit) (leb text textLimit) (leb text out)
+  unfolding messageTest
+  test-first = refl
 
+  -- a last choice behind them
   test-last : (t : Bool)
       → cond (isDone (messageTest set key nonce tag ad text out)) (cond t TagDiffers Done) (messageTest set key nonce tag ad text out)
       ≡ first Done (faults set key nonce tag ad text out ++ TagDiffers when t ∷ [])
-  unfolding messageTest startTest
-  test-last =
-      chain-last (isSet set) (eqb key (rowOf set .key)) (eqb nonce (rowOf set .key)) (eqb tag (rowOf set .key)) (leb ad dataLimit) (leb text textLimit) (leb text out)
+  unfolding messageTest
+  test-last t = sym (first-append (faults set key nonce tag ad text out) (TagDiffers when t ∷ []) refl)
 
+  -- they answer 0 to 6
   pub test-small : numberOf (messageTest set key nonce tag ad text out) ≤ 6
-  unfolding messageTest startTest
-  test-small =
-      chain-small (isSet set) (eqb key (rowOf set .key)) (eqb nonce (rowOf set .key)) (eqb tag (rowOf set .key)) (leb ad dataLimit) (leb text textLimit) (leb text out)
+  unfolding messageTest
+  test-small = first-most 6 (faults set key nonce tag ad text out) refl
 
 -- ---- sealing
 

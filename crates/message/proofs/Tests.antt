@@ -1,33 +1,36 @@
--- What the passed tests of a message say.
-use mathlib.Core.Path.{_≡_, refl, sym, _∙_}
-use mathlib.Core.Bool.{Bool, true, false, cond, _&&_, false≢true}
+-- What the tests of a message say.
+use mathlib.Core.Path.{_≡_, refl}
+use mathlib.Core.Bool.{Bool, true, false, cond, not, _||_, true≢false}
+use mathlib.Core.List.{List}
 use Prim.Native.Nat.{ℕ, _≤_}
 use lib.Dec.{eqb, leb}
-use borrow.Author.Tests.{eqb-true, leb-true}
+use lib.ListN.{drop}
+use borrow.Author.Tests.{eqb-true, leb-true, not-false}
 use Rattle.answers.specs.declared.Answer.{Answer}
-use Rattle.answers.specs.declared.Answer.the-variants.{Done, TagLength, PastLimit, NoRoom}
+use Rattle.answers.specs.declared.Answer.the-variants.{Done}
 use Rattle.answers.specs.Numbers.{isDone}
+use Rattle.answers.specs.Order.{Choice, first}
+use Rattle.answers.proofs.Order.{none-holds, first-append}
 use Rattle.ascon.specs.Sets.{rowOf, dataLimit, textLimit}
-use Rattle.stream.specs.Calls.{startTest}
-use Rattle.stream.proofs.Tests.{start-passed}
-use Rattle.message.specs.Message.{messageTest}
+use Rattle.stream.specs.Calls.{startFaults, startTest}
+use Rattle.message.specs.Message.{faults, messageTest}
 
--- a test, and those behind it
-both-passed : (b : Bool) (next other : Answer) → isDone other ≡ false → isDone (cond b next other) ≡ true → (b ≡ true) × (isDone next ≡ true)
-both-passed true next other h e = (refl, e)
-both-passed false next other h e = absurd (false≢true (sym h ∙ e))
+-- those behind the tests of a start
+abbrev laterFaults : ℕ → ℕ → ℕ → ℕ → ℕ → List (Choice Answer)
+laterFaults set tag ad text out = drop 3 (faults set 0 0 tag ad text out)
 
--- an answer that may be done, and the tests behind it
-start-done : (start next : Answer) → isDone (cond (isDone start) next start) ≡ true → (isDone start ≡ true) × (isDone next ≡ true)
-start-done start next = go (isDone start) refl
-  where
-    go : (b : Bool) → isDone start ≡ b → isDone (cond b next start) ≡ true → (isDone start ≡ true) × (isDone next ≡ true)
-    go true e h = (e, h)
-    go false e h = absurd (false≢true (sym e ∙ h))
+-- the tests of a start come first
+pub start-first : (set key nonce tag ad text out : ℕ)
+    → messageTest set key nonce tag ad text out
+    ≡ cond (isDone (startTest set key nonce)) (first Done (laterFaults set tag ad text out)) (startTest set key nonce)
+unfolding startTest messageTest
+start-first set key nonce tag ad text out = first-append (startFaults set key nonce) (laterFaults set tag ad text out) refl
 
-and-both : (a b : Bool) → (a && b) ≡ true → (a ≡ true) × (b ≡ true)
-and-both true b e = (refl, e)
-and-both false b e = absurd (false≢true e)
+-- neither fails
+both-passed : (a b : Bool) → (not a || not b) ≡ false → (a ≡ true) × (b ≡ true)
+both-passed true true e = (refl, refl)
+both-passed true false e = absurd (true≢false e)
+both-passed false b e = absurd (true≢false e)
 
 pub record MessagePassed (set key nonce tag ad text out : ℕ) : Type 0 where
   pub key-fits : key ≡ rowOf set .key
@@ -41,17 +44,14 @@ pub message-passed : (set key nonce tag ad text out : ℕ) → isDone (messageTe
     → MessagePassed set key nonce tag ad text out
 unfolding messageTest
 message-passed set key nonce tag ad text out e =
-    let first = start-done (startTest set key nonce) _ e in
-    let start = start-passed set key nonce (first .0) in
-    let tags = both-passed (eqb tag (rowOf set .key)) _ TagLength refl (first .1) in
-    let limits = both-passed (leb ad dataLimit && leb text textLimit) _ PastLimit refl (tags .1) in
-    let within = and-both (leb ad dataLimit) (leb text textLimit) (limits .0) in
-    let room = both-passed (leb text out) Done NoRoom refl (limits .1) in
+    let h = none-holds (faults set key nonce tag ad text out) refl e in
+    let behind = h .1 .1 .1 in
+    let within = both-passed (leb ad dataLimit) (leb text textLimit) (behind .1 .0) in
     record {
-      key-fits = start .key-fits;
-      nonce-fits = start .nonce-fits;
-      tag-fits = eqb-true tag (rowOf set .key) (tags .0);
+      key-fits = eqb-true key (rowOf set .key) (not-false (eqb key (rowOf set .key)) (h .1 .0));
+      nonce-fits = eqb-true nonce (rowOf set .key) (not-false (eqb nonce (rowOf set .key)) (h .1 .1 .0));
+      tag-fits = eqb-true tag (rowOf set .key) (not-false (eqb tag (rowOf set .key)) (behind .0));
       ad-within = leb-true ad dataLimit (within .0);
       text-within = leb-true text textLimit (within .1);
-      room = leb-true text out (room .0);
+      room = leb-true text out (not-false (leb text out) (behind .1 .1 .0));
     }

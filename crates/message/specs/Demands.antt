@@ -1,49 +1,21 @@
 -- What is demanded of whole messages, as it was asked: an answer to anything, and the published cipher.
-use mathlib.Core.Bool.{Bool, true, false, cond, not, _||_}
+use mathlib.Core.Bool.{Bool, true, false}
 use mathlib.Core.List.{List, [], _∷_, _++_}
 use mathlib.Core.Logic.{_↔_}
 use mathlib.Core.Option.{Option, some, none}
 use mathlib.Core.Path.{_≡_}
 use Prim.Native.Nat.{ℕ}
-use lib.Dec.{eqb, leb}
 use lib.ListN.{length, drop}
 use Rattle.answers.specs.declared.Answer.{Answer}
-use Rattle.answers.specs.declared.Answer.the-variants.{Done, UnknownSet, KeyLength, NonceLength, TagLength, PastLimit, NoRoom, TagDiffers}
+use Rattle.answers.specs.declared.Answer.the-variants.{Done, TagDiffers}
 use Rattle.answers.specs.Numbers.{isDone}
-use Rattle.ascon.specs.Sets.{isSet, rowOf, dataLimit, textLimit}
+use Rattle.answers.specs.Order.{_when_, first}
+use Rattle.ascon.specs.Sets.{rowOf}
 use Rattle.ascon.specs.Mode.{zeros, sealed, opened}
 use Rattle.ascon.specs.Rounds.{messageRounds}
-use Rattle.message.specs.Message.{sealLeaves, sealCall, openLeaves, openCall}
+use Rattle.message.specs.Message.{faults, sealLeaves, sealCall, openLeaves, openCall}
 
-infix 80 _when_
 -- ---- an answer to anything
-
--- a choice, and when it is made
-pub record Choice (X : Type 0) : Type 0 where
-  pub choice : X
-  pub holds : Bool
-
-abbrev pub _when_ : {X : Type 0} → X → Bool → Choice X
-x when holds = record { choice = x; holds = holds }
-
--- the first that holds; the other where none does
-abbrev pub first : {X : Type 0} → X → List (Choice X) → X
-first other [] = other
-first other (c ∷ cs) = cond (c .holds) (c .choice) (first other cs)
-
--- 1 to 3, of lengths
-abbrev pub startFaults : ℕ → ℕ → ℕ → List (Choice Answer)
-startFaults set key nonce =
-    UnknownSet when not (isSet set) ∷ KeyLength when not (eqb key (rowOf set .key)) ∷ NonceLength when not (eqb nonce (rowOf set .key)) ∷ []
-
--- 1 to 6, of lengths
-abbrev pub faults : ℕ → ℕ → ℕ → ℕ → ℕ → ℕ → ℕ → List (Choice Answer)
-faults set key nonce tag ad text out =
-    startFaults set key nonce
-    ++ TagLength when not (eqb tag (rowOf set .key))
-    ∷ PastLimit when (not (leb ad dataLimit) || not (leb text textLimit))
-    ∷ NoRoom when not (leb text out)
-    ∷ []
 
 -- nothing was opened
 abbrev pub isNone : Option (List ℕ) → Bool

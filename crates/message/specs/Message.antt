@@ -1,6 +1,6 @@
 -- What sealing and opening a whole message answer: the tests in their order, the rounds, and what each lent place then holds.
-use mathlib.Core.Bool.{cond, _&&_}
-use mathlib.Core.List.{List, _++_}
+use mathlib.Core.Bool.{cond, not, _||_}
+use mathlib.Core.List.{List, [], _∷_, _++_}
 use mathlib.Core.Option.{Option, some, none}
 use Prim.Native.Nat.{ℕ}
 use lib.Dec.{eqb, leb}
@@ -8,23 +8,28 @@ use lib.ListN.{length, drop}
 use Rattle.answers.specs.declared.Answer.{Answer}
 use Rattle.answers.specs.declared.Answer.the-variants.{Done, TagLength, PastLimit, NoRoom, TagDiffers}
 use Rattle.answers.specs.Numbers.{isDone}
+use Rattle.answers.specs.Order.{Choice, _when_, first}
 use Rattle.ascon.specs.Sets.{ParameterSet, rowOf, dataLimit, textLimit}
 use Rattle.ascon.specs.Mode.{zeros, Processed, encrypted, decrypted, sealed, opened}
 use Rattle.ascon.specs.Rounds.{messageRounds}
 use Rattle.sponge.specs.declared.Way.{Way}
 use Rattle.sponge.specs.declared.Way.the-variants.{Seal, Open}
-use Rattle.stream.specs.Calls.{startTest}
+use Rattle.stream.specs.Calls.{startFaults}
 use Rattle.message.specs.declared.Outcome.{Outcome}
 
--- ---- the tests
+-- ---- the tests, in their order
 
 -- of lengths: 1, 2, 3 as a start has them, then 4, 5, 6
+abbrev pub faults : ℕ → ℕ → ℕ → ℕ → ℕ → ℕ → ℕ → List (Choice Answer)
+faults set key nonce tag ad text out =
+    startFaults set key nonce
+    ++ TagLength when not (eqb tag (rowOf set .key))
+    ∷ PastLimit when (not (leb ad dataLimit) || not (leb text textLimit))
+    ∷ NoRoom when not (leb text out)
+    ∷ []
+
 unfoldable pub messageTest : ℕ → ℕ → ℕ → ℕ → ℕ → ℕ → ℕ → Answer
-messageTest set key nonce tag ad text out =
-    let start = startTest set key nonce in
-    cond (isDone start)
-    (cond (eqb tag (rowOf set .key)) (cond (leb ad dataLimit && leb text textLimit) (cond (leb text out) Done NoRoom) PastLimit) TagLength)
-    start
+messageTest set key nonce tag ad text out = first Done (faults set key nonce tag ad text out)
 
 -- ---- sealing
 

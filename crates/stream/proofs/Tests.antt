@@ -1,7 +1,7 @@
 -- What the tests say, one byte at a time, and the bound of a round count.
-use mathlib.Core.Path.{_≡_, refl, sym, _∙_}
-use mathlib.Core.Bool.{Bool, true, false, cond, _&&_, false≢true}
-use mathlib.Core.List.{List}
+use mathlib.Core.Path.{_≡_, refl}
+use mathlib.Core.Bool.{Bool, true, false, cond, not, _&&_}
+use mathlib.Core.List.{List, [], _∷_}
 use Prim.Native.Nat.{ℕ, _+_, _-_, _*_, _/_, _≤_, _<_}
 use native.Mathlib.Nat.{le-trans, le-div-iff-mul-le, div-mul-le-self, mul-le-mul-right, div-le-self}
 use native.Mathlib.Numerals.{add-one}
@@ -9,15 +9,16 @@ use native.Mathlib.Omega.{arith}
 use lib.Dec.{eqb, leb, lit≤}
 use lib.ListN.{length, getD, drop}
 use lib.Seq.{drop-cons}
-use borrow.Author.Tests.{eqb-true, leb-true}
-use Rattle.answers.specs.declared.Answer.{Answer}
-use Rattle.answers.specs.declared.Answer.the-variants.{Done, UnknownSet, KeyLength, NonceLength, TagLength, PastLimit, OutOfPhase, BrokenState}
+use borrow.Author.Tests.{eqb-true, leb-true, not-false}
+use Rattle.answers.specs.declared.Answer.the-variants.{Done, NoRoom}
 use Rattle.answers.specs.Numbers.{isDone}
+use Rattle.answers.specs.Order.{_when_}
+use Rattle.answers.proofs.Order.{none-holds, first-append}
 use Rattle.permutation.specs.Runs.{roundsOf}
-use Rattle.ascon.specs.Sets.{ParameterSet, isSet, rowOf}
+use Rattle.ascon.specs.Sets.{ParameterSet, isSet, rowOf, textLimit}
 use Rattle.sets.proofs.Rows.{Sizes, row-sizes}
-use Rattle.stream.specs.State.{allZero, isData, isSound}
-use Rattle.stream.specs.Calls.{filledRounds, closingRounds, startTest, pieceTest, finishTest}
+use Rattle.stream.specs.State.{allZero, isData, isOpen, isSealing, isSound}
+use Rattle.stream.specs.Calls.{filledRounds, closingRounds, startFaults, startTest, pieceFaults, pieceTest, sealTest, finishFaults, finishTest}
 use Rattle.stream.specs.declared.Stream.{Stream}
 
 -- the element at i, and the rest
@@ -48,14 +49,6 @@ closing-bound s = go (isData (s .phase)) (eqb (s .ad) 0)
 
 -- ---- what passed tests say
 
--- three tests, each with its refusal
-three : (a b c : Bool) (x y z : Answer) → isDone x ≡ false → isDone y ≡ false → isDone z ≡ false
-    → isDone (cond a (cond b (cond c Done z) y) x) ≡ true → (a ≡ true) × (b ≡ true) × (c ≡ true)
-three true true true x y z p q r e = (refl, refl, refl)
-three true true false x y z p q r e = absurd (false≢true (sym r ∙ e))
-three true false c x y z p q r e = absurd (false≢true (sym q ∙ e))
-three false b c x y z p q r e = absurd (false≢true (sym p ∙ e))
-
 pub record StartPassed (set key nonce : ℕ) : Type 0 where
   pub known : isSet set ≡ true
   pub key-fits : key ≡ rowOf set .key
@@ -64,8 +57,12 @@ pub record StartPassed (set key nonce : ℕ) : Type 0 where
 pub start-passed : (set key nonce : ℕ) → isDone (startTest set key nonce) ≡ true → StartPassed set key nonce
 unfolding startTest
 start-passed set key nonce e =
-    let h = three (isSet set) (eqb key (rowOf set .key)) (eqb nonce (rowOf set .key)) UnknownSet KeyLength NonceLength refl refl refl e in
-    record { known = h .0; key-fits = eqb-true key (rowOf set .key) (h .1); nonce-fits = eqb-true nonce (rowOf set .key) (h .2) }
+    let h = none-holds (startFaults set key nonce) refl e in
+    record {
+      known = not-false (isSet set) (h .0);
+      key-fits = eqb-true key (rowOf set .key) (not-false (eqb key (rowOf set .key)) (h .1 .0));
+      nonce-fits = eqb-true nonce (rowOf set .key) (not-false (eqb nonce (rowOf set .key)) (h .1 .1 .0));
+    }
 
 pub record PiecePassed (s : Stream) (fits : Bool) (count n limit : ℕ) : Type 0 where
   pub sound : isSound s ≡ true
@@ -75,8 +72,19 @@ pub record PiecePassed (s : Stream) (fits : Bool) (count n limit : ℕ) : Type 0
 pub piece-passed : (s : Stream) (fits : Bool) (count n limit : ℕ) → isDone (pieceTest s fits count n limit) ≡ true → PiecePassed s fits count n limit
 unfolding pieceTest
 piece-passed s fits count n limit e =
-    let h = three (isSound s) fits (leb (count + n) limit) BrokenState OutOfPhase PastLimit refl refl refl e in
-    record { sound = h .0; fit = h .1; within = leb-true (count + n) limit (h .2) }
+    let h = none-holds (pieceFaults s fits (count + n) limit) refl e in
+    record {
+      sound = not-false (isSound s) (h .0);
+      fit = not-false fits (h .1 .0);
+      within = leb-true (count + n) limit (not-false (leb (count + n) limit) (h .1 .1 .0));
+    }
+
+-- the room is tested behind the tests of a piece
+pub seal-test : (s : Stream) (n room : ℕ) → let answer = pieceTest s (isOpen (s .phase) && isSealing (s .direction)) (s .text) n textLimit in
+    sealTest s n room ≡ cond (isDone answer) (cond (not (leb n room)) NoRoom Done) answer
+unfolding pieceTest sealTest
+seal-test s n room =
+    first-append (pieceFaults s (isOpen (s .phase) && isSealing (s .direction)) (s .text + n) textLimit) (NoRoom when not (leb n room) ∷ []) refl
 
 pub record FinishPassed (s : Stream) (fits : Bool) (n : ℕ) : Type 0 where
   pub sound : isSound s ≡ true
@@ -86,5 +94,9 @@ pub record FinishPassed (s : Stream) (fits : Bool) (n : ℕ) : Type 0 where
 pub finish-passed : (s : Stream) (fits : Bool) (n : ℕ) → isDone (finishTest s fits n) ≡ true → FinishPassed s fits n
 unfolding finishTest
 finish-passed s fits n e =
-    let h = three (isSound s) fits (eqb n (rowOf (s .set) .key)) BrokenState OutOfPhase TagLength refl refl refl e in
-    record { sound = h .0; fit = h .1; tag-fits = eqb-true n (rowOf (s .set) .key) (h .2) }
+    let h = none-holds (finishFaults s fits n) refl e in
+    record {
+      sound = not-false (isSound s) (h .0);
+      fit = not-false fits (h .1 .0);
+      tag-fits = eqb-true n (rowOf (s .set) .key) (not-false (eqb n (rowOf (s .set) .key)) (h .1 .1 .0));
+    }

@@ -1,12 +1,13 @@
 -- What each call answers: the tests in their order, the rounds, the next state, and what each lent place then holds.
-use mathlib.Core.Bool.{Bool, cond, _&&_}
-use mathlib.Core.List.{List, _++_}
+use mathlib.Core.Bool.{Bool, cond, not, _&&_}
+use mathlib.Core.List.{List, [], _∷_, _++_}
 use Prim.Native.Nat.{ℕ, _+_, _-_, _*_, _/_, _%_}
 use lib.Dec.{eqb, leb}
 use lib.ListN.{length, drop}
 use Rattle.answers.specs.declared.Answer.{Answer}
 use Rattle.answers.specs.declared.Answer.the-variants.{Done, UnknownSet, KeyLength, NonceLength, TagLength, PastLimit, NoRoom, OutOfPhase, BrokenState, TagDiffers}
 use Rattle.answers.specs.Numbers.{isDone}
+use Rattle.answers.specs.Order.{Choice, _when_, first}
 use Rattle.permutation.specs.Runs.{roundsOf}
 use Rattle.permutation.specs.Strings.{wordsOfString}
 use Rattle.ascon.specs.Sets.{ParameterSet, isSet, rowOf, dataLimit, textLimit}
@@ -29,20 +30,36 @@ refused answer s = record { answer = answer; rounds = 0; next = s }
 abbrev pub decided : Answer → Stream → Outcome → Outcome
 decided answer s done = cond (isDone answer) done (refused answer s)
 
--- ---- the tests
+-- ---- the tests, in their order
 
--- a start: 1, 2, 3
+-- a start, of lengths: 1, 2, 3
+abbrev pub startFaults : ℕ → ℕ → ℕ → List (Choice Answer)
+startFaults set key nonce =
+    UnknownSet when not (isSet set) ∷ KeyLength when not (eqb key (rowOf set .key)) ∷ NonceLength when not (eqb nonce (rowOf set .key)) ∷ []
+
 unfoldable pub startTest : ℕ → ℕ → ℕ → Answer
-startTest set key nonce =
-    cond (isSet set) (cond (eqb key (rowOf set .key)) (cond (eqb nonce (rowOf set .key)) Done NonceLength) KeyLength) UnknownSet
+startTest set key nonce = first Done (startFaults set key nonce)
 
--- a piece of n bytes after `count`: 8, 7, 5
+-- a piece, with so many bytes taken then: 8, 7, 5
+abbrev pub pieceFaults : Stream → Bool → ℕ → ℕ → List (Choice Answer)
+pieceFaults s fits taken limit = BrokenState when not (isSound s) ∷ OutOfPhase when not fits ∷ PastLimit when not (leb taken limit) ∷ []
+
 unfoldable pub pieceTest : Stream → Bool → ℕ → ℕ → ℕ → Answer
-pieceTest s fits count n limit = cond (isSound s) (cond fits (cond (leb (count + n) limit) Done PastLimit) OutOfPhase) BrokenState
+pieceTest s fits count n limit = first Done (pieceFaults s fits (count + n) limit)
+
+-- a piece of n bytes that is sealed into so much room: 6 behind those
+abbrev pub sealFaults : Stream → ℕ → ℕ → List (Choice Answer)
+sealFaults s n room = pieceFaults s (isOpen (s .phase) && isSealing (s .direction)) (s .text + n) textLimit ++ NoRoom when not (leb n room) ∷ []
+
+unfoldable pub sealTest : Stream → ℕ → ℕ → Answer
+sealTest s n room = first Done (sealFaults s n room)
 
 -- a finish with a tag of n bytes: 8, 7, 4
+abbrev pub finishFaults : Stream → Bool → ℕ → List (Choice Answer)
+finishFaults s fits n = BrokenState when not (isSound s) ∷ OutOfPhase when not fits ∷ TagLength when not (eqb n (rowOf (s .set) .key)) ∷ []
+
 unfoldable pub finishTest : Stream → Bool → ℕ → Answer
-finishTest s fits n = cond (isSound s) (cond fits (cond (eqb n (rowOf (s .set) .key)) Done TagLength) OutOfPhase) BrokenState
+finishTest s fits n = first Done (finishFaults s fits n)
 
 -- ---- the rounds
 
@@ -129,16 +146,14 @@ pub record Called : Type 0 where
 abbrev pub called : Outcome → List ℕ → Called
 called outcome lent = record { outcome = outcome; lent = lent }
 
--- a piece of text, sealed: 6 after the tests of a piece; bytes of `out` beyond the piece stay
+-- a piece of text, sealed; bytes of `out` beyond the piece stay
 unfoldable pub sealCall : Stream → List ℕ → List ℕ → Called
 sealCall s piece out =
     let row = rowOf (s .set) in
     let n = length piece in
-    let answer = pieceTest s (isOpen (s .phase) && isSealing (s .direction)) (s .text) n textLimit in
+    let answer = sealTest s n (length out) in
     cond (isDone answer)
-    (cond (leb n (length out))
     (called (tookText s (absorbed row Seal (textWords s) (s .text) piece) n) (given row Seal (textWords s) (s .text) piece ++ drop n out))
-    (called (refused NoRoom s) out))
     (called (refused answer s) out)
 
 -- a piece of ciphertext, checked

@@ -8,7 +8,7 @@ use borrow.Author.Tests.{not-true, not-false, eq-eqb, ne-eqb, lt-leb, le-leb}
 use Rattle.answers.specs.Numbers.{isDone}
 use Rattle.ascon.specs.Sets.{rowOf}
 use Rattle.stream.specs.Calls.{startTest}
-use Rattle.message.specs.Message.{messageTest}
+use Rattle.message.proofs.Tests.{start-first}
 use Rattle.message.proofs.message_test.Statement.{statement}
 use Rattle.message.proofs.message_test.Tie as tie
 
@@ -19,8 +19,9 @@ is-done-requires : tie.Need-is-done-requires
 is-done-requires c κs = search needs
 
 returns : tie.Need-returns
-unfolding messageTest
-returns c = rw (← c .before .before .start-test .ensures, sym (c .before .is-done .ensures) ∙ not-true _ (c .if1 .taken))
+returns c =
+    let a = c .before .before .before .args in
+    rw (start-first (a .set) (a .key) (a .nonce) (a .tag) (a .ad) (a .text) (a .out), ← c .before .before .start-test .ensures, sym (c .before .is-done .ensures) ∙ not-true _ (c .if1 .taken))
 
 -- the tests of a start are passed
 started : (c : tie.Else1) → let a = c .before .before .before .args in isDone (startTest (a .set) (a .key) (a .nonce)) ≡ true
@@ -30,10 +31,9 @@ key-length-requires : tie.Need-key-length-requires
 key-length-requires c κs = search needs
 
 returns-2 : tie.Need-returns-2
-unfolding messageTest
 returns-2 c =
     let a = c .before .before .before .before .before .args in
-    rw (started (c .before .before), ne-eqb (a .tag) (rowOf (a .set) .key) (λ e. omega (arith, c .before .key-length .ensures, c .if2 .taken)))
+    rw (start-first (a .set) (a .key) (a .nonce) (a .tag) (a .ad) (a .text) (a .out), started (c .before .before), ne-eqb (a .tag) (rowOf (a .set) .key) (λ e. omega (arith, c .before .key-length .ensures, c .if2 .taken)))
 
 -- the tag's length is passed
 tagged : (c : tie.Else2) → let a = c .before .before .before .before .before .args in eqb (a .tag) (rowOf (a .set) .key) ≡ true
@@ -42,31 +42,28 @@ tagged c =
     eq-eqb (a .tag) (rowOf (a .set) .key) (omega (arith, c .before .key-length .ensures, c .if2 .left))
 
 returns-3 : tie.Need-returns-3
-unfolding messageTest
 returns-3 c =
-    let a = c .before .before .before .before .before .before .args in rw (started (c .before .before .before), tagged (c .before), lt-leb (a .ad) 65_536 (omega arith))
+    let a = c .before .before .before .before .before .before .args in
+    rw (start-first (a .set) (a .key) (a .nonce) (a .tag) (a .ad) (a .text) (a .out), started (c .before .before .before), tagged (c .before), lt-leb (a .ad) 65_536 (omega arith))
 
 returns-4 : tie.Need-returns-4
-unfolding messageTest
 returns-4 c =
     let a = c .before .before .before .before .before .before .before .args in
-    rw (started (c .before .before .before .before), tagged (c .before .before), le-leb (a .ad) 65_536 (omega arith), lt-leb (a .text) 1_048_576 (omega arith))
+    rw (start-first (a .set) (a .key) (a .nonce) (a .tag) (a .ad) (a .text) (a .out), started (c .before .before .before .before), tagged (c .before .before), le-leb (a .ad) 65_536 (omega arith), lt-leb (a .text) 1_048_576 (omega arith))
 
 -- the limits are passed
 limited : (c : tie.Else4) → let a = c .before .before .before .before .before .before .before .args in (leb (a .ad) 65_536 ≡ true) × (leb (a .text) 1_048_576 ≡ true)
 limited c = let a = c .before .before .before .before .before .before .before .args in (le-leb (a .ad) 65_536 (omega arith), le-leb (a .text) 1_048_576 (omega arith))
 
 returns-5 : tie.Need-returns-5
-unfolding messageTest
 returns-5 c =
     let a = c .before .before .before .before .before .before .before .before .args in
-    rw (started (c .before .before .before .before .before), tagged (c .before .before .before), limited (c .before) .0, limited (c .before) .1, lt-leb (a .text) (a .out) (omega arith))
+    rw (start-first (a .set) (a .key) (a .nonce) (a .tag) (a .ad) (a .text) (a .out), started (c .before .before .before .before .before), tagged (c .before .before .before), limited (c .before) .0, limited (c .before) .1, lt-leb (a .text) (a .out) (omega arith))
 
 returns-6 : tie.Need-returns-6
-unfolding messageTest
 returns-6 c =
     let a = c .before .before .before .before .before .before .before .before .args in
-    rw (started (c .before .before .before .before .before), tagged (c .before .before .before), limited (c .before) .0, limited (c .before) .1, le-leb (a .text) (a .out) (omega arith))
+    rw (start-first (a .set) (a .key) (a .nonce) (a .tag) (a .ad) (a .text) (a .out), started (c .before .before .before .before .before), tagged (c .before .before .before), limited (c .before) .0, limited (c .before) .1, le-leb (a .text) (a .out) (omega arith))
 
 pub message-test-spec : {M : Type 1} → statement M
 message-test-spec =

@@ -15,7 +15,7 @@ use Rattle.sponge.specs.Sponge.{absorbed, given, Crypted, crypted, cryptedOf}
 use Rattle.stream.specs.declared.Outcome.{Outcome}
 use Rattle.stream.specs.State.{isOpen, isSealing}
 use Rattle.stream.specs.Calls.{pieceTest, textWords, tookText, called, sealCall}
-use Rattle.stream.proofs.Tests.{PiecePassed, piece-passed}
+use Rattle.stream.proofs.Tests.{seal-test, PiecePassed, piece-passed}
 use borrow.Author.Needs.{needs}
 use Rattle.stream.proofs.Stream.seal.Statement.{statement}
 use Rattle.stream.proofs.Stream.seal.Tie as tie
@@ -51,8 +51,10 @@ returns : tie.Need-returns
 unfolding sealCall
 returns c =
     let b = c .before .before in
-    let out = now (b .before .before .before .before .before .before .before .args .out) in
-    rw (← tested (b .before), sym (b .is-done .ensures) ∙ not-true _ (c .before .if1 .taken)) (ap (λ (r : Outcome). called r out) (c .refusal .ensures))
+    let a = b .before .before .before .before .before .before .before .args in
+    let out = now (a .out) in
+    let refused = sym (b .is-done .ensures) ∙ not-true _ (c .before .if1 .taken) in
+    rw (seal-test (a .self) (length (now (a .piece))) (length out), ← tested (b .before), refused, refused) (ap (λ (r : Outcome). called r out) (c .refusal .ensures))
 
 -- what the passed tests say
 passed : (c : tie.Else1) → let a = c .before .before .before .before .before .before .before .before .args in
@@ -69,8 +71,9 @@ returns-2 : tie.Need-returns-2
 unfolding sealCall
 returns-2 c =
     let e = c .before .before in
-    let out = now (e .before .before .before .before .before .before .before .before .args .out) in
-    rw (← tested (e .before .before), sym (e .before .is-done .ensures) ∙ not-false _ (e .if1 .left), lt-leb _ _ (c .before .if2 .taken))
+    let a = e .before .before .before .before .before .before .before .before .args in
+    let out = now (a .out) in
+    rw (seal-test (a .self) (length (now (a .piece))) (length out), ← tested (e .before .before), sym (e .before .is-done .ensures) ∙ not-false _ (e .if1 .left), lt-leb _ _ (c .before .if2 .taken))
     (ap (λ (r : Outcome). called r out) (c .refusal2 .ensures))
 
 text-words-requires : tie.Need-text-words-requires
@@ -100,7 +103,7 @@ returns-3 c =
     c .before .before .before .crypt .ensures
     ∙ ap (λ (w : List ℕ). cryptedOf row Seal w (s .text) piece out) (c .before .before .before .before .before .text-words .ensures)
     ∙ rw room in
-    rw (← tested (e .before .before), sym (e .before .is-done .ensures) ∙ not-false _ (e .if1 .left), room)
+    rw (seal-test s (length piece) (length out), ← tested (e .before .before), sym (e .before .is-done .ensures) ∙ not-false _ (e .if1 .left), room)
     (λ j. called ((c .took-text .ensures ∙ ap (λ (x : Crypted). tookText s (x .words) (length piece)) done) j) (done j .out))
 
 pub seal-spec : {M : Type 1} → statement M
