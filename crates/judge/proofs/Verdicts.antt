@@ -1,7 +1,7 @@
 -- The verdict is equal exactly where rounds, cipher and tag agree, and unread exactly where a text can not be read.
 use mathlib.Core.Path.{_≡_, refl, ap}
-use mathlib.Core.Bool.{Bool, true, false, cond}
-use mathlib.Core.List.{List}
+use mathlib.Core.Bool.{Bool, true, false, not}
+use mathlib.Core.List.{List, [], _∷_}
 use mathlib.Core.Logic.{_⊎_, inl, inr}
 use Prim.Native.Nat.{ℕ, _≤_, _<_, _^_}
 use native.Mathlib.Omega.{arith}
@@ -10,6 +10,7 @@ use lib.ListN.{length}
 use borrow.Author.Tests.{eqb-true, eq-eqb}
 use Rattle.answers.specs.declared.Answer.the-variants.{Done, BrokenRecord}
 use Rattle.answers.specs.Numbers.{isDone}
+use Rattle.answers.specs.Order.{_when_, first}
 use Rattle.record.specs.declared.lines.Record.{Record}
 use Rattle.record.specs.declared.reading.Reading.{Reading}
 use Rattle.record.specs.Calls.{refusedAt, readCall}
@@ -19,20 +20,20 @@ use Rattle.report.specs.declared.Verdict.the-variants.{Equal, Rounds, Cipher, T
 use Rattle.report.specs.Reports.{reportText}
 use Rattle.report.proofs.Lengths.{report-most}
 use Rattle.judge.specs.Tail.{agree}
-use Rattle.judge.specs.Verdicts.{sealing, rounds, compared, verdictOn}
+use Rattle.judge.specs.Verdicts.{sealing, rounds, verdictOn}
 use Rattle.judge.specs.Steps.{verdictRead}
 use Rattle.judge.specs.Laws.{Agrees}
 use Rattle.judge.proofs.Tails.{agree-no-tail}
 
 -- where the verdict is equal, all three agree
 pub equal-agrees : (r : Record) → verdictOn r ≡ Equal → Agrees r
-unfolding verdictOn compared
+unfolding verdictOn
 equal-agrees r =
     go (eqb (broken r) 0) (eqb (r .rounds) (rounds r)) (agree (sealing r .cipher) (held (r .cipher))) (agree (sealing r .tag) (held (r .tag))) refl refl refl refl
   where
     go : (s t u v : Bool) → eqb (broken r) 0 ≡ s → eqb (r .rounds) (rounds r) ≡ t
         → agree (sealing r .cipher) (held (r .cipher)) ≡ u → agree (sealing r .tag) (held (r .tag)) ≡ v
-        → cond s (cond t (cond u (cond v Equal Tag) Cipher) Rounds) (Unread (broken r)) ≡ Equal → Agrees r
+        → first Equal (Unread (broken r) when not s ∷ Rounds when not t ∷ Cipher when not u ∷ Tag when not v ∷ []) ≡ Equal → Agrees r
     go true true true true f g h k e =
         record {
           in-form = eqb-true (broken r) 0 f;
@@ -47,15 +48,16 @@ equal-agrees r =
 
 -- where all three agree, the verdict is equal
 pub agrees-equal : (r : Record) → Agrees r → verdictOn r ≡ Equal
-unfolding verdictOn compared
+unfolding verdictOn
 agrees-equal r a = rw (a .in-form, eq-eqb (r .rounds) (rounds r) (a .rounds-agree), a .cipher-agrees, a .tag-agrees)
 
 -- a record in form is not unread
-compared-read : (r : Record) (line : ℕ) → compared r ≡ Unread line → ⊥
-unfolding compared
-compared-read r line = go (eqb (r .rounds) (rounds r)) (agree (sealing r .cipher) (held (r .cipher))) (agree (sealing r .tag) (held (r .tag)))
+in-form-read : (r : Record) (line : ℕ) → broken r ≡ 0 → verdictOn r ≡ Unread line → ⊥
+unfolding verdictOn
+in-form-read r line sound e =
+    go (eqb (r .rounds) (rounds r)) (agree (sealing r .cipher) (held (r .cipher))) (agree (sealing r .tag) (held (r .tag))) (rw sound at e)
   where
-    go : (t u v : Bool) → cond t (cond u (cond v Equal Tag) Cipher) Rounds ≡ Unread line → ⊥
+    go : (t u v : Bool) → first Equal (Rounds when not t ∷ Cipher when not u ∷ Tag when not v ∷ []) ≡ Unread line → ⊥
     go true true true e = let z : _≡_ {A = ℕ} 0 1 = cc in omega arith
     go true true false e = let z : _≡_ {A = ℕ} 0 1 = cc in omega arith
     go true false v e = let z : _≡_ {A = ℕ} 0 1 = cc in omega arith
@@ -63,8 +65,8 @@ compared-read r line = go (eqb (r .rounds) (rounds r)) (agree (sealing r .cipher
 
 -- a text that is read is not unread
 pub read-verdict : (text : List ℕ) (line : ℕ) → readCall text .answer ≡ Done → verdictRead (readCall text) ≡ Unread line → ⊥
-unfolding verdictRead verdictOn
-read-verdict text line d e = compared-read (readCall text .content) line (rw (d, reads-and-writes .read-in-form text d .0) at e)
+unfolding verdictRead
+read-verdict text line d e = in-form-read (readCall text .content) line (reads-and-writes .read-in-form text d .0) (rw d at e)
 
 -- a text that is not is unread at its line
 pub unread-verdict : (text : List ℕ) → isDone (readCall text .answer) ≡ false → verdictRead (readCall text) ≡ Unread (readCall text .line)

@@ -1,9 +1,10 @@
 -- The verdict on a record: our own sealing against what the record says.
-use mathlib.Core.Bool.{cond}
-use mathlib.Core.List.{List}
+use mathlib.Core.Bool.{not}
+use mathlib.Core.List.{List, [], _∷_}
 use Prim.Native.Nat.{ℕ}
 use lib.Dec.{eqb}
 use lib.ListN.{length}
+use Rattle.answers.specs.Order.{Choice, _when_, first}
 use Rattle.ascon.specs.Sets.{rowOf}
 use Rattle.ascon.specs.Mode.{Sealed, sealed}
 use Rattle.ascon.specs.Rounds.{messageRounds}
@@ -22,16 +23,18 @@ sealing r = sealed (rowOf (r .set)) (held (r .key)) (held (r .nonce)) (held (r .
 unfoldable pub rounds : Record → ℕ
 rounds r = messageRounds (rowOf (r .set)) (length (held (r .ad))) (length (held (r .text)))
 
--- rounds, then cipher, then tag
-unfoldable pub compared : Record → Verdict
-compared r =
-    cond (eqb (r .rounds) (rounds r))
-    (cond (agree (sealing r .cipher) (held (r .cipher))) (cond (agree (sealing r .tag) (held (r .tag))) Equal Tag) Cipher)
-    Rounds
+-- the verdicts but equal, in their order: out of form, at its first broken line; rounds; cipher; tag
+abbrev pub differences : Record → List (Choice Verdict)
+differences r =
+    Unread (broken r) when not (eqb (broken r) 0)
+    ∷ Rounds when not (eqb (r .rounds) (rounds r))
+    ∷ Cipher when not (agree (sealing r .cipher) (held (r .cipher)))
+    ∷ Tag when not (agree (sealing r .tag) (held (r .tag)))
+    ∷ []
 
--- a record out of form is unread, at its first broken line
+-- the first that holds
 unfoldable pub verdictOn : Record → Verdict
-verdictOn r = cond (eqb (broken r) 0) (compared r) (Unread (broken r))
+verdictOn r = first Equal (differences r)
 
 -- ---- inside: our sealing in the code's struct
 

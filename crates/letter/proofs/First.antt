@@ -28,18 +28,17 @@ use Rattle.message.specs.Demands.{isNone}
 use Rattle.message.proofs.Demands.{answers-anything}
 use Rattle.record.specs.declared.lines.Record.{Record}
 use Rattle.record.specs.declared.reading.Reading.{Reading}
-use Rattle.record.specs.Form.{held, blank, broken}
+use Rattle.record.specs.Form.{blank, broken}
 use Rattle.record.specs.Text.{textOf}
-use Rattle.record.specs.Calls.{refusedAt, readCall, WriteLeaves, writeLeaves, writeCall}
+use Rattle.record.specs.Calls.{refusedAt, readCall, WriteLeaves, writeLeaves, writeFaults, writeCall}
 use Rattle.record.specs.Laws.{Begun}
 use Rattle.record.proofs.Laws.{reads-and-writes}
 use Rattle.report.specs.declared.Verdict.{Verdict}
-use Rattle.report.specs.declared.Verdict.the-variants.{Equal, Rounds, Cipher, Tag, Unread}
+use Rattle.report.specs.declared.Verdict.the-variants.{Equal}
 use Rattle.report.specs.Reports.{reportText, ReportLeaves, reportLeaves, reportCall}
 use Rattle.judge.specs.declared.stepping.Step.{Step}
 use Rattle.judge.specs.declared.stepping.Step.the-variants.{Judged, Stopped, Wait, End, Short}
-use Rattle.judge.specs.Tail.{agree}
-use Rattle.judge.specs.Verdicts.{sealing, rounds, compared, verdictOn}
+use Rattle.judge.specs.Verdicts.{differences, verdictOn}
 use Rattle.judge.specs.Steps.{verdictRead, isFinal, StepLeaves, stepLeaves, stepBy, reported, stepCall}
 use Rattle.letter.specs.Model.{Model, ours, Keeps}
 use Rattle.letter.specs.First.{Refused, Listed, Unchanged, Mismatch, First}
@@ -228,7 +227,7 @@ read-kept text r = go (reads-and-writes .answered text)
 
 -- a writing, by its two tests
 record Writes (r : Record) (out : List ℕ) : Type 0 where
-  said : Says (writeCall r out .outcome .answer) (first Done (BrokenRecord when not (eqb (broken r) 0) ∷ NoRoom when not (leb (length (textOf r)) (length out)) ∷ []))
+  said : Says (writeCall r out .outcome .answer) (first Done (writeFaults r (length out)))
       ((writeCall r out .out ≡ out) × (writeCall r out .outcome .written ≡ 0))
   line : writeCall r out .outcome .line ≡ broken r
 
@@ -242,8 +241,8 @@ write-said r out = record { said = go (eqb (broken r) 0) (leb (length (textOf r)
 
     leaves : Bool → Bool → WriteLeaves
     leaves t room =
-        cond t (cond room done (writeLeaves (record { answer = NoRoom; line = 0; written = 0 }) out))
-        (writeLeaves (record { answer = BrokenRecord; line = broken r; written = 0 }) out)
+        let answer = first Done (BrokenRecord when not t ∷ NoRoom when not room ∷ []) in
+        cond (isDone answer) done (writeLeaves (record { answer = answer; line = broken r; written = 0 }) out)
 
     go : (t room : Bool) → Says (leaves t room .outcome .answer) (first Done (BrokenRecord when not t ∷ NoRoom when not room ∷ []))
         ((leaves t room .out ≡ out) × (leaves t room .outcome .written ≡ 0))
@@ -253,7 +252,7 @@ write-said r out = record { said = go (eqb (broken r) 0) (leb (length (textOf r)
 
     named : (t room : Bool) → eqb (broken r) 0 ≡ t → leaves t room .outcome .line ≡ broken r
     named true true e = sym (eqb-true (broken r) 0 e)
-    named true false e = sym (eqb-true (broken r) 0 e)
+    named true false e = refl
     named false room e = refl
 
 -- a report, by its one test
@@ -275,26 +274,10 @@ report-said number verdict place = go (leb (length (reportText number verdict)) 
 
 -- ---- verdicts and steps
 
--- a verdict, by its four tests
-judge-said : (r : Record)
-    → verdictOn r
-    ≡ first Equal
-    (Unread (broken r) when not (eqb (broken r) 0)
-    ∷ Rounds when not (eqb (r .rounds) (rounds r))
-    ∷ Cipher when not (agree (sealing r .cipher) (held (r .cipher)))
-    ∷ Tag when not (agree (sealing r .tag) (held (r .tag)))
-    ∷ [])
-unfolding verdictOn compared
-judge-said r = go (eqb (broken r) 0) (eqb (r .rounds) (rounds r)) (agree (sealing r .cipher) (held (r .cipher))) (agree (sealing r .tag) (held (r .tag)))
-  where
-    go : (t a b c : Bool)
-        → cond t (cond a (cond b (cond c Equal Tag) Cipher) Rounds) (Unread (broken r))
-        ≡ first Equal (Unread (broken r) when not t ∷ Rounds when not a ∷ Cipher when not b ∷ Tag when not c ∷ [])
-    go true true true true = refl
-    go true true true false = refl
-    go true true false c = refl
-    go true false b c = refl
-    go false a b c = refl
+-- a verdict
+judge-said : (r : Record) → verdictOn r ≡ first Equal (differences r)
+unfolding verdictOn
+judge-said r = refl
 
 -- a step, by the choices in their order
 record Steps (window : List ℕ) (over : Bool) (number : ℕ) (place : List ℕ) : Type 0 where

@@ -1,7 +1,7 @@
 -- What a call that is done, or answers 9, reports and leaves.
 use mathlib.Core.Path.{_≡_, refl, sym, ap, _∙_}
-use mathlib.Core.Bool.{Bool, true, false, cond, _&&_, false≢true}
-use mathlib.Core.List.{List, _++_}
+use mathlib.Core.Bool.{Bool, true, false, cond, not, _&&_, false≢true}
+use mathlib.Core.List.{List, [], _∷_, _++_}
 use mathlib.Core.Logic.{_⊎_, inl, inr}
 use mathlib.Core.Option.{Option, some, none}
 use Prim.Native.Nat.{ℕ, _+_, _-_, _≤_}
@@ -13,7 +13,7 @@ use borrow.Author.Tests.{leb-true, eqb-false, not-false}
 use Rattle.answers.specs.declared.Answer.{Answer}
 use Rattle.answers.specs.declared.Answer.the-variants.{Done, NoRoom, TagDiffers, BrokenRecord}
 use Rattle.answers.specs.Numbers.{numberOf, isDone}
-use Rattle.answers.specs.Order.{Choice, first}
+use Rattle.answers.specs.Order.{Choice, _when_, first}
 use Rattle.answers.proofs.Order.{none-holds, first-most}
 use Rattle.ascon.specs.Sets.{rowOf, dataLimit, textLimit}
 use Rattle.ascon.specs.Mode.{zeros, p, initialise, same, opened}
@@ -209,9 +209,9 @@ write-reports r out = go (eqb (broken r) 0) (leb (length (textOf r)) (length out
     text : List ℕ
     text = textOf r
 
-    go : (form room : Bool) → let leaves = cond form
-        (cond room (writeLeaves (record { answer = Done; line = 0; written = length text }) (text ++ drop (length text) out)) (writeLeaves (record { answer = NoRoom; line = 0; written = 0 }) out))
-        (writeLeaves (record { answer = BrokenRecord; line = broken r; written = 0 }) out) in
+    go : (form room : Bool) → let answer = first Done (BrokenRecord when not form ∷ NoRoom when not room ∷ []) in
+        let leaves = cond (isDone answer) (writeLeaves (record { answer = Done; line = 0; written = length text }) (text ++ drop (length text) out))
+        (writeLeaves (record { answer = answer; line = broken r; written = 0 }) out) in
         leaves .outcome .answer ≡ Done → (leaves .outcome .written ≡ length text) × (leaves .out ≡ text ++ drop (length text) out)
     go true true e = (refl, refl)
     go true false e = absurd (let z : _≡_ {A = ℕ} 6 0 = ap numberOf e in omega arith)

@@ -32,7 +32,7 @@ use Rattle.record.specs.Calls.{begins, valueRead, lineRead, refusedAt, readCall
 use Rattle.report.specs.Reports.{recordLine, verdictLine, fieldLine, reportText, ReportLeaves, reportCall}
 use Rattle.report.specs.declared.Verdict.the-variants.{Equal, Rounds, Tag}
 use Rattle.judge.specs.declared.stepping.Step.the-variants.{Stopped, Wait, End}
-use Rattle.judge.specs.Verdicts.{sealing, compared, verdictOn}
+use Rattle.judge.specs.Verdicts.{sealing, verdictOn}
 use Rattle.judge.specs.Verdicts as verdicts
 use Rattle.judge.specs.Steps.{StepLeaves, isFinal, stepCall}
 use Rattle.letter.specs.Wrong.{Wrong}
@@ -42,7 +42,7 @@ off : _≡_ {A = ℕ} 0 1 → ⊥
 off e = omega (arith, e)
 
 pub wrong : Wrong
-unfolding permuteWords decrypted finalise opened dataBlocks textBlocks messageRounds absorbed given cryptedOf tagOf filledRounds closingRounds textWords sealing compared verdictOn verdicts.rounds isFinal stepCall writeCall blank withField checkCall tookText readCall lineRead begins refusedAt valueRead name names withNumber keeps decimal.numberOf isNumeral broken isField fieldOf sealed encrypted pad count beforeText isSet rowOf table roundsOf constantsOf constants permuteCall dataClosed separate started initialise firstBlock p permute rounds round diffuse Σ₀ Σ₁ Σ₂ Σ₃ Σ₄ _⋙_ substitute substituted column fromBits bit sBox addConstant stringOf stateOf bytesOf numberOf sixteenOf givenTag isSound isSoundOpen isSoundEnded startCall dataCall startTest pieceTest sealTest finishTest streamed.sealCall finishSealingCall finishCheckingCall messageTest sealCall openCall digitOf hexDigit places numeral lineOf put recordLine verdictLine fieldLine reportText reportCall
+unfolding permuteWords decrypted finalise opened dataBlocks textBlocks messageRounds absorbed given cryptedOf tagOf filledRounds closingRounds textWords sealing verdictOn verdicts.rounds isFinal stepCall writeCall blank withField checkCall tookText readCall lineRead begins refusedAt valueRead name names withNumber keeps decimal.numberOf isNumeral broken isField fieldOf sealed encrypted pad count beforeText isSet rowOf table roundsOf constantsOf constants permuteCall dataClosed separate started initialise firstBlock p permute rounds round diffuse Σ₀ Σ₁ Σ₂ Σ₃ Σ₄ _⋙_ substitute substituted column fromBits bit sBox addConstant stringOf stateOf bytesOf numberOf sixteenOf givenTag isSound isSoundOpen isSoundEnded startCall dataCall startTest pieceTest sealTest finishTest streamed.sealCall finishSealingCall finishCheckingCall messageTest sealCall openCall digitOf hexDigit places numeral lineOf put recordLine verdictLine fieldLine reportText reportCall
 wrong = record {
   number-done = λ κ e p. off (cc p);
   is-done-differs = λ κ e p. off (cc p);

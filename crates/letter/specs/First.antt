@@ -20,16 +20,14 @@ use Rattle.stream.specs.Calls.{startFaults, pieceFaults, sealFaults, finishFaul
 use Rattle.message.specs.Message.{faults}
 use Rattle.message.specs.Demands.{isNone}
 use Rattle.record.specs.declared.lines.Record.{Record}
-use Rattle.record.specs.Form.{held, blank, broken}
-use Rattle.record.specs.Text.{textOf}
-use Rattle.record.specs.Calls.{readCall}
+use Rattle.record.specs.Form.{blank, broken}
+use Rattle.record.specs.Calls.{readCall, writeFaults}
 use Rattle.record.specs.Laws.{Begun}
 use Rattle.report.specs.declared.Verdict.{Verdict}
-use Rattle.report.specs.declared.Verdict.the-variants.{Equal, Rounds, Cipher, Tag, Unread}
+use Rattle.report.specs.declared.Verdict.the-variants.{Equal}
 use Rattle.report.specs.Reports.{reportText}
 use Rattle.judge.specs.declared.stepping.Step.the-variants.{Judged, Stopped, Wait, End, Short}
-use Rattle.judge.specs.Tail.{agree}
-use Rattle.judge.specs.Verdicts.{sealing, rounds}
+use Rattle.judge.specs.Verdicts.{differences}
 use Rattle.judge.specs.Steps.{verdictRead, isFinal}
 use Rattle.letter.specs.EveryCall.{EveryCall}
 use Rattle.letter.specs.Model.{Model, Keeps}
@@ -71,17 +69,9 @@ pub record Listed (m : Model) : Type 0 where
       ((reading .answer ≡ Done) × (reading .line ≡ 0) × Begun 8 text)
       ⊎ ((reading .answer ≡ BrokenRecord) × (1 ≤ reading .line) × (reading .line ≤ 8) × Begun (reading .line - 1) text × (Begun (reading .line) text → ⊥))
   pub write : (r : Record) (out : List ℕ)
-      → m .write r out .outcome .answer
-      ≡ first Done (BrokenRecord when not (eqb (broken r) 0) ∷ NoRoom when not (leb (length (textOf r)) (length out)) ∷ [])
+      → m .write r out .outcome .answer ≡ first Done (writeFaults r (length out))
   pub write-line : (r : Record) (out : List ℕ) → m .write r out .outcome .line ≡ broken r
-  pub judge : (r : Record)
-      → m .judge r
-      ≡ first Equal
-      (Unread (broken r) when not (eqb (broken r) 0)
-      ∷ Rounds when not (eqb (r .rounds) (rounds r))
-      ∷ Cipher when not (agree (sealing r .cipher) (held (r .cipher)))
-      ∷ Tag when not (agree (sealing r .tag) (held (r .tag)))
-      ∷ [])
+  pub judge : (r : Record) → m .judge r ≡ first Equal (differences r)
   pub report : (number : ℕ) (verdict : Verdict) (place : List ℕ)
       → m .report number verdict place .outcome .answer ≡ first Done (NoRoom when not (leb (length (reportText number verdict)) (length place)) ∷ [])
   pub step : (window : List ℕ) (over : Bool) (number : ℕ) (place : List ℕ) → let reading = readCall window in

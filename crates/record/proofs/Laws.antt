@@ -9,13 +9,17 @@ use native.Mathlib.Omega.{arith}
 use lib.Dec.{eqb, leb}
 use lib.ListN.{length, take, drop, length-append}
 use lib.Seq.{take-append-seam, take-at}
-use borrow.Author.Tests.{leb-true, eqb-true, le-leb}
-use Rattle.answers.specs.declared.Answer.the-variants.{Done, NoRoom, BrokenRecord}
+use borrow.Author.Tests.{leb-true, eqb-true, le-leb, not-false}
+use Rattle.answers.specs.declared.Answer.{Answer}
+use Rattle.answers.specs.declared.Answer.the-variants.{Done, BrokenRecord}
+use Rattle.answers.specs.Numbers.{isDone}
+use Rattle.answers.specs.Order.{first}
+use Rattle.answers.proofs.Order.{none-holds}
 use Rattle.record.specs.declared.lines.Record.{Record}
 use Rattle.record.specs.declared.reading.Reading.{Reading}
 use Rattle.record.specs.Form.{withNumber, withField, broken}
 use Rattle.record.specs.Text.{lineText, textFrom, textOf, mostBytes}
-use Rattle.record.specs.Calls.{Line, refusedAt, readCall, writeLeaves, writeCall}
+use Rattle.record.specs.Calls.{Line, refusedAt, readCall, writeLeaves, writeFaults, writeCall}
 use Rattle.record.specs.Laws.{Typed, Begun, ReadsAndWrites}
 use Rattle.record.proofs.Rules.{copiedLine}
 use Rattle.record.proofs.Steps.{line-length}
@@ -92,17 +96,24 @@ write-done r out e h = rw (e, le-leb (length (textOf r)) (length out) h)
 -- a record that is written is in form, and there was room
 done-write : (r : Record) (out : List ℕ) → writeCall r out .outcome .answer ≡ Done → (broken r ≡ 0) × (length (textOf r) ≤ length out)
 unfolding writeCall
-done-write r out d = go (eqb (broken r) 0) (leb (length (textOf r)) (length out)) refl refl d
+done-write r out d =
+    let h = none-holds (writeFaults r (length out)) refl (go (first Done (writeFaults r (length out))) d) in
+    (eqb-true (broken r) 0 (not-false (eqb (broken r) 0) (h .0)), leb-true (length (textOf r)) (length out) (not-false (leb (length (textOf r)) (length out)) (h .1 .0)))
   where
-    go : (t u : Bool) → eqb (broken r) 0 ≡ t → leb (length (textOf r)) (length out) ≡ u
-        → cond t (cond u
+    go : (answer : Answer)
+        → cond (isDone answer)
         (writeLeaves (record { answer = Done; line = 0; written = length (textOf r) }) (textOf r ++ drop (length (textOf r)) out))
-        (writeLeaves (record { answer = NoRoom; line = 0; written = 0 }) out))
-        (writeLeaves (record { answer = BrokenRecord; line = broken r; written = 0 }) out) .outcome .answer ≡ Done
-        → (broken r ≡ 0) × (length (textOf r) ≤ length out)
-    go true true t u e = (eqb-true (broken r) 0 t, leb-true (length (textOf r)) (length out) u)
-    go true false t u e = let z : _≡_ {A = ℕ} 0 1 = cc in absurd (omega arith)
-    go false u t v e = let z : _≡_ {A = ℕ} 0 1 = cc in absurd (omega arith)
+        (writeLeaves (record { answer = answer; line = broken r; written = 0 }) out) .outcome .answer ≡ Done
+        → isDone answer ≡ true
+    go answer = by (isDone answer) refl
+      where
+        by : (b : Bool) → isDone answer ≡ b
+            → cond b
+            (writeLeaves (record { answer = Done; line = 0; written = length (textOf r) }) (textOf r ++ drop (length (textOf r)) out))
+            (writeLeaves (record { answer = answer; line = broken r; written = 0 }) out) .outcome .answer ≡ Done
+            → isDone answer ≡ true
+        by true f e = f
+        by false f e = ap isDone e
 
 -- ---- what was written is read
 

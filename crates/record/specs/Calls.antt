@@ -1,11 +1,14 @@
 -- What reading and writing a record answer.
-use mathlib.Core.Bool.{Bool, true, false, cond, _&&_}
+use mathlib.Core.Bool.{Bool, true, false, cond, not, _&&_}
 use mathlib.Core.List.{List, [], _∷_, _++_}
 use mathlib.Core.Option.{Option, some, none}
 use Prim.Native.Nat.{ℕ, zero, suc, _+_, _-_}
 use lib.Dec.{eqb, leb}
 use lib.ListN.{length, getD, take, drop}
+use Rattle.answers.specs.declared.Answer.{Answer}
 use Rattle.answers.specs.declared.Answer.the-variants.{Done, NoRoom, BrokenRecord}
+use Rattle.answers.specs.Numbers.{isDone}
+use Rattle.answers.specs.Order.{Choice, _when_, first}
 use Rattle.digits.specs.declared.numbers.Numeral.{Numeral}
 use Rattle.digits.specs.declared.numbers.Numeral.the-variants.{Number, NoNumber}
 use Rattle.digits.specs.Hex.{digitOf, isValue, bytesOf}
@@ -100,15 +103,17 @@ pub record WriteLeaves : Type 0 where
 abbrev pub writeLeaves : Writing → List ℕ → WriteLeaves
 writeLeaves outcome out = record { outcome = outcome; out = out }
 
--- 10 with the first broken line, before 6; a refusal changes nothing
+-- 10, then 6
+abbrev pub writeFaults : Record → ℕ → List (Choice Answer)
+writeFaults r room = BrokenRecord when not (eqb (broken r) 0) ∷ NoRoom when not (leb (length (textOf r)) room) ∷ []
+
+-- 10 has the first broken line; a refusal changes nothing
 unfoldable pub writeCall : Record → List ℕ → WriteLeaves
 writeCall r out =
     let text = textOf r in
-    cond (eqb (broken r) 0)
-    (cond (leb (length text) (length out))
-    (writeLeaves (record { answer = Done; line = 0; written = length text }) (text ++ drop (length text) out))
-    (writeLeaves (record { answer = NoRoom; line = 0; written = 0 }) out))
-    (writeLeaves (record { answer = BrokenRecord; line = broken r; written = 0 }) out)
+    let answer = first Done (writeFaults r (length out)) in
+    cond (isDone answer) (writeLeaves (record { answer = Done; line = 0; written = length text }) (text ++ drop (length text) out))
+    (writeLeaves (record { answer = answer; line = broken r; written = 0 }) out)
 
 -- ---- inside: the code's structs for what may be missing
 

@@ -1,7 +1,7 @@
 -- `rewriting::write_in` meets its contract: no more is written than there is room.
 use mathlib.Core.Path.{_≡_, refl, sym, ap}
-use mathlib.Core.Bool.{Bool, true, false, cond}
-use mathlib.Core.List.{List, _++_}
+use mathlib.Core.Bool.{Bool, true, false, cond, not}
+use mathlib.Core.List.{List, [], _∷_, _++_}
 use Prim.Native.Nat.{ℕ, _≤_}
 use native.Mathlib.Omega.{arith}
 use denote.Ref.{now}
@@ -12,6 +12,8 @@ use borrow.Author.Needs.{needs}
 use borrow.Author.Tests.{leb-true}
 use Rattle.io.proofs.Counting.{counts}
 use Rattle.answers.specs.declared.Answer.the-variants.{Done, NoRoom, BrokenRecord}
+use Rattle.answers.specs.Numbers.{isDone}
+use Rattle.answers.specs.Order.{_when_, first}
 use Rattle.record.specs.declared.lines.Record.{Record}
 use Rattle.record.specs.Form.{broken}
 use Rattle.record.specs.Text.{textOf}
@@ -25,10 +27,10 @@ unfolding writeCall
 written-inside r out = go (eqb (broken r) 0) (leb (length (textOf r)) (length out)) refl
   where
     go : (t u : Bool) → leb (length (textOf r)) (length out) ≡ u
-        → cond t (cond u
+        → let answer = first Done (BrokenRecord when not t ∷ NoRoom when not u ∷ []) in
+        cond (isDone answer)
         (writeLeaves (record { answer = Done; line = 0; written = length (textOf r) }) (textOf r ++ drop (length (textOf r)) out))
-        (writeLeaves (record { answer = NoRoom; line = 0; written = 0 }) out))
-        (writeLeaves (record { answer = BrokenRecord; line = broken r; written = 0 }) out) .outcome .written ≤ length out
+        (writeLeaves (record { answer = answer; line = broken r; written = 0 }) out) .outcome .written ≤ length out
     go true true u = leb-true (length (textOf r)) (length out) u
     go true false u = omega arith
     go false _ u = omega arith

@@ -14,7 +14,7 @@ use Rattle.record.proofs.Fields.{held-field}
 use Rattle.record.proofs.InForm.{in-form}
 use Rattle.judge.specs.declared.verdict.Ours.{Ours}
 use Rattle.judge.specs.Tail.{agree}
-use Rattle.judge.specs.Verdicts.{sealing, rounds, compared, verdictOn, oursBy, oursOf}
+use Rattle.judge.specs.Verdicts.{sealing, rounds, verdictOn, oursBy, oursOf}
 use Rattle.judge.proofs.verdict.judge.Statement.{statement}
 use Rattle.judge.proofs.verdict.judge.Tie as tie
 
@@ -54,7 +54,7 @@ ours : (c : tie.After-seal-record) → Parts (c .before .before .before .args .e
 ours c = parts-of _ _ (c .seal-record .ensures .0)
 
 returns-2 : tie.Need-returns-2
-unfolding verdictOn compared
+unfolding verdictOn
 returns-2 c =
     let o = ours (c .before .before .before) in
     let r = c .before .before .before .before .before .before .args .entry in
@@ -74,7 +74,7 @@ cipher-is c =
     sym (c .same-field .ensures ∙ ap (λ (x : List ℕ). agree x (held (r .cipher))) (ours (c .before .before .before .before .before .before) .same-cipher))
 
 returns-3 : tie.Need-returns-3
-unfolding verdictOn compared
+unfolding verdictOn
 returns-3 c = rw (sound (c .before .before .before .before .before .before .before .before), rounds-same (c .before .before .before .before), cipher-is (c .before) ∙ not-true _ (c .if3 .taken))
 
 same-field-requires-2 : tie.Need-same-field-requires-2
@@ -89,7 +89,7 @@ tag-is c =
     sym (c .same-field2 .ensures ∙ ap (λ (x : List ℕ). agree x (held (r .tag))) (ours (c .before .before .before .before .before .before .before .before .before .before) .same-tag))
 
 returns-4 : tie.Need-returns-4
-unfolding verdictOn compared
+unfolding verdictOn
 returns-4 c =
     rw (
       sound (c .before .before .before .before .before .before .before .before .before .before .before .before),
@@ -99,7 +99,7 @@ returns-4 c =
     )
 
 returns-5 : tie.Need-returns-5
-unfolding verdictOn compared
+unfolding verdictOn
 returns-5 c =
     rw (
       sound (c .before .before .before .before .before .before .before .before .before .before .before .before),
