@@ -129,10 +129,6 @@ keeps-begun =
 
 -- ---- one answer
 
--- nothing joined
-keeps-nil : (r : Standing) (came wrote said : List ℕ) → Keeps r came wrote said → Keeps r (came ++ []) (wrote ++ []) (said ++ [])
-keeps-nil r came wrote said k = rw (append-nil came, append-nil wrote, append-nil said) k
-
 -- what is taken and what is left
 taken-left : (x left all : List ℕ) (n : ℕ) → x ++ left ≡ all → (x ++ take n left) ++ drop n left ≡ all
 taken-left x left all n e = append-assoc x (take n left) (drop n left) ∙ ap (λ (l : List ℕ). x ++ l) (take-append-drop n left) ∙ e
