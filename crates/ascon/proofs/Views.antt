@@ -9,7 +9,8 @@ use lib.Bits.{bitXor}
 use lib.ListN.{length, getD, set, take, drop, length-append, length-drop, length-replicate, take-append-drop}
 use lib.Seq.{getD-append-seam, set-append-seam, append-snoc, take-append-le, drop-append-le, length-take-le, take-all, take-add, take-take, drop-drop, take-at, drop-at}
 use borrow.Author.Tests.{ne-eqb, eq-eqb}
-use Rattle.ascon.specs.Mode.{_⊕_, zeros, blocks, count, pad, padData, absorb, encrypt, decrypt, Processed, _then_}
+use Rattle.permutation.specs.Strings.{zeros}
+use Rattle.ascon.specs.Mode.{_⊕_, blocks, count, pad, padAd, absorb, encrypt, decrypt, Processed, _then_}
 use Rattle.ascon.specs.Bytewise.{At, at, sealing, opening, closed, turned, step, steps, outs}
 use Rattle.ascon.proofs.Strings.{length-xor, xor-append, xor-zeros, xor-short}
 use Rattle.ascon.proofs.Bytewise.{steps-append, outs-append}
@@ -272,9 +273,9 @@ module _ (r : ℕ) (pᵇ : List ℕ → List ℕ) where
           let l : length C % r < r = mod-lt (length C) pos in
           open-walk (length C / r) k s C hs (fill C) (omega arith) ∙ walk-bytes opening (length C / r) k s C hs (fill C) (omega arith)
 
-      pub data-view : (a : ℕ) (A : List ℕ) → absorb r pᵇ s (padData r (a ∷ A)) ≡ pᵇ (closed (steps r pᵇ sealing (at s 0) (a ∷ A)))
+      pub ad-view : (a : ℕ) (A : List ℕ) → absorb r pᵇ s (padAd r (a ∷ A)) ≡ pᵇ (closed (steps r pᵇ sealing (at s 0) (a ∷ A)))
       unfolding pad count
-      data-view a A =
+      ad-view a A =
           let k : ℕ = r - 1 - length (a ∷ A) % r in
           absorb-text (length (a ∷ A) % r) (length (a ∷ A) / r) s (a ∷ A ++ ending k)
           ∙ ap (λ (w : Processed). pᵇ (w .state)) (seal-view (a ∷ A))

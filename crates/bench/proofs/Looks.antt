@@ -7,7 +7,7 @@ use Prim.Native.Nat.{ℕ, _+_, _-_, _≤_, _<_}
 use native.Mathlib.Omega.{arith}
 use lib.Dec.{eqb, leb}
 use lib.ListN.{length, take, drop, length-append, length-drop}
-use lib.Seq.{length-take-le, take-append-seam}
+use lib.Seq.{length-take-le, take-length, take-append-seam}
 use borrow.Author.Tests.{eq-eqb, ne-eqb, le-leb}
 use Rattle.answers.specs.declared.Answer.the-variants.{Done}
 use Rattle.answers.specs.Numbers.{isDone}
@@ -17,10 +17,10 @@ use Rattle.record.specs.Calls.{refusedAt, readCall}
 use Rattle.record.proofs.Laws.{reads-and-writes, taken-inside}
 use Rattle.report.specs.declared.Verdict.{Verdict}
 use Rattle.report.specs.declared.Verdict.the-variants.{Unread}
-use Rattle.report.specs.Reports.{reportText, reportCall}
+use Rattle.report.specs.Reports.{reportText}
 use Rattle.judge.specs.declared.stepping.Step.{Step}
 use Rattle.judge.specs.declared.stepping.Step.the-variants.{Judged, Stopped, Wait, End}
-use Rattle.judge.specs.Steps.{verdictRead, isFinal, StepLeaves, stepLeaves, stepBy, reported, stepCall, takenBy}
+use Rattle.judge.specs.Steps.{verdictRead, isFinal, StepLeaves, stepLeaves, stepBy, stepCall, takenBy}
 use Rattle.judge.proofs.Laws.{judges}
 use Rattle.turns.specs.declared.Ending.the-variants.{TooMany}
 use Rattle.bench.specs.declared.progress.Progress.{Progress}
@@ -161,11 +161,11 @@ module _ (p : Progress) (buffer text : List ℕ) (sound : Sound p buffer text) (
   -- any step on the window
   pub looks : (step : Step) (after : List ℕ) → stepLeaves step after ≡ stepCall (take (p .filled - p .start) (drop (p .start) buffer)) (p .ended) (recordsOf (p .tally) + 1) text
       → Looked p buffer text step after
-  unfolding window report number stepCall reported stepBy reportCall
+  unfolding window report number stepCall stepBy
   looks step after h = go (eqb (length window) 0) (p .ended) (isFinal window (p .ended)) (isDone (readCall window .answer)) refl refl refl refl
     where
       by-step : (s : Step) (l : List ℕ) → stepLeaves step after ≡ stepLeaves s l → Looked p buffer text s l → Looked p buffer text step after
-      by-step s l e = subst⁻¹ (λ (leaves : StepLeaves). Looked p buffer text (leaves .step) (leaves .place)) e
+      by-step s l e = subst⁻¹ (λ (leaves : StepLeaves). Looked p buffer text (leaves .step) (leaves .out)) e
 
       fits : leb (length report) (length text) ≡ true
       fits = le-leb (length report) (length text) (omega (arith, room, sound .long))
@@ -184,10 +184,10 @@ module _ (p : Progress) (buffer text : List ℕ) (sound : Sound p buffer text) (
       go false t true true ee et ef ed =
           let taken = taken-inside window (done-is (readCall window .answer) ed) .1 in
           let both = reports (readCall window .taken) (verdictRead (readCall window)) ee ef refl refl taken in
-          by-step (Judged (verdictRead (readCall window)) (readCall window .taken) (length report)) (report ++ drop (length report) text) (h ∙ rw (ee, ef, fits, ed))
+          by-step (Judged (verdictRead (readCall window)) (readCall window .taken) (length report)) (report ++ drop (length report) text) (h ∙ rw (ee, ef, fits, ed, take-length))
           (record { takes = record { inside = both .1 .begins; few = sound .few }; is = both .0; sound = both .1 })
       go false t true false ee et ef ed =
           let unread = ap (countedWith (p .tally)) (judges .unread window ed) in
           let both = reports 0 (Unread (readCall window .line)) ee ef (refused-takes window ed) unread (omega arith) in
-          by-step (Stopped (readCall window .line) (length report)) (report ++ drop (length report) text) (h ∙ rw (ee, ef, fits, ed))
+          by-step (Stopped (readCall window .line) (length report)) (report ++ drop (length report) text) (h ∙ rw (ee, ef, fits, ed, take-length))
           (record { takes = record { inside = both .1 .begins; few = sound .few }; is = both .0; sound = both .1 })

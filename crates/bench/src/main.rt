@@ -7,14 +7,15 @@ ghost use mathlib.Core.Path.{_≡_};
 ghost use Prim.Native.Nat.{_-_, _≤_, _<_};
 ghost use lib.ListN.{length, take, drop};
 ghost use Rattle.turns.specs.Tallies.{recordsOf, largest};
-ghost use Rattle.turns.specs.Run.{looked, judged};
-ghost use Rattle.bench.specs.Progress.{movedBy, front, Sound, view, More, Less, Closed};
+ghost use Rattle.turns.specs.Run.{judged};
+ghost use Rattle.bench.specs.Progress.{movedBy, Sound, view, More, Less, Closed};
 ghost use Rattle.turns.specs.Laws.{OneAnswer, Turned, Ran};
 use libc::STDIN_FILENO;
 use progress::Heard;
 use progress::Progress;
 use turns::Ending;
 use turns::Stage;
+use turns::Tally;
 
 // One read from standard input into a place that has room, so that a read of no byte means the end of the input.
 fn read_some(room: &mut [u8]) -> Heard
@@ -47,19 +48,8 @@ fn move_to_front(buffer: &mut [u8], start: usize, filled: usize)
     }
 }
 
-// The progress with its window at the front of the buffer.
-fn at_front(p: Progress) -> Progress
-    requires { ⌜ p .start ≤ p .filled ⌝ }
-    ensures { λ r. ⌜ r ≡ front p ⌝ }
-{
-    let mut q = p;
-    q.start = 0;
-    q.filled = p.filled - p.start;
-    q
-}
-
 // Reads more of the input behind the window.
-fn read_more(buffer: &mut [u8], p: Progress) -> Progress
+fn read_more(buffer: &mut [u8], mut p: Progress) -> Progress
     requires { ⌜ p .start ≤ p .filled ⌝ }
     requires { ⌜ p .filled ≤ length (now buffer) ⌝ }
     requires { ⌜ p .filled - p .start < length (now buffer) ⌝ }
@@ -70,7 +60,9 @@ fn read_more(buffer: &mut [u8], p: Progress) -> Progress
     move_to_front(&mut *buffer, start, filled);
     let size = filled - start;
     let heard = read_some(&mut buffer[size..]);
-    progress::after_read(at_front(p), heard)
+    p.start = 0;
+    p.filled = size;
+    progress::after_read(p, heard)
 }
 
 // Writes what is left of the text, to standard output or to standard error.
@@ -93,21 +85,23 @@ fn call(buffer: &mut [u8], text: &[u8], p: Progress) -> Progress
     ensures { λ r. ⌜ OneAnswer (view p (now (buffer .entry)) (now (text .entry))) (view r (now (buffer .exit)) (now (text .entry))) ⌝ }
 {
     let stage = p.stage;
-    if progress::is_reading(stage) {
-        return read_more(buffer, p);
+    match stage {
+        Stage::Read => read_more(buffer, p),
+        Stage::Write | Stage::Say => write_more(text, p),
+        _ => p,
     }
-    if progress::is_writing(stage) {
-        return write_more(text, p);
-    }
-    p
 }
 
-// Judges what stands in the window and puts the report into the text; a record that can't be read was the last.
-fn judge_next(buffer: &[u8], text: &mut [u8], p: Progress) -> Progress
+// Where judging is next, judges what stands in the window and puts the report into the text; a record that can't be read was the last.
+fn look(buffer: &[u8], text: &mut [u8], p: Progress) -> Progress
     requires { ⌜ Sound p (now buffer) (now text) ⌝ }
     ensures { λ r. ⌜ Sound r (now (buffer .entry)) (now (text .exit)) ⌝ }
-    ensures { λ r. ⌜ view r (now (buffer .entry)) (now (text .exit)) ≡ looked (view p (now (buffer .entry)) (now (text .entry))) ⌝ }
+    ensures { λ r. ⌜ view r (now (buffer .entry)) (now (text .exit)) ≡ judged (view p (now (buffer .entry)) (now (text .entry))) ⌝ }
 {
+    let stage = p.stage;
+    let Stage::Judge = stage else {
+        return p;
+    };
     let tally = p.tally;
     if tally.unread != 0 {
         return progress::at_stage(p, Stage::Close);
@@ -122,43 +116,31 @@ fn judge_next(buffer: &[u8], text: &mut [u8], p: Progress) -> Progress
     progress::after_step(p, step)
 }
 
-// Judges, where that is next.
-fn look(buffer: &[u8], text: &mut [u8], p: Progress) -> Progress
-    requires { ⌜ Sound p (now buffer) (now text) ⌝ }
-    ensures { λ r. ⌜ Sound r (now (buffer .entry)) (now (text .exit)) ⌝ }
-    ensures { λ r. ⌜ view r (now (buffer .entry)) (now (text .exit)) ≡ judged (view p (now (buffer .entry)) (now (text .entry))) ⌝ }
-{
-    let stage = p.stage;
-    if progress::is_judging(stage) {
-        return judge_next(buffer, text, p);
-    }
-    p
-}
-
 // Puts the line that ends the run into the text, where that is next.
-fn close(text: &mut [u8], p: Progress) -> Progress
+fn close(text: &mut [u8], mut p: Progress) -> Progress
     requires { ⌜ recordsOf (p .tally) < largest ⌝ }
     requires { ⌜ 128 ≤ length (now text) ⌝ }
     ensures { λ r. ⌜ Closed p (now (text .entry)) r (now (text .exit)) ⌝ }
 {
     let stage = p.stage;
-    if progress::is_closing(stage) {
-        let tally = p.tally;
-        let size = tally::put_end(tally, text);
-        return progress::saying(p, size);
-    }
-    p
+    let Stage::Close = stage else {
+        return p;
+    };
+    let tally = p.tally;
+    p.from = 0;
+    p.size = tally::put_end(tally, text);
+    progress::at_stage(p, Stage::Say)
 }
 
 // One turn: a call to the operating system, and what follows from its answer.
-fn turn(buffer: &mut [u8], text: &mut [u8], p: Progress) -> Progress
+fn turn(buffer: &mut [u8], text: &mut [u8], mut p: Progress) -> Progress
     requires { ⌜ Sound p (now buffer) (now text) ⌝ }
     ensures { λ r. ⌜ Sound r (now (buffer .exit)) (now (text .exit)) ⌝ }
     ensures { λ r. ⌜ Turned (view p (now (buffer .entry)) (now (text .entry))) (view r (now (buffer .exit)) (now (text .exit))) ⌝ }
 {
-    let called = call(&mut *buffer, text, p);
-    let looked = look(buffer, &mut *text, called);
-    close(text, looked)
+    p = call(&mut *buffer, text, p);
+    p = look(buffer, &mut *text, p);
+    close(text, p)
 }
 
 // Turn after turn until nothing is left to do. A proved loop has to end, and nothing says that the input does: it counts its turns down, from a number that no run
@@ -168,11 +150,24 @@ fn run(buffer: &mut [u8], text: &mut [u8]) -> Progress
     requires { ⌜ 128 ≤ length (now text) ⌝ }
     ensures { λ r. ⌜ Ran (view r (now (buffer .exit)) (now (text .exit))) ⌝ }
 {
-    let mut p = progress::begin();
+    let tally = Tally {
+        equal: 0,
+        differ: 0,
+        unread: 0,
+    };
+    let mut p = Progress {
+        start: 0,
+        filled: 0,
+        ended: false,
+        tally,
+        from: 0,
+        size: 0,
+        stage: Stage::Read,
+    };
     let mut turns = u64::MAX;
     while 0 < turns {
         let stage = p.stage;
-        if progress::is_over(stage) {
+        if let Stage::Over(_) = stage {
             return p;
         }
         p = turn(&mut *buffer, &mut *text, p);
@@ -183,32 +178,24 @@ fn run(buffer: &mut [u8], text: &mut [u8]) -> Progress
 
 // Says on standard error why a run came to no proper end.
 fn explain(stage: Stage) {
-    match stage {
-        Stage::Over(ending) => match ending {
-            Ending::Said => {}
-            Ending::ReadFailed => os::fail(b"bench: reading failed"),
-            Ending::WriteFailed => os::fail(b"bench: writing failed"),
-            Ending::SayFailed => os::fail(b"bench: writing failed"),
-            Ending::TooMany => tell(b"bench: too many records\n"),
-        },
-        Stage::Judge => tell(b"bench: too many turns\n"),
-        Stage::Close => tell(b"bench: too many turns\n"),
-        Stage::Read => tell(b"bench: too many turns\n"),
-        Stage::Write => tell(b"bench: too many turns\n"),
-        Stage::Say => tell(b"bench: too many turns\n"),
+    let Stage::Over(ending) = stage else {
+        io::write_all(libc::STDERR_FILENO, b"bench: too many turns\n");
+        return;
+    };
+    match ending {
+        Ending::Said => {}
+        Ending::ReadFailed => os::fail(b"bench: reading failed"),
+        Ending::WriteFailed | Ending::SayFailed => os::fail(b"bench: writing failed"),
+        Ending::TooMany => {
+            io::write_all(libc::STDERR_FILENO, b"bench: too many records\n");
+        }
     }
-}
-
-fn tell(what: &[u8]) {
-    io::write_all(libc::STDERR_FILENO, what);
 }
 
 fn main() {
     let mut space = io::large_buffer();
     let mut report = [0; 128];
-    let buffer: &mut [u8] = &mut space;
-    let text: &mut [u8] = &mut report;
-    let p = run(buffer, text);
+    let p = run(&mut space, &mut report);
     let stage = p.stage;
     explain(stage);
 }

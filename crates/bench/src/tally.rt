@@ -16,49 +16,44 @@ pub(crate) fn records(tally: Tally) -> u64
 }
 
 // The tally with one verdict more.
-pub(crate) fn counted(tally: Tally, verdict: Verdict) -> Tally
+pub(crate) fn counted(mut tally: Tally, verdict: Verdict) -> Tally
     requires { ⌜ recordsOf tally < largest ⌝ }
     ensures { λ r. ⌜ r ≡ countedWith tally verdict ⌝ }
 {
-    let mut next = tally;
     match verdict {
-        Verdict::Equal => next.equal += 1,
-        Verdict::Rounds => next.differ += 1,
-        Verdict::Cipher => next.differ += 1,
-        Verdict::Tag => next.differ += 1,
-        Verdict::Unread(_) => next.unread += 1,
+        Verdict::Equal => tally.equal += 1,
+        Verdict::Rounds | Verdict::Cipher | Verdict::Tag => tally.differ += 1,
+        Verdict::Unread(_) => tally.unread += 1,
     }
-    next
+    tally
 }
 
 // Puts a piece of text straight behind the first `at` bytes of a place that has room for it, and gives where it ends.
-fn put_piece(at: usize, piece: &[u8], place: &mut [u8]) -> usize
-    requires { ⌜ at + length (now piece) ≤ length (now place) ⌝ }
-    ensures { λ r. ⌜ Follows at (now (piece .entry)) r (now (place .entry)) (now (place .exit)) ⌝ }
+fn put_piece(at: usize, piece: &[u8], out: &mut [u8]) -> usize
+    requires { ⌜ at + length (now piece) ≤ length (now out) ⌝ }
+    ensures { λ r. ⌜ Follows at (now (piece .entry)) r (now (out .entry)) (now (out .exit)) ⌝ }
 {
-    at + digits::put_text(piece, &mut place[at..])
+    at + digits::put_text(piece, &mut out[at..])
 }
 
 // Puts a text and a number straight behind the first `at` bytes of a place that has room for them, and gives where they end.
-fn put_numbered(at: usize, text: &[u8], number: u64, place: &mut [u8]) -> usize
-    requires { ⌜ at + length (now text) + 20 ≤ length (now place) ⌝ }
-    ensures { λ r. ⌜ Follows at (numbered (now (text .entry)) number) r (now (place .entry)) (now (place .exit)) ⌝ }
+fn put_numbered(at: usize, text: &[u8], number: u64, out: &mut [u8]) -> usize
+    requires { ⌜ at + length (now text) + 20 ≤ length (now out) ⌝ }
+    ensures { λ r. ⌜ Follows at (numbered (now (text .entry)) number) r (now (out .entry)) (now (out .exit)) ⌝ }
 {
-    let mut numeral = [0; 20];
-    let size = digits::put_number(number, &mut numeral);
-    let next = put_piece(at, text, place);
-    put_piece(next, &numeral[..size], place)
+    let next = put_piece(at, text, out);
+    next + digits::put_number(number, &mut out[next..])
 }
 
 // Puts the line that ends a run at the beginning of a place that has room for it, and gives where it ends.
-pub(crate) fn put_end(tally: Tally, place: &mut [u8]) -> usize
+pub(crate) fn put_end(tally: Tally, out: &mut [u8]) -> usize
     requires { ⌜ recordsOf tally ≤ largest ⌝ }
-    requires { ⌜ 128 ≤ length (now place) ⌝ }
-    ensures { λ r. ⌜ Follows 0 (endLine tally) r (now (place .entry)) (now (place .exit)) ⌝ }
+    requires { ⌜ 128 ≤ length (now out) ⌝ }
+    ensures { λ r. ⌜ Follows 0 (endLine tally) r (now (out .entry)) (now (out .exit)) ⌝ }
 {
-    let one = put_numbered(0, b"bench: ", records(tally), place);
-    let two = put_numbered(one, b" records: ", tally.equal, place);
-    let three = put_numbered(two, b" equal, ", tally.differ, place);
-    let four = put_numbered(three, b" differ, ", tally.unread, place);
-    put_piece(four, b" unread\n", place)
+    let one = put_numbered(0, b"bench: ", records(tally), out);
+    let two = put_numbered(one, b" records: ", tally.equal, out);
+    let three = put_numbered(two, b" equal, ", tally.differ, out);
+    let four = put_numbered(three, b" differ, ", tally.unread, out);
+    put_piece(four, b" unread\n", out)
 }

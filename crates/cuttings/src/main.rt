@@ -1,6 +1,7 @@
 // Seals and checks one message under many cuttings, with refused calls in between, and tries the stream cases that the rules list to be run. The file `stdout`
 // holds the second program's ciphertexts, tags and round counts.
 ghost use mathlib.Core.Path.{_≡_};
+ghost use Prim.Native.Nat.{_≤_};
 ghost use lib.ListN.{length};
 use libc::STDOUT_FILENO;
 use stream::Direction;
@@ -10,24 +11,23 @@ use stream::Stream;
 // How many cuttings are tried in each set and direction.
 const CUTTINGS: usize = 216;
 
-// A stream that goes on, the rounds reported so far, and how many of its refusals were the expected ones.
-struct Walk {
-    stream: Stream,
-    rounds: u64,
-    refused: u64,
-}
+// How many calls follow a start.
+const CALLS: u64 = 15;
 
-// Writes a line of text.
-fn say(text: &[u8]) {
-    io::write_all(STDOUT_FILENO, text);
-    io::write_all(STDOUT_FILENO, b"\n");
+// What a stream sealed, its tag, the rounds reported so far, how many of its answers were the expected ones, and the stream.
+struct Walk {
+    out: [u8; 53],
+    tag: [u8; 16],
+    rounds: u64,
+    right: u64,
+    stream: Stream,
 }
 
 // Writes a name and a number.
 fn say_number(name: &[u8], n: u64) {
     io::write_all(STDOUT_FILENO, name);
     io::print_decimal(STDOUT_FILENO, n);
-    say(b"");
+    io::write_all(STDOUT_FILENO, b"\n");
 }
 
 // Writes a name and bytes.
@@ -35,15 +35,21 @@ fn say_bytes(name: &[u8], bytes: &[u8]) {
     io::write_all(STDOUT_FILENO, name);
     let mut i = 0;
     while i < bytes.len() {
-        io::print_hex(STDOUT_FILENO, wide(bytes[i]), 2);
+        io::print_hex(STDOUT_FILENO, bytes[i] as u64, 2);
         i += 1;
     }
-    say(b"");
+    io::write_all(STDOUT_FILENO, b"\n");
 }
 
-// A byte as a number.
-fn wide(b: u8) -> u64 {
-    b as u64
+// Writes a name and the number of an answer.
+fn say_answer(name: &[u8], o: Outcome) {
+    say_number(name, number_of(o));
+}
+
+// The number of an answer.
+fn number_of(o: Outcome) -> u64 {
+    let answer = o.answer;
+    answers::number(answer)
 }
 
 // The bytes of a string from a place up to another, or none.
@@ -56,91 +62,85 @@ fn part(s: &[u8], from: usize, to: usize) -> &[u8] {
     &s[..0]
 }
 
-// The walk after a call that is done.
-fn on(walk: Walk, o: Outcome) -> Walk {
-    let stream = o.next;
-    Walk {
-        stream,
-        rounds: std::num::wrapping_add_u64(walk.rounds, o.rounds),
-        refused: walk.refused,
+// The earlier of two places.
+fn earlier(one: usize, other: usize) -> usize
+    ensures { λ r. ⌜ r ≤ other ⌝ }
+{
+    if one < other { one } else { other }
+}
+
+// The later of two places.
+fn later(one: usize, other: usize) -> usize {
+    if one < other { other } else { one }
+}
+
+// A number where something holds, or 0.
+fn counted(right: bool, n: u64) -> u64 {
+    if right { n } else { 0 }
+}
+
+// One of two numbers, for sealing and for checking.
+fn by_direction(direction: Direction, sealing: u64, checking: u64) -> u64 {
+    match direction {
+        Direction::Sealing => sealing,
+        Direction::Checking => checking,
     }
 }
 
-// The walk after a call that has to be refused with a number.
-fn off(walk: Walk, o: Outcome, number: u64) -> Walk {
+// The walk after a call that has to get an answer.
+fn after(walk: Walk, o: Outcome, answer: u64) -> Walk {
+    let out = walk.out;
+    let tag = walk.tag;
     let stream = o.next;
-    let answer = o.answer;
-    let mut refused = walk.refused;
-    if answers::number(answer) == number {
-        refused = std::num::wrapping_add_u64(refused, 1);
-    }
     Walk {
-        stream,
+        out,
+        tag,
         rounds: std::num::wrapping_add_u64(walk.rounds, o.rounds),
-        refused,
+        right: std::num::wrapping_add_u64(walk.right, counted(number_of(o) == answer, 1)),
+        stream,
     }
 }
 
-// A start, and the associated data cut at `a`, with refused calls in between.
-fn with_data(
-    direction: Direction,
-    set: u64,
-    key: &[u8],
-    nonce: &[u8],
-    ad: &[u8],
-    a: usize,
-) -> Walk {
+// A walk at its start, with a tag to check.
+fn started(direction: Direction, set: u64, key: &[u8], nonce: &[u8], tag: [u8; 16]) -> Walk {
     let o = Stream::start(direction, set, key, nonce);
     let stream = o.next;
-    let mut w = Walk {
-        stream,
+    Walk {
+        out: [0; 53],
+        tag,
         rounds: o.rounds,
-        refused: 0,
-    };
-    w = on(w, w.stream.ad(part(ad, 0, a)));
-    w = off(w, finish_short(w.stream), refusal_of_finish(direction));
-    w = on(w, w.stream.ad(part(ad, 0, 0)));
-    w = on(w, w.stream.ad(part(ad, a, ad.len())));
-    w
-}
-
-// A finish with a tag of three bytes is 4 to a sealing, and 7 to a checking that is asked to seal.
-fn refusal_of_finish(direction: Direction) -> u64 {
-    match direction {
-        Direction::Sealing => 4,
-        Direction::Checking => 7,
+        right: 0,
+        stream,
     }
 }
 
-// A state that breaks a rule is answered 8 and comes back as it was.
-fn broken(walk: Walk) -> Walk {
+// The associated data from a place up to another.
+fn ad_from(walk: Walk, ad: &[u8], from: usize, to: usize) -> Walk {
+    after(walk, walk.stream.ad(part(ad, from, to)), 0)
+}
+
+// The associated data cut at `a`, with an empty piece and a refused call in between: a sealing finish with a tag of three bytes is 4 to a sealing, and 7 to a
+// checking.
+fn with_ad(direction: Direction, walk: Walk, ad: &[u8], a: usize) -> Walk {
+    let first = ad_from(walk, ad, 0, a);
+    let w = finish(Direction::Sealing, first, 3, by_direction(direction, 4, 7));
+    ad_from(ad_from(w, ad, a, a), ad, a, ad.len())
+}
+
+// A state that breaks a rule is answered 8 and comes back as it was: with its place put right, it is the stream.
+fn broken(walk: Walk, text: &[u8]) -> Walk {
     let mut bad = walk.stream;
     bad.place = 99;
-    let o = bad.ad(b"");
+    let o = bad.ad(text);
     let answer = o.answer;
-    let mut refused = walk.refused;
-    if answers::number(answer) == 8 {
-        if o.next.place == 99 {
-            refused = std::num::wrapping_add_u64(refused, 1);
-        }
-    }
-    let stream = walk.stream;
-    Walk {
-        stream,
-        rounds: walk.rounds,
-        refused,
-    }
-}
-
-// Seals the text from a place up to another into the same places of `out`.
-fn seal_part(stream: Stream, text: &[u8], from: usize, to: usize, out: &mut [u8]) -> Outcome {
-    if to < from {
-        return stream.seal(b"", out);
-    }
-    if out.len() < to {
-        return stream.seal(b"", out);
-    }
-    stream.seal(part(text, from, to), &mut out[from..to])
+    let mut next = o.next;
+    next.place = walk.stream.place;
+    let mended = Outcome {
+        answer,
+        rounds: o.rounds,
+        next,
+    };
+    after(walk, mended, 8)
 }
 
 // A seal call with room for three bytes.
@@ -149,195 +149,172 @@ fn seal_short(stream: Stream, text: &[u8]) -> Outcome {
     stream.seal(text, &mut room)
 }
 
-// A sealing finish with a tag place of three bytes.
-fn finish_short(stream: Stream) -> Outcome {
-    let mut tag = [0u8; 3];
-    stream.finish_sealing(&mut tag)
-}
-
 // A sealing finish with the first n bytes of a place for its tag.
 fn finish_part(stream: Stream, tag: &mut [u8], n: usize) -> Outcome {
-    if tag.len() < n {
-        return finish_short(stream);
+    let end = earlier(n, tag.len());
+    stream.finish_sealing(&mut tag[0..end])
+}
+
+// The finish of a direction, with the first n bytes of the walk's tag, which has to get an answer.
+fn finish(direction: Direction, walk: Walk, n: usize, answer: u64) -> Walk {
+    let mut tag = walk.tag;
+    match direction {
+        Direction::Sealing => {
+            let mut w = after(walk, finish_part(walk.stream, &mut tag, n), answer);
+            w.tag = tag;
+            w
+        }
+        Direction::Checking => {
+            after(walk, walk.stream.finish_checking(part(&tag, 0, n)), answer)
+        }
     }
-    stream.finish_sealing(&mut tag[..n])
 }
 
-// Calls that an open sealing stream refuses after its first piece of text: data, and a text that has no room.
-fn refused_in_text(walk: Walk, text: &[u8]) -> Walk {
-    let w = off(walk, walk.stream.ad(text), 7);
-    off(w, seal_short(w.stream, text), 6)
+// The text from a place up to another is sealed into the same places of `out`.
+fn seal_part(stream: Stream, text: &[u8], from: usize, to: usize, out: &mut [u8]) -> Outcome {
+    let end = earlier(to, out.len());
+    let begin = earlier(from, end);
+    stream.seal(part(text, begin, end), &mut out[begin..end])
 }
 
-// The text cut at t and at u, with an empty piece and refused calls in between.
-fn sealed_text(walk: Walk, text: &[u8], t: usize, u: usize, out: &mut [u8]) -> Walk {
-    let first = on(walk, seal_part(walk.stream, text, 0, t, out));
-    let empty = on(first, seal_short(first.stream, b""));
-    let w = broken(refused_in_text(empty, text));
-    let second = on(w, seal_part(w.stream, text, t, u, out));
-    on(second, seal_part(second.stream, text, u, text.len(), out))
+// The text from a place up to another, sealed or checked.
+fn piece(direction: Direction, walk: Walk, text: &[u8], from: usize, to: usize) -> Walk {
+    match direction {
+        Direction::Sealing => {
+            let mut out = walk.out;
+            let mut w = after(walk, seal_part(walk.stream, text, from, to, &mut out), 0);
+            w.out = out;
+            w
+        }
+        Direction::Checking => after(walk, walk.stream.check(part(text, from, to)), 0),
+    }
 }
 
-// The message sealed, its text cut at t and at u, with refused calls before and after it.
-fn sealed(
-    walk: Walk,
+// The text call of the other direction.
+fn other_way(direction: Direction, stream: Stream, text: &[u8]) -> Outcome {
+    match direction {
+        Direction::Sealing => stream.check(text),
+        Direction::Checking => seal_short(stream, text),
+    }
+}
+
+// Calls that an open stream refuses behind its first piece of text: data, a text that has no room or is not to be sealed, and any call in a broken state.
+fn refused_in_text(direction: Direction, walk: Walk, text: &[u8]) -> Walk {
+    let late = after(walk, walk.stream.ad(text), 7);
+    let short = seal_short(late.stream, text);
+    broken(after(late, short, by_direction(direction, 6, 7)), text)
+}
+
+// The k-th cutting of the text in three, with an empty piece and refused calls in between.
+fn with_text(direction: Direction, walk: Walk, text: &[u8], k: usize) -> Walk {
+    let t = k % 54 * 7 % 54;
+    let u = later(t, k % 54 * 13 % 54);
+    let other = after(walk, other_way(direction, walk.stream, text), 7);
+    let first = piece(direction, other, text, 0, t);
+    let empty = piece(direction, first, text, t, t);
+    let w = refused_in_text(direction, empty, text);
+    let second = piece(direction, w, text, t, u);
+    piece(direction, second, text, u, text.len())
+}
+
+// The finish, which has to get an answer, with refused ones before and after it.
+fn with_finish(direction: Direction, walk: Walk, n: usize, answer: u64) -> Walk {
+    let short = finish(direction, walk, 3, 4);
+    let done = finish(direction, short, n, answer);
+    finish(direction, done, n, 7)
+}
+
+// A message under the k-th cutting, with no rounds where an answer was not the expected one.
+fn walked(
+    direction: Direction,
+    start: Walk,
+    ad: &[u8],
     text: &[u8],
-    t: usize,
-    u: usize,
-    out: &mut [u8],
-    tag: &mut [u8],
+    k: usize,
     n: usize,
+    answer: u64,
 ) -> Walk {
-    let begun = off(walk, walk.stream.check(text), 7);
-    let all = sealed_text(begun, text, t, u, out);
-    let short = off(all, finish_short(all.stream), 4);
-    let done = on(short, finish_part(short.stream, tag, n));
-    off(done, finish_short(done.stream), 7)
+    let begun = with_ad(direction, start, ad, k % 38);
+    let mut w = with_finish(direction, with_text(direction, begun, text, k), n, answer);
+    w.rounds = counted(w.right == CALLS, w.rounds);
+    w
 }
 
-// The ciphertext checked, cut at t and at u, with refused calls in between; the tag has to get the answer given.
-fn checked(walk: Walk, cipher: &[u8], t: usize, u: usize, tag: &[u8], answer: u64) -> Walk {
-    let mut w = off(walk, seal_short(walk.stream, b""), 7);
-    w = on(w, w.stream.check(part(cipher, 0, t)));
-    w = on(w, w.stream.check(b""));
-    w = off(w, w.stream.ad(cipher), 7);
-    w = on(w, w.stream.check(part(cipher, t, u)));
-    w = broken(w);
-    w = on(w, w.stream.check(part(cipher, u, cipher.len())));
-    w = off(w, w.stream.finish_checking(b"abc"), 4);
-    w = off(w, w.stream.finish_checking(tag), answer);
-    off(w, w.stream.finish_checking(tag), 7)
-}
-
-// A message of a set, and what its first cutting gave.
-struct Case {
-    set: u64,
-    cipher: [u8; 53],
-    tag: [u8; 16],
-    rounds: u64,
-}
-
-// The first n bytes of a tag.
-fn tag_part(tag: &[u8; 16], n: usize) -> &[u8] {
-    part(tag, 0, n)
-}
-
-// The message sealed under one cutting; no rounds where a refusal was not the expected one.
-fn seal_case(
-    set: u64,
-    key: &[u8],
-    nonce: &[u8],
-    ad: &[u8],
-    text: &[u8],
-    a: usize,
-    t: usize,
-    u: usize,
-) -> Case {
-    let mut cipher = [0u8; 53];
-    let mut tag = [0u8; 16];
-    let begun = with_data(Direction::Sealing, set, key, nonce, ad, a);
-    let w = sealed(begun, text, t, u, &mut cipher, &mut tag, key.len());
-    let rounds = rounds_if(w.refused == 7, w.rounds);
-    Case {
-        set,
-        cipher,
-        tag,
-        rounds,
+// Whether two sealings gave the same.
+fn alike(one: Walk, other: Walk) -> bool {
+    if one.rounds != other.rounds {
+        return false;
     }
-}
-
-// A number of rounds, or none.
-fn rounds_if(right: bool, rounds: u64) -> u64 {
-    if right { rounds } else { 0 }
-}
-
-// Whether a ciphertext is checked right under one cutting: yes to its tag, and 9 to another.
-fn check_tags(
-    begun: Walk,
-    cipher: &[u8],
-    t: usize,
-    u: usize,
-    tag: &[u8],
-    bad: &[u8],
-    rounds: u64,
-) -> bool {
-    let yes = checked(begun, cipher, t, u, tag, 0);
-    let no = checked(begun, cipher, t, u, bad, 9);
-    both_checked(yes, no, rounds)
-}
-
-// Whether the case's ciphertext is checked right under one cutting.
-fn check_case(
-    case: Case,
-    key: &[u8],
-    nonce: &[u8],
-    ad: &[u8],
-    a: usize,
-    t: usize,
-    u: usize,
-) -> bool {
-    let n = key.len();
-    let cipher = case.cipher;
-    let tag = case.tag;
-    let mut bad = case.tag;
-    bad[0] = bad[0] ^ 1;
-    let begun = with_data(Direction::Checking, case.set, key, nonce, ad, a);
-    check_tags(
-        begun,
-        &cipher,
-        t,
-        u,
-        tag_part(&tag, n),
-        tag_part(&bad, n),
-        case.rounds,
-    )
-}
-
-// Whether two cuttings of one message gave the same.
-fn same_case(one: Case, other: Case) -> bool {
-    let a = one.cipher;
-    let b = other.cipher;
     let s = one.tag;
     let t = other.tag;
-    one.rounds == other.rounds && check::same(&a, &b) && check::same(&s, &t)
+    if !check::same(&s, &t) {
+        return false;
+    }
+    let a = one.out;
+    let b = other.out;
+    check::same(&a, &b)
 }
 
-// The later of two places.
-fn later(one: usize, other: usize) -> usize {
-    if one < other { other } else { one }
-}
-
-// One message of a set under every cutting: the first one's answers, and how many were the same.
-fn try_set(set: u64, key: &[u8], nonce: &[u8], ad: &[u8], text: &[u8]) {
-    let first = seal_case(set, key, nonce, ad, text, 0, 0, 0);
-    let cipher = first.cipher;
-    let tag = first.tag;
-    say_number(b"set=", set);
-    say_bytes(b"cipher=", &cipher);
-    say_bytes(b"tag=", tag_part(&tag, key.len()));
-    say_number(b"rounds=", first.rounds);
+// How many cuttings of a message are sealed as the first one is.
+fn seals(first: Walk, start: Walk, ad: &[u8], text: &[u8], n: usize) -> u64 {
     let mut k = 0;
-    let mut seals = 0;
-    let mut checks = 0;
+    let mut count = 0;
     while k < CUTTINGS {
-        let a = k % 38;
-        let t = k * 7 % 54;
-        let u = later(t, k * 13 % 54);
-        if same_case(first, seal_case(set, key, nonce, ad, text, a, t, u)) {
-            seals = std::num::wrapping_add_u64(seals, 1);
-        }
-        if check_case(first, key, nonce, ad, a, t, u) {
-            checks = std::num::wrapping_add_u64(checks, 1);
-        }
+        let same = alike(first, walked(Direction::Sealing, start, ad, text, k, n, 0));
+        count = std::num::wrapping_add_u64(count, counted(same, 1));
         k += 1;
     }
-    say_number(b"sealed alike=", seals);
-    say_number(b"checked right=", checks);
+    count
 }
 
-// Whether a right and a wrong tag had their answers, each with all of its rounds.
-fn both_checked(yes: Walk, no: Walk, rounds: u64) -> bool {
-    yes.refused == 7 && no.refused == 7 && yes.rounds == rounds && no.rounds == rounds
+// How many cuttings of what was sealed first are checked with an answer, and with all of the rounds.
+fn checks(first: Walk, start: Walk, ad: &[u8], n: usize, answer: u64) -> u64 {
+    let cipher = first.out;
+    let mut k = 0;
+    let mut count = 0;
+    while k < CUTTINGS {
+        let w = walked(Direction::Checking, start, ad, &cipher, k, n, answer);
+        count = std::num::wrapping_add_u64(count, counted(w.rounds == first.rounds, 1));
+        k += 1;
+    }
+    count
+}
+
+// Writes what a sealing gave, n bytes of its tag.
+fn say_sealed(walk: Walk, n: usize) {
+    let out = walk.out;
+    let tag = walk.tag;
+    say_bytes(b"cipher=", &out);
+    say_bytes(b"tag=", part(&tag, 0, n));
+    say_number(b"rounds=", walk.rounds);
+}
+
+// One message of a set under every cutting: the first one's answers, and how many were the same; in checking, yes to the tag and 9 to another.
+fn try_set(set: u64, key: &[u8], nonce: &[u8], ad: &[u8], text: &[u8]) {
+    say_number(b"set=", set);
+    let n = key.len();
+    let seal = started(Direction::Sealing, set, key, nonce, [0; 16]);
+    let first = walked(Direction::Sealing, seal, ad, text, 0, n, 0);
+    say_sealed(first, n);
+    say_number(b"sealed alike=", seals(first, seal, ad, text, n));
+    let tag = first.tag;
+    let right = checks(
+        first,
+        started(Direction::Checking, set, key, nonce, tag),
+        ad,
+        n,
+        0,
+    );
+    let mut bad = first.tag;
+    bad[0] = bad[0] ^ 1;
+    let wrong = checks(
+        first,
+        started(Direction::Checking, set, key, nonce, bad),
+        ad,
+        n,
+        9,
+    );
+    say_number(b"checked right=", counted(right == wrong, right));
 }
 
 // One byte more than the associated data may have.
@@ -361,186 +338,58 @@ fn filled(stream: Stream, block: &[u8]) -> Stream {
 }
 
 // The answers at the limits: as many bytes of data, and of text, as a message may have, and one more.
-fn try_limits(key: &[u8], nonce: &[u8], long: &[u8]) {
-    let o = Stream::start(Direction::Checking, 1, key, nonce);
-    let s = o.next;
-    say_number(b"65537 bytes of data=", number_of(s.ad(long)));
-    say_number(
-        b"65536 bytes of data=",
-        number_of(s.ad(part(long, 0, 65536))),
-    );
-    let full = filled(s, part(long, 0, 65536));
-    say_number(b"1048576 bytes of text=", number_of(full.check(b"")));
-    say_number(b"1048577 bytes of text=", number_of(full.check(b"1")));
+fn try_limits(stream: Stream, long: &[u8]) {
+    let block = part(long, 0, 65536);
+    say_answer(b"65537 bytes of data=", stream.ad(long));
+    say_answer(b"65536 bytes of data=", stream.ad(block));
+    let full = filled(stream, block);
+    say_answer(b"1048576 bytes of text=", full.check(part(long, 0, 0)));
+    say_answer(b"1048577 bytes of text=", full.check(part(long, 0, 1)));
 }
 
-// The answer to a text of 53 bytes with room for 52.
-fn short_room(stream: Stream, text: &[u8]) -> u64 {
-    let mut out = [0; 52];
-    number_of(stream.seal(text, &mut out))
-}
-
-// The answer to finishing twice: the second.
-fn finished_twice(stream: Stream) -> u64 {
-    let mut tag = [0; 16];
+// The answers to calls on a sealing stream that the rules name: a text of 53 bytes with room for 52, a second finish, data after an empty text call.
+fn try_sealing(stream: Stream, text: &[u8]) {
+    let mut room = [0u8; 52];
+    say_answer(b"room one byte short=", stream.seal(text, &mut room));
+    let mut tag = [0u8; 16];
     let o = stream.finish_sealing(&mut tag);
     let ended = o.next;
-    number_of(ended.finish_sealing(&mut tag))
-}
-
-// The answer to data after an empty text call.
-fn data_after_text(stream: Stream) -> u64 {
-    let mut out = [0; 1];
-    let o = stream.seal(b"", &mut out);
-    let closed = o.next;
-    number_of(closed.ad(b"1"))
-}
-
-// The answers to calls on a sealing stream that the rules name.
-fn try_sealing(key: &[u8], nonce: &[u8], text: &[u8]) {
-    let o = Stream::start(Direction::Sealing, 1, key, nonce);
-    let s = o.next;
-    say_number(b"room one byte short=", short_room(s, text));
-    say_number(b"finishing twice=", finished_twice(s));
-    say_number(b"data after an empty text call=", data_after_text(s));
+    say_answer(b"finishing twice=", ended.finish_sealing(&mut tag));
+    let p = seal_short(stream, part(text, 0, 0));
+    let closed = p.next;
+    say_answer(b"data after an empty text call=", closed.ad(text));
 }
 
 // The answers to starts with a short key.
 fn try_starts(key: &[u8], nonce: &[u8]) {
-    say_number(
+    let few = part(key, 0, 15);
+    say_answer(
         b"key of 15 bytes=",
-        number_of(Stream::start(Direction::Sealing, 1, part(key, 0, 15), nonce)),
+        Stream::start(Direction::Sealing, 1, few, nonce),
     );
-    say_number(
+    say_answer(
         b"key of 15 bytes, nonce of 15=",
-        number_of(Stream::start(Direction::Sealing, 1, part(key, 0, 15), part(nonce, 0, 15))),
+        Stream::start(Direction::Sealing, 1, few, part(nonce, 0, 15)),
     );
 }
 
-// The number of an outcome.
-fn number_of(o: Outcome) -> u64 {
-    let answer = o.answer;
-    answers::number(answer)
+// A message in both sets, and the cases.
+fn try_all(key: &[u8], nonce: &[u8], ad: &[u8], text: &[u8]) {
+    try_set(1, key, nonce, ad, text);
+    try_set(2, part(key, 0, 12), part(nonce, 0, 12), ad, text);
+    let long = long();
+    let check = started(Direction::Checking, 1, key, nonce, [0; 16]);
+    try_limits(check.stream, &long);
+    let seal = started(Direction::Sealing, 1, key, nonce, [0; 16]);
+    try_sealing(seal.stream, text);
+    try_starts(key, nonce);
 }
 
 fn main() {
-    let key = [0, 1, 2, 3, 4, 5, 6, 7, 8, 9, 10, 11, 12, 13, 14, 15];
-    let nonce = [
-        16,
-        17,
-        18,
-        19,
-        20,
-        21,
-        22,
-        23,
-        24,
-        25,
-        26,
-        27,
-        28,
-        29,
-        30,
-        31,
-    ];
-    let ad = [
-        1,
-        8,
-        15,
-        22,
-        29,
-        36,
-        43,
-        50,
-        57,
-        64,
-        71,
-        78,
-        85,
-        92,
-        99,
-        106,
-        113,
-        120,
-        127,
-        134,
-        141,
-        148,
-        155,
-        162,
-        169,
-        176,
-        183,
-        190,
-        197,
-        204,
-        211,
-        218,
-        225,
-        232,
-        239,
-        246,
-        253,
-    ];
-    let text = [
-        3,
-        14,
-        25,
-        36,
-        47,
-        58,
-        69,
-        80,
-        91,
-        102,
-        113,
-        124,
-        135,
-        146,
-        157,
-        168,
-        179,
-        190,
-        201,
-        212,
-        223,
-        234,
-        245,
-        0,
-        11,
-        22,
-        33,
-        44,
-        55,
-        66,
-        77,
-        88,
-        99,
-        110,
-        121,
-        132,
-        143,
-        154,
-        165,
-        176,
-        187,
-        198,
-        209,
-        220,
-        231,
-        242,
-        253,
-        8,
-        19,
-        30,
-        41,
-        52,
-        63,
-    ];
-    try_set(1, &key, &nonce, &ad, &text);
-    try_set(2, &key[..12], &nonce[..12], &ad, &text);
-    let long = long();
-    try_limits(&key, &nonce, &long);
-    try_sealing(&key, &nonce, &text);
-    try_starts(&key, &nonce);
+    try_all(
+        b"\x00\x01\x02\x03\x04\x05\x06\x07\x08\x09\x0a\x0b\x0c\x0d\x0e\x0f",
+        b"\x10\x11\x12\x13\x14\x15\x16\x17\x18\x19\x1a\x1b\x1c\x1d\x1e\x1f",
+        b"\x01\x08\x0f\x16\x1d\x24\x2b\x32\x39\x40\x47\x4e\x55\x5c\x63\x6a\x71\x78\x7f\x86\x8d\x94\x9b\xa2\xa9\xb0\xb7\xbe\xc5\xcc\xd3\xda\xe1\xe8\xef\xf6\xfd",
+        b"\x03\x0e\x19\x24\x2f\x3a\x45\x50\x5b\x66\x71\x7c\x87\x92\x9d\xa8\xb3\xbe\xc9\xd4\xdf\xea\xf5\x00\x0b\x16\x21\x2c\x37\x42\x4d\x58\x63\x6e\x79\x84\x8f\x9a\xa5\xb0\xbb\xc6\xd1\xdc\xe7\xf2\xfd\x08\x13\x1e\x29\x34\x3f",
+    );
 }

@@ -11,7 +11,7 @@ use lib.Seq.{append-snoc}
 use borrow.Author.Tests.{ltb-true, ltb-false, leb-true, not-true, lt-ltb, le-ltb, le-leb, eq-eqb, ne-eqb}
 use Rattle.digits.specs.declared.numbers.Numeral.the-variants.{Number, NoNumber}
 use Rattle.digits.specs.Hex.{within, digitOf, allDigits}
-use Rattle.digits.specs.Numbers.{allDecimal, needlessZero, isNumeral, valueFrom, numberOf, placesIn, places, decimals, numeral}
+use Rattle.digits.specs.Numbers.{allDecimal, needlessZero, isNumeral, valueFrom, decimalOf, placesIn, places, decimals, numeral}
 use Rattle.digits.proofs.Spelling.{and-both, within-true, within-is}
 
 -- what holds of the numbers below ten, and goes on with each digit more, holds of all
@@ -144,8 +144,8 @@ value-numeral = by-digits (λ (n : ℕ). valueFrom 0 (numeral n) ≡ n) (λ d h.
     (λ n d l h e. rw (numeral-more n d l h, value-append, e) (omega arith))
 
 -- the numeral of a number of at most seven digits is read as this number
-pub numeral-number : (n : ℕ) → n ≤ 9_999_999 → numberOf (numeral n) ≡ Number n
-unfolding numberOf isNumeral
+pub numeral-number : (n : ℕ) → n ≤ 9_999_999 → decimalOf (numeral n) ≡ Number n
+unfolding decimalOf isNumeral
 numeral-number zero h = rw (numeral-one 0 (omega arith))
 numeral-number (suc n) h =
     let x : List ℕ = numeral (suc n) in
@@ -194,8 +194,8 @@ value-lt n (c ∷ text) e =
     rw (pow-suc 10 (length text)) (omega (arith, value-lt (10 * n + (c - 0x30)) text (b .1), mul-le-mul-right (10 ^ length text) k))
 
 -- a text that is read as a number is its numeral, of at most seven digits
-pub number-numeral : (text : List ℕ) (n : ℕ) → numberOf text ≡ Number n → (numeral n ≡ text) × (n ≤ 9_999_999)
-unfolding numberOf isNumeral
+pub number-numeral : (text : List ℕ) (n : ℕ) → decimalOf text ≡ Number n → (numeral n ≡ text) × (n ≤ 9_999_999)
+unfolding decimalOf isNumeral
 number-numeral text n = go (isNumeral text) refl
   where
     go : (t : Bool) → isNumeral text ≡ t → cond t (Number (valueFrom 0 text)) NoNumber ≡ Number n → (numeral n ≡ text) × (n ≤ 9_999_999)

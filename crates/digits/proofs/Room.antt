@@ -11,14 +11,14 @@ use borrow.Author.Tests.{le-leb, lt-leb, leb-true}
 use Rattle.digits.specs.Room.{lineOf, Laid, laid, put}
 
 -- a text that fits stands at the beginning
-pub put-fits : (text place : List ℕ) → length text ≤ length place → put text place ≡ laid (length text) (text ++ drop (length text) place)
+pub put-fits : (text out : List ℕ) → length text ≤ length out → put text out ≡ laid (length text) (text ++ drop (length text) out)
 unfolding put
-put-fits text place h = rw (le-leb (length text) (length place) h)
+put-fits text out h = rw (le-leb (length text) (length out) h)
 
 -- one that does not changes nothing
-pub put-short : (text place : List ℕ) → length place < length text → laid 0 place ≡ put text place
+pub put-short : (text out : List ℕ) → length out < length text → laid 0 out ≡ put text out
 unfolding put
-put-short text place h = rw (lt-leb (length text) (length place) h)
+put-short text out h = rw (lt-leb (length text) (length out) h)
 
 -- a count and a place that are those of a text put
 pub put-is : (text before after : List ℕ) (count : ℕ) → count ≡ length text → count ≤ length before → after ≡ text ++ drop count before
@@ -35,24 +35,28 @@ put-inside text before after count = go (leb (length text) (length before)) refl
         → laid count after ≡ cond t (laid (length text) (text ++ drop (length text) before)) (laid 0 before)
         → (count ≤ length after) × (length after ≡ length before)
     go true h e =
-        let size = ap (λ (l : Laid). length (l .place)) e ∙ length-append text (drop (length text) before) in
+        let size = ap (λ (l : Laid). length (l .out)) e ∙ length-append text (drop (length text) before) in
         let left = length-drop (length text) before in
         let room = leb-true (length text) (length before) h in
         let put = ap (λ (l : Laid). l .count) e in
         (omega arith, omega arith)
-    go false h e = (omega (arith, ap (λ (l : Laid). l .count) e), ap (λ (l : Laid). length (l .place)) e)
+    go false h e = (omega (arith, ap (λ (l : Laid). l .count) e), ap (λ (l : Laid). length (l .out)) e)
 
 -- what was put, where there is room
 pub put-count : (text before after : List ℕ) (count : ℕ) → laid count after ≡ put text before → length text ≤ length before
     → (count ≡ length text) × (after ≡ text ++ drop (length text) before)
 put-count text before after count e room =
     let f = e ∙ put-fits text before room in
-    (ap (λ (l : Laid). l .count) f, ap (λ (l : Laid). l .place) f)
+    (ap (λ (l : Laid). l .count) f, ap (λ (l : Laid). l .out) f)
+
+-- a place whose first m bytes stay, with another rest behind them
+abbrev pub behind : ℕ → List ℕ → List ℕ → List ℕ
+behind m out rest = take m out ++ (rest ++ drop (length out - m) (drop m out))
 
 -- a text put, and another into the rest of the place, straight after it
 pub put-after : (x y before between after : List ℕ) (m n : ℕ) → laid m between ≡ put x before → length (x ++ y) ≤ length before
     → laid n after ≡ put y (take (length between - m) (drop m between))
-    → laid (m + n) (take m between ++ (after ++ drop (length between - m) (drop m between))) ≡ put (x ++ y) before
+    → laid (m + n) (behind m between after) ≡ put (x ++ y) before
 put-after x y before between after m n e room f =
     let both = length-append x y in
     let first = put-count x before between m e (omega arith) in

@@ -11,7 +11,7 @@ use lib.Pow.{areBytes}
 use borrow.Author.Tests.{ltb-true, ltb-false, leb-true, lt-ltb, le-ltb, le-leb, lt-leb}
 use Rattle.digits.specs.declared.hex.Digit.{Digit}
 use Rattle.digits.specs.declared.hex.Digit.the-variants.{Value, NoDigit}
-use Rattle.digits.specs.Hex.{within, digitOf, pairOf, andThen, bytesOf, hexDigit, hexOf, allDigits}
+use Rattle.digits.specs.Hex.{within, digitOf, pairOf, andThen, fromHex, hexDigit, hexOf, allDigits}
 
 -- ---- tests
 
@@ -66,7 +66,7 @@ spelled-digit v h = go (ltb v 10) refl
 -- ---- bytes
 
 -- the digits of bytes are read as these bytes
-pub bytes-hex : (x : List ℕ) → areBytes x ≡ true → bytesOf (hexOf x) ≡ some x
+pub bytes-hex : (x : List ℕ) → areBytes x ≡ true → fromHex (hexOf x) ≡ some x
 bytes-hex [] e = refl
 bytes-hex (b ∷ x) e =
     let t = and-both (ltb b 256) _ e in
@@ -75,13 +75,13 @@ bytes-hex (b ∷ x) e =
     (ap (λ (c : ℕ). some (c ∷ x)) (omega arith))
 
 -- what a text is read as are bytes, and their digits are this text
-pub hex-bytes : (text x : List ℕ) → bytesOf text ≡ some x → (hexOf x ≡ text) × (areBytes x ≡ true)
+pub hex-bytes : (text x : List ℕ) → fromHex text ≡ some x → (hexOf x ≡ text) × (areBytes x ≡ true)
 hex-bytes [] x e = let f : x ≡ [] = sym (Option·some-injective [] x e) in rw f (refl, refl)
 hex-bytes (one ∷ []) x e = absurd (Option·none-ne-some x e)
-hex-bytes (high ∷ low ∷ text) x e = go (digitOf high) (digitOf low) (bytesOf text) refl refl refl e (hex-bytes text)
+hex-bytes (high ∷ low ∷ text) x e = go (digitOf high) (digitOf low) (fromHex text) refl refl refl e (hex-bytes text)
   where
-    go : (p q : Digit) (r : Option (List ℕ)) → digitOf high ≡ p → digitOf low ≡ q → bytesOf text ≡ r → andThen (pairOf p q) r ≡ some x
-        → ((y : List ℕ) → bytesOf text ≡ some y → (hexOf y ≡ text) × (areBytes y ≡ true))
+    go : (p q : Digit) (r : Option (List ℕ)) → digitOf high ≡ p → digitOf low ≡ q → fromHex text ≡ r → andThen (pairOf p q) r ≡ some x
+        → ((y : List ℕ) → fromHex text ≡ some y → (hexOf y ≡ text) × (areBytes y ≡ true))
         → (hexOf x ≡ high ∷ low ∷ text) × (areBytes x ≡ true)
     go (Value a) (Value b) (some y) f g h e rest =
         let s = digit-spells high a f in

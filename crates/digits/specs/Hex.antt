@@ -38,10 +38,10 @@ andThen (Byte b) none = none
 andThen NoByte x = none
 
 -- the bytes of a text of digits
-abbrev pub bytesOf : List ℕ → Option (List ℕ)
-bytesOf [] = some []
-bytesOf (one ∷ []) = none
-bytesOf (high ∷ low ∷ text) = andThen (pairOf (digitOf high) (digitOf low)) (bytesOf text)
+abbrev pub fromHex : List ℕ → Option (List ℕ)
+fromHex [] = some []
+fromHex (one ∷ []) = none
+fromHex (high ∷ low ∷ text) = andThen (pairOf (digitOf high) (digitOf low)) (fromHex text)
 
 -- ---- writing
 

@@ -29,8 +29,8 @@ valueFrom n [] = n
 valueFrom n (character ∷ text) = valueFrom (10 * n + (character - 0x30)) text
 
 -- the number of a numeral
-unfoldable pub numberOf : List ℕ → Numeral
-numberOf text = cond (isNumeral text) (Number (valueFrom 0 text)) NoNumber
+unfoldable pub decimalOf : List ℕ → Numeral
+decimalOf text = cond (isNumeral text) (Number (valueFrom 0 text)) NoNumber
 
 -- ---- writing
 

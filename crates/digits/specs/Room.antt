@@ -12,11 +12,11 @@ lineOf name value = name ++ (value ++ 0x0a ∷ [])
 -- how many bytes were put, and what the place then holds
 pub record Laid : Type 0 where
   pub count : ℕ
-  pub place : List ℕ
+  pub out : List ℕ
 
 abbrev pub laid : ℕ → List ℕ → Laid
-laid count place = record { count = count; place = place }
+laid count out = record { count = count; out = out }
 
 -- the text, with the rest of the place behind it; a place too short stays as it is
 unfoldable pub put : List ℕ → List ℕ → Laid
-put text place = cond (leb (length text) (length place)) (laid (length text) (text ++ drop (length text) place)) (laid 0 place)
+put text out = cond (leb (length text) (length out)) (laid (length text) (text ++ drop (length text) out)) (laid 0 out)

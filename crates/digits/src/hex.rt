@@ -73,16 +73,16 @@ fn spelled(value: u8) -> u8
 }
 
 // Puts bytes at the beginning of a place, two digits each, and gives how many digits; a place too short for them stays as it is, and the number is 0.
-pub fn put_bytes(bytes: &[u8], place: &mut [u8]) -> usize
-    ensures { λ r. ⌜ laid r (now (place .exit)) ≡ put (hexOf (now (bytes .entry))) (now (place .entry)) ⌝ }
+pub fn put_bytes(bytes: &[u8], out: &mut [u8]) -> usize
+    ensures { λ r. ⌜ laid r (now (out .exit)) ≡ put (hexOf (now (bytes .entry))) (now (out .entry)) ⌝ }
 {
-    if place.len() / 2 < bytes.len() {
+    if out.len() / 2 < bytes.len() {
         return 0;
     }
     let mut i = 0;
     while i < bytes.len() {
-        place[2 * i] = spelled(bytes[i] / 16);
-        place[2 * i + 1] = spelled(bytes[i] % 16);
+        out[2 * i] = spelled(bytes[i] / 16);
+        out[2 * i + 1] = spelled(bytes[i] % 16);
         i += 1;
     }
     2 * bytes.len()

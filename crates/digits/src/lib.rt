@@ -16,23 +16,23 @@ pub use numbers::put_number;
 pub use numbers::read_number;
 
 // Puts a text at the beginning of a place, and gives its length; a place too short for it stays as it is, and the length is 0.
-pub fn put_text(text: &[u8], place: &mut [u8]) -> usize
-    ensures { λ r. ⌜ laid r (now (place .exit)) ≡ put (now (text .entry)) (now (place .entry)) ⌝ }
+pub fn put_text(text: &[u8], out: &mut [u8]) -> usize
+    ensures { λ r. ⌜ laid r (now (out .exit)) ≡ put (now (text .entry)) (now (out .entry)) ⌝ }
 {
-    if place.len() < text.len() {
+    if out.len() < text.len() {
         return 0;
     }
-    bytes::copy(text, place)
+    bytes::copy(text, out)
 }
 
 // Puts a line, a name, a value and a line feed, at the beginning of a place, and gives its length; a place too short for it stays as it is, and the length is 0.
-pub fn put_line(name: &[u8], value: &[u8], place: &mut [u8]) -> usize
-    ensures { λ r. ⌜ laid r (now (place .exit)) ≡ put (lineOf (now (name .entry)) (now (value .entry))) (now (place .entry)) ⌝ }
+pub fn put_line(name: &[u8], value: &[u8], out: &mut [u8]) -> usize
+    ensures { λ r. ⌜ laid r (now (out .exit)) ≡ put (lineOf (now (name .entry)) (now (value .entry))) (now (out .entry)) ⌝ }
 {
-    if place.len() < name.len() + value.len() + 1 {
+    if out.len() < name.len() + value.len() + 1 {
         return 0;
     }
-    let named = put_text(name, place);
-    let valued = named + put_text(value, &mut place[named..]);
-    valued + put_text(b"\n", &mut place[valued..])
+    let named = put_text(name, out);
+    let valued = named + put_text(value, &mut out[named..]);
+    valued + put_text(b"\n", &mut out[valued..])
 }

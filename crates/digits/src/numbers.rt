@@ -1,6 +1,6 @@
 // Decimal numerals, with no needless leading zero.
 ghost use mathlib.Core.Path.{_≡_};
-ghost use Rattle.digits.specs.Numbers.{needlessZero, numberOf, places, numeral};
+ghost use Rattle.digits.specs.Numbers.{needlessZero, decimalOf, places, numeral};
 ghost use Rattle.digits.specs.Room.{laid, put};
 
 // What a text is as a number.
@@ -21,7 +21,7 @@ fn needless_zero(text: &[u8]) -> bool
 
 // The number of a numeral of one to seven digits.
 pub fn read_number(text: &[u8]) -> Numeral
-    ensures { λ r. ⌜ r ≡ numberOf (now (text .entry)) ⌝ }
+    ensures { λ r. ⌜ r ≡ decimalOf (now (text .entry)) ⌝ }
 {
     if text.len() == 0 {
         return Numeral::NoNumber;
@@ -62,18 +62,18 @@ pub fn number_length(n: u64) -> usize
 }
 
 // Puts the numeral of a number at the beginning of a place, and gives its length; a place too short for it stays as it is, and the length is 0.
-pub fn put_number(n: u64, place: &mut [u8]) -> usize
-    ensures { λ r. ⌜ laid r (now (place .exit)) ≡ put (numeral n) (now (place .entry)) ⌝ }
+pub fn put_number(n: u64, out: &mut [u8]) -> usize
+    ensures { λ r. ⌜ laid r (now (out .exit)) ≡ put (numeral n) (now (out .entry)) ⌝ }
 {
     let count = number_length(n);
-    if place.len() < count {
+    if out.len() < count {
         return 0;
     }
     let mut i = count;
     let mut rest = n;
     while 0 < i {
         i -= 1;
-        place[i] = b'0' + (rest % 10) as u8;
+        out[i] = b'0' + (rest % 10) as u8;
         rest /= 10;
     }
     count

@@ -1,108 +1,39 @@
 -- Cutting a message does not matter: the demand, from the history law and its other half.
 use mathlib.Core.Path.{_≡_, refl, sym, ap, ap₂, _∙_, subst}
-use mathlib.Core.Bool.{Bool, true, false, cond, _&&_}
+use mathlib.Core.Bool.{Bool, true, false, cond, not, _&&_}
 use mathlib.Core.List.{List, [], _++_, append-nil, append-assoc}
 use mathlib.Core.Option.{some, none}
 use Prim.Native.Nat.{ℕ, _+_, _-_, _≤_}
 use native.Mathlib.Omega.{arith}
-use lib.Dec.{leb}
 use lib.ListN.{length, length-append}
 use lib.Seq.{take-at}
-use borrow.Author.Tests.{le-leb}
-use Rattle.answers.specs.declared.Answer.{Answer}
-use Rattle.answers.specs.declared.Answer.the-variants.{Done, NoRoom, TagDiffers}
-use Rattle.answers.specs.Numbers.{numberOf, isDone}
+use Rattle.answers.specs.declared.Answer.the-variants.{Done, TagDiffers}
+use Rattle.answers.specs.Numbers.{isDone}
 use Rattle.permutation.specs.Runs.{constants, constantsOf, roundsOf}
-use Rattle.permutation.specs.Strings.{Bytes, wordsOfString}
-use Rattle.ascon.specs.Sets.{rowOf, dataLimit, textLimit}
-use Rattle.ascon.specs.Mode.{zeros, beforeText, encrypted, decrypted, Sealed, sealed, same, opened, finalise}
+use Rattle.permutation.specs.Strings.{wordsOfString, zeros, same}
+use Rattle.ascon.specs.Sets.{ParameterSet, rowOf, adLimit, textLimit}
+use Rattle.ascon.specs.Mode.{beforeText, encrypted, decrypted, Sealed, sealed, opened, finalise}
 use Rattle.ascon.specs.Bytewise.{closed}
 use Rattle.ascon.specs.Rounds.{messageRounds}
 use Rattle.ascon.proofs.Sealing.{length-tag, open-sealed, seal-opened}
-use Rattle.sponge.specs.Sponge.{absorbed, tagOf}
+use Rattle.sponge.specs.Sponge.{tagOf}
 use Rattle.sets.proofs.Rows.{row-sizes}
 use Rattle.stream.specs.declared.Direction.{Direction}
 use Rattle.stream.specs.declared.Direction.the-variants.{Sealing, Checking}
 use Rattle.stream.specs.declared.Phase.{Phase}
-use Rattle.stream.specs.declared.Phase.the-variants.{Data, Text}
+use Rattle.stream.specs.declared.Phase.the-variants.{Ad, Text}
 use Rattle.stream.specs.declared.Stream.{Stream}
 use Rattle.stream.specs.declared.Outcome.{Outcome}
-use Rattle.stream.specs.State.{isData, isOpen, isSealing, isChecking, isSound}
-use Rattle.stream.specs.Calls.{pieceTest, finishTest, startCall, tookData, textWords, tookText, closingRounds, Called, ownTag, finishCheckingCall}
-use Rattle.history.specs.History.{ours, Call, giveAd, giveText, giveCipher, textCall, endSealing, endChecking, reply, History, begun, next, after, BytesIn, wayOf, stateAt, roundsAt, Fitting.ad-fits, Fitting.text-fits, NeverRefused}
-use Rattle.history.specs.Cuts.{Refused, TextCut, TextCut.text-end, TextCut.text-refusal, TextCut.text-piece, Cut, Cut.data-end, Cut.data-refusal, Cut.data-piece, Message, SealedWhole, CheckedWhole, CuttingDoesNotMatter}
+use Rattle.stream.specs.State.{isDirection, wayOf, givesText, isAd, isOpen, fits, isSound}
+use Rattle.stream.specs.Calls.{closingRounds, finishTest, Start, textWords, tookText, ownTag, finishCall}
+use Rattle.stream.proofs.Tests.{own-direction}
+use Rattle.history.specs.History.{ours, Call, giveAd, giveText, finish, reply, History, begun, next, after, BytesIn, Started, stateAt, roundsAt, Fitting.ad-fits, Fitting.text-fits, NeverRefused}
+use Rattle.history.specs.Cuts.{RefusedCall, TextCut, TextCut.text-end, TextCut.text-refusal, TextCut.text-piece, Cut, Cut.ad-end, Cut.ad-refusal, Cut.ad-piece, Message, SealedWhole, CheckedWhole, CuttingDoesNotMatter}
 use Rattle.sponge.proofs.Fronts.{stood, tag-is, l₁, b₁, sealed-end, checked-end}
 use Rattle.history.proofs.Rounds.{rounds-whole}
-use Rattle.history.proofs.Replies.{next-is, next-refused, data-refused, data-done, seal-refused, seal-short, seal-done, check-refused, check-done, finish-sealing-refused, finish-sealing-done, finish-checking-refused, finish-checking-done}
-use Rattle.history.proofs.History.{Reached, Ready, ready, advance, reached, told, history-law, start-state, fit, key}
-use Rattle.history.proofs.Accepted.{fits-piece, fits-finish, reached-sound}
-
--- ---- a refusal with 4 to 8 leaves the history as it was
-
--- the number of what the call answers
-number-of : (s : Stream) (call : Call) (r : Outcome) → Refused ours s call → reply ours s call ≡ r → (4 ≤ numberOf (r .answer)) × (numberOf (r .answer) ≤ 8)
-number-of s call r f e =
-    (subst (λ (x : Outcome). 4 ≤ numberOf (x .answer)) e (f .least), subst (λ (x : Outcome). numberOf (x .answer) ≤ 8) e (f .most))
-
-refused-next : (h : History) (call : Call) → Refused ours (h .stream) call → next ours h call ≡ h
-unfolding tookText
-refused-next h (giveAd piece) r = go (isDone test) refl
-  where
-    s : Stream
-    s = h .stream
-
-    test : Answer
-    test = pieceTest s (isData (s .phase)) (s .ad) (length piece) dataLimit
-
-    go : (t : Bool) → isDone test ≡ t → next ours h (giveAd piece) ≡ h
-    go true e = absurd (let no : 4 ≤ 0 = number-of s (giveAd piece) _ r (data-done s piece e) .0 in omega arith)
-    go false e = next-refused h (giveAd piece) test (data-refused s piece e) e
-refused-next h (giveText piece out) r = go (isDone test) refl (leb (length piece) (length out)) refl
-  where
-    s : Stream
-    s = h .stream
-
-    test : Answer
-    test = pieceTest s (isOpen (s .phase) && isSealing (s .direction)) (s .text) (length piece) textLimit
-
-    go : (t : Bool) → isDone test ≡ t → (u : Bool) → leb (length piece) (length out) ≡ u → next ours h (giveText piece out) ≡ h
-    go true e true f = absurd (let no : 4 ≤ 0 = number-of s (giveText piece out) _ r (ap (λ (c : Called). c .outcome) (seal-done s piece out e f)) .0 in omega arith)
-    go true e false f = next-refused h (giveText piece out) NoRoom (ap (λ (c : Called). c .outcome) (seal-short s piece out e f)) refl
-    go false e u f = next-refused h (giveText piece out) test (ap (λ (c : Called). c .outcome) (seal-refused s piece out e)) e
-refused-next h (giveCipher piece) r = go (isDone test) refl
-  where
-    s : Stream
-    s = h .stream
-
-    test : Answer
-    test = pieceTest s (isOpen (s .phase) && isChecking (s .direction)) (s .text) (length piece) textLimit
-
-    go : (t : Bool) → isDone test ≡ t → next ours h (giveCipher piece) ≡ h
-    go true e = absurd (let no : 4 ≤ 0 = number-of s (giveCipher piece) _ r (check-done s piece e) .0 in omega arith)
-    go false e = next-refused h (giveCipher piece) test (check-refused s piece e) e
-refused-next h (endSealing tag) r = go (isDone test) refl
-  where
-    s : Stream
-    s = h .stream
-
-    test : Answer
-    test = finishTest s (isOpen (s .phase) && isSealing (s .direction)) (length tag)
-
-    go : (t : Bool) → isDone test ≡ t → next ours h (endSealing tag) ≡ h
-    go true e = absurd (let no : 4 ≤ 0 = number-of s (endSealing tag) _ r (ap (λ (c : Called). c .outcome) (finish-sealing-done s tag e)) .0 in omega arith)
-    go false e = next-refused h (endSealing tag) test (ap (λ (c : Called). c .outcome) (finish-sealing-refused s tag e)) e
-refused-next h (endChecking tag) r = go (isDone test) refl (same tag (ownTag s)) refl
-  where
-    s : Stream
-    s = h .stream
-
-    test : Answer
-    test = finishTest s (isOpen (s .phase) && isChecking (s .direction)) (length tag)
-
-    go : (t : Bool) → isDone test ≡ t → (u : Bool) → same tag (ownTag s) ≡ u → next ours h (endChecking tag) ≡ h
-    go true e true f = absurd (let no : 4 ≤ 0 = rw f at (number-of s (endChecking tag) _ r (finish-checking-done s tag e) .0) in omega arith)
-    go true e false f = absurd (let no : 9 ≤ 8 = rw f at (number-of s (endChecking tag) _ r (finish-checking-done s tag e) .1) in omega arith)
-    go false e u f = next-refused h (endChecking tag) test (finish-checking-refused s tag e) e
+use Rattle.history.proofs.Replies.{doneOf, reply-refused, reply-done, tag-left, next-is, refused-next}
+use Rattle.history.proofs.History.{Reached, Ready, ready, advance, reached, told, history-law, start-state, fit, key, stoodAt}
+use Rattle.history.proofs.Accepted.{fits-piece, fits-text, fits-finish, reached-sound}
 
 -- ---- following a cutting
 
@@ -119,19 +50,18 @@ next-stream h call e = ap (λ (x : Stream). reply ours x call .next) e
 
 -- ---- a piece that fits is taken
 
-data-reply : (s : Stream) (piece : List ℕ) → isSound s ≡ true → s .phase ≡ Data → s .ad + length piece ≤ dataLimit → reply ours s (giveAd piece) ≡ tookData s piece
-data-reply s piece sound e l = data-done s piece (fits-piece s (isData (s .phase)) (s .ad) (length piece) dataLimit sound (ap isData e) l)
+ad-reply : (s : Stream) (piece : List ℕ) → isSound s ≡ true → s .phase ≡ Ad → s .ad + length piece ≤ adLimit → reply ours s (giveAd piece) ≡ doneOf s (giveAd piece)
+ad-reply s piece sound e l = reply-done s (giveAd piece) (fits-piece s (isAd (s .phase)) (s .ad) (length piece) adLimit sound (ap isAd e) l)
 
--- the words that it leaves
+-- a call for the stream's own direction is in its place while the stream is open
+fits-own : (d : Direction) (s : Stream) → isOpen (s .phase) ≡ true → s .direction ≡ d → fits d s ≡ true
+fits-own d s o e = ap₂ _&&_ o (ap (isDirection d) e ∙ own-direction d)
+
 text-reply : (d : Direction) (s : Stream) (piece out : List ℕ) → isSound s ≡ true → isOpen (s .phase) ≡ true → s .direction ≡ d
-    → s .text + length piece ≤ textLimit → length piece ≤ length out
-    → reply ours s (textCall d piece out) ≡ tookText s (absorbed (rowOf (s .set)) (wayOf d) (textWords s) (s .text) piece) (length piece)
-text-reply Sealing s piece out sound o e l m =
-    ap (λ (c : Called). c .outcome)
-    (seal-done s piece out (fits-piece s (isOpen (s .phase) && isSealing (s .direction)) (s .text) (length piece) textLimit sound (ap₂ _&&_ o (ap isSealing e)) l)
-    (le-leb (length piece) (length out) m))
-text-reply Checking s piece out sound o e l m =
-    check-done s piece (fits-piece s (isOpen (s .phase) && isChecking (s .direction)) (s .text) (length piece) textLimit sound (ap₂ _&&_ o (ap isChecking e)) l)
+    → s .text + length piece ≤ textLimit → (givesText d ≡ true → length piece ≤ length out)
+    → reply ours s (giveText d piece out) ≡ doneOf s (giveText d piece out)
+text-reply d s piece out sound o e l m =
+    reply-done s (giveText d piece out) (fits-text d s (length piece) (length out) sound (fits-own d s o e) l m)
 
 -- the history after it
 record Taken (h g : History) (ad text : List ℕ) (phase : Phase) : Type 0 where
@@ -139,41 +69,47 @@ record Taken (h g : History) (ad text : List ℕ) (phase : Phase) : Type 0 where
   ad-is : g .ad ≡ h .ad ++ ad
   text-is : g .text ≡ h .text ++ text
 
-data-taken : (h : History) (piece : List ℕ) → isSound (h .stream) ≡ true → h .stream .phase ≡ Data → h .stream .ad + length piece ≤ dataLimit → Taken h (next ours h (giveAd piece)) piece [] Data
-data-taken h piece sound e l =
-    let to = next-is h (giveAd piece) (tookData (h .stream) piece) true (data-reply (h .stream) piece sound e l) refl in
+ad-taken : (h : History) (piece : List ℕ) → isSound (h .stream) ≡ true → h .stream .phase ≡ Ad → h .stream .ad + length piece ≤ adLimit → Taken h (next ours h (giveAd piece)) piece [] Ad
+ad-taken h piece sound e l =
+    let to = next-is h (giveAd piece) (doneOf (h .stream) (giveAd piece)) true (ad-reply (h .stream) piece sound e l) refl in
     record { phase-is = ap (λ (g : History). g .stream .phase) to ∙ e; ad-is = ap (λ (g : History). g .ad) to; text-is = ap (λ (g : History). g .text) to }
 
 text-taken : (d : Direction) (h : History) (piece out : List ℕ) → isSound (h .stream) ≡ true → isOpen (h .stream .phase) ≡ true → h .stream .direction ≡ d
-    → h .stream .text + length piece ≤ textLimit → length piece ≤ length out → Taken h (next ours h (textCall d piece out)) [] piece Text
+    → h .stream .text + length piece ≤ textLimit → (givesText d ≡ true → length piece ≤ length out) → Taken h (next ours h (giveText d piece out)) [] piece Text
 unfolding tookText
-text-taken Sealing h piece out sound o e l m =
-    let to = next-is h (giveText piece out) _ true (text-reply Sealing (h .stream) piece out sound o e l m) refl in
-    record { phase-is = ap (λ (g : History). g .stream .phase) to; ad-is = ap (λ (g : History). g .ad) to; text-is = ap (λ (g : History). g .text) to }
-text-taken Checking h piece out sound o e l m =
-    let to = next-is h (giveCipher piece) _ true (text-reply Checking (h .stream) piece out sound o e l m) refl in
+text-taken d h piece out sound o e l m =
+    let to = next-is h (giveText d piece out) (doneOf (h .stream) (giveText d piece out)) true (text-reply d (h .stream) piece out sound o e l m) refl in
     record { phase-is = ap (λ (g : History). g .stream .phase) to; ad-is = ap (λ (g : History). g .ad) to; text-is = ap (λ (g : History). g .text) to }
 
 pub never-refused : NeverRefused ours
 unfolding tookText
-never-refused d set K N done kb calls b o call (ad-fits piece e l) =
-    let h : History = after ours (begun ours d set K N) calls in
-    let r : Reached d set K N done kb h = reached d set K N done kb calls b in
-    let y : Ready d set K N done kb h = ready d set K N done kb h r o in
-    ap (λ (x : Outcome). x .answer) (data-reply (h .stream) piece (reached-sound d set K N done kb h r o) e (rw (y .ad-is) l))
-never-refused d set K N done kb calls b o call (text-fits piece out l m) =
-    let h : History = after ours (begun ours d set K N) calls in
-    let r : Reached d set K N done kb h = reached d set K N done kb calls b in
-    let y : Ready d set K N done kb h = ready d set K N done kb h r o in
-    ap (λ (x : Outcome). x .answer) (text-reply d (h .stream) piece out (reached-sound d set K N done kb h r o) o (y .direction-is) (rw (y .text-is) l) m)
+never-refused start begins calls b o call (ad-fits piece e l) =
+    let h : History = after ours (begun ours start) calls in
+    let r : Reached start begins h = reached start begins calls b in
+    let y : Ready start begins h = ready start begins h r o in
+    ap (λ (x : Outcome). x .answer) (ad-reply (h .stream) piece (reached-sound start begins h r o) e (rw (y .ad-is) l))
+never-refused start begins calls b o call (text-fits piece out l m) =
+    let h : History = after ours (begun ours start) calls in
+    let r : Reached start begins h = reached start begins calls b in
+    let y : Ready start begins h = ready start begins h r o in
+    ap (λ (x : Outcome). x .answer) (text-reply (start .direction) (h .stream) piece out (reached-sound start begins h r o) o (y .direction-is) (rw (y .text-is) l) m)
 
-module _ (d : Direction) (set : ℕ) (K N : List ℕ) (done : isDone (startCall d set K N .answer) ≡ true) (kb : Bytes K) where
-  follow-text : {s : Stream} {T : List ℕ} {calls : List Call} → TextCut ours d s T calls → (h : History) → h .stream ≡ s → Reached d set K N done kb h
+module _ (start : Start) (begins : Started ours start) where
+  abbrev d : Direction
+  d = start .direction
+
+  abbrev K : List ℕ
+  K = start .key
+
+  abbrev N : List ℕ
+  N = start .nonce
+
+  follow-text : {s : Stream} {T : List ℕ} {calls : List Call} → TextCut ours d s T calls → (h : History) → h .stream ≡ s → Reached start begins h
       → isOpen (h .stream .phase) ≡ true → BytesIn calls → length (h .text) + length T ≤ textLimit → Followed (after ours h calls) (h .ad) (h .text ++ T)
   follow-text text-end h e r o b l = record { open-still = o; ad-is = refl; text-is = sym (append-nil (h .text)) }
   follow-text (text-refusal {T = T} {calls = calls} call f cut) h e r o b l =
-      let same-h : next ours h call ≡ h = refused-next h call (subst (λ (x : Stream). Refused ours x call) (sym e) f) in
-      let g = follow-text cut (next ours h call) (ap (λ (x : History). x .stream) same-h ∙ e) (advance d set K N done kb h call (b .0) (b .1) r)
+      let same-h : next ours h call ≡ h = refused-next h call (subst (λ (x : Stream). RefusedCall ours x call) (sym e) f) in
+      let g = follow-text cut (next ours h call) (ap (λ (x : History). x .stream) same-h ∙ e) (advance start begins h call (b .0) (b .1) r)
       (ap (λ (x : History). isOpen (x .stream .phase)) same-h ∙ o) (b .2) (subst (λ (x : History). length (x .text) + length T ≤ textLimit) (sym same-h) l) in
       record {
         open-still = g .open-still;
@@ -181,36 +117,36 @@ module _ (d : Direction) (set : ℕ) (K N : List ℕ) (done : isDone (startCall 
         text-is = g .text-is ∙ ap (λ (x : History). x .text ++ T) same-h;
       }
   follow-text (text-piece {T = T} {calls = calls} piece out m cut) h e r o b l =
-      let call : Call = textCall d piece out in
-      let y = ready d set K N done kb h r o in
+      let call : Call = giveText d piece out in
+      let y = ready start begins h r o in
       let lt : length (piece ++ T) ≡ length piece + length T = length-append piece T in
-      let t = text-taken d h piece out (reached-sound d set K N done kb h r o) o (y .direction-is) (rw (y .text-is) (omega arith)) m in
+      let t = text-taken d h piece out (reached-sound start begins h r o) o (y .direction-is) (rw (y .text-is) (omega arith)) m in
       let lh : length (next ours h call .text) ≡ length (h .text) + length piece = ap length (t .text-is) ∙ length-append (h .text) piece in
-      let g = follow-text cut (next ours h call) (next-stream h call e) (advance d set K N done kb h call (b .0) (b .1) r) (ap isOpen (t .phase-is)) (b .2) (omega arith) in
+      let g = follow-text cut (next ours h call) (next-stream h call e) (advance start begins h call (b .0) (b .1) r) (ap isOpen (t .phase-is)) (b .2) (omega arith) in
       record {
         open-still = g .open-still;
         ad-is = g .ad-is ∙ t .ad-is ∙ append-nil (h .ad);
         text-is = g .text-is ∙ ap (λ (x : List ℕ). x ++ T) (t .text-is) ∙ append-assoc (h .text) piece T;
       }
 
-  follow : {s : Stream} {A T : List ℕ} {calls : List Call} → Cut ours d s A T calls → (h : History) → h .stream ≡ s → Reached d set K N done kb h
-      → h .stream .phase ≡ Data → h .text ≡ [] → BytesIn calls → length (h .ad) + length A ≤ dataLimit → length T ≤ textLimit → Followed (after ours h calls) (h .ad ++ A) T
-  follow (data-end {T = T} {calls = calls} cut) h e r o z b l m =
+  follow : {s : Stream} {A T : List ℕ} {calls : List Call} → Cut ours d s A T calls → (h : History) → h .stream ≡ s → Reached start begins h
+      → h .stream .phase ≡ Ad → h .text ≡ [] → BytesIn calls → length (h .ad) + length A ≤ adLimit → length T ≤ textLimit → Followed (after ours h calls) (h .ad ++ A) T
+  follow (ad-end {T = T} {calls = calls} cut) h e r o z b l m =
       let g = follow-text cut h e r (ap isOpen o) b (subst (λ (x : List ℕ). length x + length T ≤ textLimit) (sym z) (omega arith)) in
       record { open-still = g .open-still; ad-is = g .ad-is ∙ sym (append-nil (h .ad)); text-is = g .text-is ∙ ap (λ (x : List ℕ). x ++ T) z }
-  follow (data-refusal {A = A} {T = T} {calls = calls} call f cut) h e r o z b l m =
-      let same-h : next ours h call ≡ h = refused-next h call (subst (λ (x : Stream). Refused ours x call) (sym e) f) in
-      let g = follow cut (next ours h call) (ap (λ (x : History). x .stream) same-h ∙ e) (advance d set K N done kb h call (b .0) (b .1) r)
+  follow (ad-refusal {A = A} {T = T} {calls = calls} call f cut) h e r o z b l m =
+      let same-h : next ours h call ≡ h = refused-next h call (subst (λ (x : Stream). RefusedCall ours x call) (sym e) f) in
+      let g = follow cut (next ours h call) (ap (λ (x : History). x .stream) same-h ∙ e) (advance start begins h call (b .0) (b .1) r)
       (ap (λ (x : History). x .stream .phase) same-h ∙ o) (ap (λ (x : History). x .text) same-h ∙ z) (b .2)
-      (subst (λ (x : History). length (x .ad) + length A ≤ dataLimit) (sym same-h) l) m in
+      (subst (λ (x : History). length (x .ad) + length A ≤ adLimit) (sym same-h) l) m in
       record { open-still = g .open-still; ad-is = g .ad-is ∙ ap (λ (x : History). x .ad ++ A) same-h; text-is = g .text-is }
-  follow (data-piece {A = A} {T = T} {calls = calls} piece cut) h e r o z b l m =
+  follow (ad-piece {A = A} {T = T} {calls = calls} piece cut) h e r o z b l m =
       let call : Call = giveAd piece in
-      let y = ready d set K N done kb h r (ap isOpen o) in
+      let y = ready start begins h r (ap isOpen o) in
       let lt : length (piece ++ A) ≡ length piece + length A = length-append piece A in
-      let t = data-taken h piece (reached-sound d set K N done kb h r (ap isOpen o)) o (rw (y .ad-is) (omega arith)) in
+      let t = ad-taken h piece (reached-sound start begins h r (ap isOpen o)) o (rw (y .ad-is) (omega arith)) in
       let lh : length (next ours h call .ad) ≡ length (h .ad) + length piece = ap length (t .ad-is) ∙ length-append (h .ad) piece in
-      let g = follow cut (next ours h call) (next-stream h call e) (advance d set K N done kb h call (b .0) (b .1) r) (t .phase-is) (t .text-is ∙ append-nil (h .text) ∙ z) (b .2) (omega arith) m in
+      let g = follow cut (next ours h call) (next-stream h call e) (advance start begins h call (b .0) (b .1) r) (t .phase-is) (t .text-is ∙ append-nil (h .text) ∙ z) (b .2) (omega arith) m in
       record {
         open-still = g .open-still;
         ad-is = g .ad-is ∙ ap (λ (x : List ℕ). x ++ A) (t .ad-is) ∙ append-assoc (h .ad) piece A;
@@ -218,66 +154,100 @@ module _ (d : Direction) (set : ℕ) (K N : List ℕ) (done : isDone (startCall 
       }
 
   -- the whole cutting, from the start
-  followed : (A T : List ℕ) (calls : List Call) → BytesIn calls → length A ≤ dataLimit → length T ≤ textLimit → Cut ours d (begun ours d set K N .stream) A T calls
-      → Followed (after ours (begun ours d set K N) calls) A T
+  followed : (A T : List ℕ) (calls : List Call) → BytesIn calls → length A ≤ adLimit → length T ≤ textLimit → Cut ours d (begun ours start .stream) A T calls
+      → Followed (after ours (begun ours start) calls) A T
   unfolding stateAt
   followed A T calls b l m cut =
-      follow cut (begun ours d set K N) refl (reached d set K N done kb [] tt) (ap (λ (s : Stream). s .phase) (start-state d set K N done kb)) refl b (omega arith) m
+      follow cut (begun ours start) refl (reached start begins [] tt) (ap (λ (s : Stream). s .phase) (start-state start begins)) refl b (omega arith) m
 
   -- the stream's own tag, by the published definition
-  own-tag : (h : History) → Ready d set K N done kb h
-      → ownTag (h .stream)
-      ≡ finalise (rowOf set) K
-      (closed (stood (rowOf set) (fit d set K N done kb) (wayOf d) (beforeText (rowOf set) K N (h .ad))
-      (l₁ (rowOf set) (fit d set K N done kb) K N (key d set K N done kb) kb (h .ad)) (b₁ (rowOf set) (fit d set K N done kb) K N (key d set K N done kb) kb (h .ad)) (h .text)))
+  own-tag : (h : History) → Ready start begins h → ownTag (h .stream) ≡ finalise (rowOf (start .set)) K (closed (stoodAt start begins (h .ad) (h .text)))
   own-tag h y =
       let s : Stream = h .stream in
-      let f = fit d set K N done kb in
-      let k = key d set K N done kb in
-      let S = beforeText (rowOf set) K N (h .ad) in
-      let l = l₁ (rowOf set) f K N k kb (h .ad) in
-      let b = b₁ (rowOf set) f K N k kb (h .ad) in
+      let row = rowOf (start .set) in
+      let f = fit start begins in
+      let k = key start begins in
+      let kb = begins .key-bytes in
+      let after = stoodAt start begins (h .ad) (h .text) in
       ap (λ (n : ℕ). tagOf (rowOf n) (textWords s) (s .text) (s .key)) (y .set-is)
-      ∙ ap₂ (λ (w : List ℕ) (n : ℕ). tagOf (rowOf set) w n (s .key)) (y .words-is) (y .text-is)
-      ∙ ap (λ (x : List ℕ). tagOf (rowOf set) (wordsOfString (stood (rowOf set) f (wayOf d) S l b (h .text) .state)) (length (h .text)) x) (y .key-is)
-      ∙ tag-is (rowOf set) f (wayOf d) S l b (h .text) (K ++ zeros (16 - length K)) (y .text-bounded .bytes)
-      ∙ ap (λ (x : List ℕ). finalise (rowOf set) x (closed (stood (rowOf set) f (wayOf d) S l b (h .text)))) (take-at K (zeros (16 - length K)) (rowOf set .key) k)
+      ∙ ap₂ (λ (w : List ℕ) (n : ℕ). tagOf row w n (s .key)) (y .words-is) (y .text-is)
+      ∙ ap (λ (x : List ℕ). tagOf row (wordsOfString (after .state)) (length (h .text)) x) (y .key-is)
+      ∙ tag-is row f (wayOf d) (beforeText row K N (h .ad)) (l₁ row f K N k kb (h .ad)) (b₁ row f K N k kb (h .ad)) (h .text) (K ++ zeros (16 - length K)) (y .text-bounded .bytes)
+      ∙ ap (λ (x : List ℕ). finalise row x (closed after)) (take-at K (zeros (16 - length K)) (row .key) k)
 
   -- all the rounds
-  whole-rounds : (h : History) → Ready d set K N done kb h → h .rounds + (closingRounds (h .stream) + 12) ≡ messageRounds (rowOf set) (length (h .ad)) (length (h .text))
+  whole-rounds : (h : History) → Ready start begins h → h .rounds + (closingRounds (h .stream) + 12) ≡ messageRounds (rowOf (start .set)) (length (h .ad)) (length (h .text))
   unfolding roundsOf constantsOf constants
   whole-rounds h y =
-      let so-far : h .rounds + closingRounds (h .stream) ≡ roundsAt (rowOf set) Text (length (h .ad)) (length (h .text)) = y .rounds-is in
-      let all = rounds-whole (rowOf set) (ap roundsOf (row-sizes set .ends)) (length (h .ad)) (length (h .text)) in
+      let so-far : h .rounds + closingRounds (h .stream) ≡ roundsAt (rowOf (start .set)) Text (length (h .ad)) (length (h .text)) = y .rounds-is in
+      let all = rounds-whole (rowOf (start .set)) (ap roundsOf (row-sizes (start .set) .ends)) (length (h .ad)) (length (h .text)) in
       omega arith
 
 -- ---- the demand
 
-seals : (set : ℕ) (K N A P : List ℕ) (calls : List Call) (tag : List ℕ) → Message ours Sealing set K N A P calls → length tag ≡ rowOf set .key → SealedWhole ours set K N A P calls tag
+-- the end of a cut message
+module _ (start : Start) (A T : List ℕ) (calls : List Call) (m : Message ours start A T calls) where
+  abbrev begins : Started ours start
+  begins = m .started
+
+  abbrev h : History
+  h = after ours (begun ours start) calls
+
+  abbrev row : ParameterSet
+  row = rowOf (start .set)
+
+  taken : Followed h A T
+  taken = followed start begins A T calls (m .bytes) (m .ad-within) (m .text-within) (m .cut)
+
+  at-end : Ready start begins h
+  at-end = ready start begins h (reached start begins calls (m .bytes)) (taken .open-still)
+
+  -- with a tag of the set's length, its test is passed
+  end-passed : (tag : List ℕ) → length tag ≡ row .key → isDone (finishTest (start .direction) (h .stream) (length tag)) ≡ true
+  end-passed tag e =
+      fits-finish (start .direction) (h .stream) (length tag) (reached-sound start begins h (reached start begins calls (m .bytes)) (taken .open-still))
+      (fits-own (start .direction) (h .stream) (taken .open-still) (at-end .direction-is)) (e ∙ ap (λ (n : ℕ). rowOf n .key) (sym (at-end .set-is)))
+
+  -- the stream's own tag
+  end-tag : ownTag (h .stream) ≡ finalise row (start .key) (closed (stoodAt start begins A T))
+  end-tag =
+      own-tag start begins h at-end
+      ∙ ap₂ (λ (x y : List ℕ). finalise row (start .key) (closed (stoodAt start begins x y))) (taken .ad-is) (taken .text-is)
+
+  -- all the rounds
+  end-rounds : h .rounds + (closingRounds (h .stream) + 12) ≡ messageRounds row (length A) (length T)
+  end-rounds = whole-rounds start begins h at-end ∙ ap₂ (λ (x y : List ℕ). messageRounds row (length x) (length y)) (taken .ad-is) (taken .text-is)
+
+  -- the state at the end, in a direction
+  abbrev endIn : Direction → List ℕ
+  endIn d =
+      closed
+      (stood row (fit start begins) (wayOf d) (beforeText row (start .key) (start .nonce) A)
+      (l₁ row (fit start begins) (start .key) (start .nonce) (key start begins) (begins .key-bytes) A)
+      (b₁ row (fit start begins) (start .key) (start .nonce) (key start begins) (begins .key-bytes) A) T)
+
+seals : (start : Start) (A P : List ℕ) (calls : List Call) (tag : List ℕ) → start .direction ≡ Sealing → (m : Message ours start A P calls)
+    → length tag ≡ rowOf (start .set) .key → SealedWhole ours start A P (after ours (begun ours start) calls) tag
 unfolding sealed
-seals set K N A P calls tag m e =
-    let done = m .started in
-    let kb = m .key-bytes in
-    let h : History = after ours (begun ours Sealing set K N) calls in
-    let f = followed Sealing set K N done kb A P calls (m .bytes) (m .data-within) (m .text-within) (m .cut) in
-    let r = reached Sealing set K N done kb calls (m .bytes) in
-    let y = ready Sealing set K N done kb h r (f .open-still) in
-    let t = told Sealing set K N done kb h r in
+seals start A P calls tag x m e =
+    let begins = m .started in
+    let K = start .key in
+    let N = start .nonce in
+    let row = rowOf (start .set) in
+    let h : History = after ours (begun ours start) calls in
     let s : Stream = h .stream in
-    let ok : isDone (finishTest s (isOpen (s .phase) && isSealing (s .direction)) (length tag)) ≡ true =
-    fits-finish s (isOpen (s .phase) && isSealing (s .direction)) (length tag) (reached-sound Sealing set K N done kb h r (f .open-still))
-    (ap₂ _&&_ (f .open-still) (ap isSealing (y .direction-is))) (e ∙ ap (λ (n : ℕ). rowOf n .key) (sym (y .set-is))) in
-    let fin = finish-sealing-done s tag ok in
+    let f = taken start A P calls m in
+    let t = told start begins h (reached start begins calls (m .bytes)) in
+    let ok : isDone (finishTest Sealing s (length tag)) ≡ true = subst (λ (d : Direction). isDone (finishTest d s (length tag)) ≡ true) x (end-passed start A P calls m tag e) in
+    let fin = reply-done s (finish Sealing tag) ok in
     record {
-      out = t .out (f .open-still) refl ∙ ap₂ (λ (x y : List ℕ). encrypted (rowOf set) K N x y .out) (f .ad-is) (f .text-is);
-      answer = ap (λ (c : Called). c .outcome .answer) fin;
+      out = t .out (f .open-still) x ∙ ap₂ (λ (y z : List ℕ). encrypted row K N y z .out) (f .ad-is) (f .text-is);
+      answer = ap (λ (o : Outcome). o .answer) fin;
       tag-is =
-          ap (λ (c : Called). c .lent) fin ∙ own-tag Sealing set K N done kb h y
-          ∙ ap (λ (x : List ℕ). finalise (rowOf set) K x) (sealed-end (rowOf set) (fit Sealing set K N done kb) K N (key Sealing set K N done kb) kb (h .ad) (h .text))
-          ∙ ap₂ (λ (x y : List ℕ). finalise (rowOf set) K (encrypted (rowOf set) K N x y .state)) (f .ad-is) (f .text-is);
-      rounds =
-          ap (λ (c : Called). h .rounds + c .outcome .rounds) fin ∙ whole-rounds Sealing set K N done kb h y
-          ∙ ap₂ (λ (x y : List ℕ). messageRounds (rowOf set) (length x) (length y)) (f .ad-is) (f .text-is);
+          tag-left Sealing s tag ok ∙ end-tag start A P calls m
+          ∙ ap (λ (d : Direction). finalise row K (endIn start A P calls m d)) x
+          ∙ ap (λ (S : List ℕ). finalise row K S) (sealed-end row (fit start begins) K N (key start begins) (begins .key-bytes) A P);
+      rounds = ap (λ (o : Outcome). h .rounds + o .rounds) fin ∙ end-rounds start A P calls m;
     }
 
 -- an opening is a plaintext exactly where the tag is the document's
@@ -294,56 +264,53 @@ same-opened set K N A C T P e = go (same T (finalise (rowOf set) K (decrypted (r
     go false f g = absurd (let z : _≡_ {A = ℕ} 0 1 = cc in omega arith)
 
 -- the answer of a test of the tag
-yes-same : (t : Bool) → cond t Done TagDiffers ≡ Done → t ≡ true
+yes-same : (t : Bool) → cond (not t) TagDiffers Done ≡ Done → t ≡ true
 yes-same true e = refl
 yes-same false e = absurd (let z : _≡_ {A = ℕ} 0 1 = cc in omega arith)
 
--- the tests of a checking's end that says yes are passed
-yes-passed : (s : Stream) (tag : List ℕ) → finishCheckingCall s tag .answer ≡ Done → isDone (finishTest s (isOpen (s .phase) && isChecking (s .direction)) (length tag)) ≡ true
-yes-passed s tag e = go (isDone (finishTest s (isOpen (s .phase) && isChecking (s .direction)) (length tag))) refl
+-- the tests of an end that says yes are passed
+yes-passed : (d : Direction) (s : Stream) (tag : List ℕ) → finishCall d s tag .outcome .answer ≡ Done → isDone (finishTest d s (length tag)) ≡ true
+yes-passed d s tag e = go (isDone (finishTest d s (length tag))) refl
   where
-    go : (t : Bool) → isDone (finishTest s (isOpen (s .phase) && isChecking (s .direction)) (length tag)) ≡ t → t ≡ true
+    go : (t : Bool) → isDone (finishTest d s (length tag)) ≡ t → t ≡ true
     go true f = refl
-    go false f = sym f ∙ ap (λ (o : Outcome). isDone (o .answer)) (sym (finish-checking-refused s tag f)) ∙ ap isDone e
+    go false f = sym f ∙ ap (λ (o : Outcome). isDone (o .answer)) (sym (reply-refused s (finish d tag) f)) ∙ ap isDone e
 
-checks : (set : ℕ) (K N A C : List ℕ) (calls : List Call) (tag : List ℕ) → Message ours Checking set K N A C calls → CheckedWhole ours set K N A C calls tag
+checks : (start : Start) (A C : List ℕ) (calls : List Call) (tag : List ℕ) → start .direction ≡ Checking → (m : Message ours start A C calls)
+    → CheckedWhole ours start A C (after ours (begun ours start) calls) tag
 unfolding sealed
-checks set K N A C calls tag m =
-    let done = m .started in
-    let kb = m .key-bytes in
-    let h : History = after ours (begun ours Checking set K N) calls in
-    let f = followed Checking set K N done kb A C calls (m .bytes) (m .data-within) (m .text-within) (m .cut) in
-    let r = reached Checking set K N done kb calls (m .bytes) in
-    let y = ready Checking set K N done kb h r (f .open-still) in
-    let s : Stream = h .stream in
+checks start A C calls tag x m =
+    let begins = m .started in
+    let set = start .set in
+    let K = start .key in
+    let N = start .nonce in
     let row = rowOf set in
-    let ft = fit Checking set K N done kb in
-    let ky = key Checking set K N done kb in
-    let passed : length tag ≡ row .key → isDone (finishTest s (isOpen (s .phase) && isChecking (s .direction)) (length tag)) ≡ true =
-    λ e. fits-finish s (isOpen (s .phase) && isChecking (s .direction)) (length tag) (reached-sound Checking set K N done kb h r (f .open-still))
-    (ap₂ _&&_ (f .open-still) (ap isChecking (y .direction-is))) (e ∙ ap (λ (n : ℕ). rowOf n .key) (sym (y .set-is))) in
+    let h : History = after ours (begun ours start) calls in
+    let s : Stream = h .stream in
+    let ft = fit start begins in
+    let ky = key start begins in
+    let passed : length tag ≡ row .key → isDone (finishTest Checking s (length tag)) ≡ true =
+    λ e. subst (λ (d : Direction). isDone (finishTest d s (length tag)) ≡ true) x (end-passed start A C calls m tag e) in
     let own : ownTag s ≡ finalise row K (decrypted row K N A C .state) =
-    own-tag Checking set K N done kb h y
-    ∙ ap (λ (x : List ℕ). finalise row K x) (checked-end row ft K N ky kb (h .ad) (h .text))
-    ∙ ap₂ (λ (x z : List ℕ). finalise row K (decrypted row K N x z .state)) (f .ad-is) (f .text-is) in
-    let answer : isDone (finishTest s (isOpen (s .phase) && isChecking (s .direction)) (length tag)) ≡ true
-    → finishCheckingCall s tag .answer ≡ cond (same tag (finalise row K (decrypted row K N A C .state))) Done TagDiffers =
-    λ ok. ap (λ (o : Outcome). o .answer) (finish-checking-done s tag ok) ∙ ap (λ (x : List ℕ). cond (same tag x) Done TagDiffers) own in
+    end-tag start A C calls m
+    ∙ ap (λ (d : Direction). finalise row K (endIn start A C calls m d)) x
+    ∙ ap (λ (S : List ℕ). finalise row K S) (checked-end row ft K N ky (begins .key-bytes) A C) in
+    let answer : isDone (finishTest Checking s (length tag)) ≡ true
+    → finishCall Checking s tag .outcome .answer ≡ cond (not (same tag (finalise row K (decrypted row K N A C .state)))) TagDiffers Done =
+    λ ok. ap (λ (o : Outcome). o .answer) (reply-done s (finish Checking tag) ok) ∙ ap (λ (y : List ℕ). cond (not (same tag y)) TagDiffers Done) own in
     record {
       yes = (
-        λ (x : finishCheckingCall s tag .answer ≡ Done). (
+        λ (y : finishCall Checking s tag .outcome .answer ≡ Done). (
           decrypted row K N A C .out,
-          seal-opened row ft K ky N A (decrypted row K N A C .out) C tag (opened-same set K N A C tag (yes-same _ (sym (answer (yes-passed s tag x)) ∙ x))),
+          seal-opened row ft K ky N A (decrypted row K N A C .out) C tag (opened-same set K N A C tag (yes-same _ (sym (answer (yes-passed Checking s tag y)) ∙ y))),
         ),
         λ (z : (P : List ℕ) × (sealed row K N A P ≡ record { cipher = C; tag = tag })).
             answer (passed (ap (λ (w : Sealed). length (w .tag)) (sym (z .1)) ∙ length-tag row ft K ky (encrypted row K N A (z .0) .state)))
-            ∙ ap (λ (t : Bool). cond t Done TagDiffers)
+            ∙ ap (λ (t : Bool). cond (not t) TagDiffers Done)
             (same-opened set K N A C tag (z .0)
             (ap (λ (w : Sealed). opened row K N A (w .cipher) (w .tag)) (sym (z .1)) ∙ open-sealed row ft K ky N A (z .0))),
       );
-      rounds = λ e.
-          ap (λ (o : Outcome). h .rounds + o .rounds) (finish-checking-done s tag (passed e)) ∙ whole-rounds Checking set K N done kb h y
-          ∙ ap₂ (λ (x z : List ℕ). messageRounds row (length x) (length z)) (f .ad-is) (f .text-is);
+      rounds = λ e. ap (λ (o : Outcome). h .rounds + o .rounds) (reply-done s (finish Checking tag) (passed e)) ∙ end-rounds start A C calls m;
     }
 
 pub cutting-does-not-matter : CuttingDoesNotMatter ours
@@ -351,11 +318,11 @@ cutting-does-not-matter =
     record {
       seals = seals;
       checks = checks;
-      states = λ d set K N done kb calls other b c phase ad text.
-          let t = history-law d set K N done kb calls b in
-          let u = history-law d set K N done kb other c in
-          t .state
-          ∙ ap (λ (x : Phase). stateAt d set K N x (after ours (begun ours d set K N) calls .ad) (after ours (begun ours d set K N) calls .text)) phase
-          ∙ ap₂ (λ (x y : List ℕ). stateAt d set K N (after ours (begun ours d set K N) other .stream .phase) x y) ad text
-          ∙ sym (u .state);
+      states = λ start begins calls other b c phase ad text.
+          let h = after ours (begun ours start) calls in
+          let k = after ours (begun ours start) other in
+          history-law start begins calls b .state
+          ∙ ap (λ (x : Phase). stateAt start x (h .ad) (h .text)) phase
+          ∙ ap₂ (λ (x y : List ℕ). stateAt start (k .stream .phase) x y) ad text
+          ∙ sym (history-law start begins other c .state);
     }

@@ -8,8 +8,8 @@ use lib.Dec.{eqb}
 use borrow.Author.Tests.{eqb-true}
 use Rattle.permutation.specs.Runs.{roundsOf}
 use Rattle.ascon.specs.Sets.{ParameterSet}
-use Rattle.ascon.specs.Rounds.{dataBlocks, textBlocks, messageRounds}
-use Rattle.stream.specs.declared.Phase.the-variants.{Data, Text}
+use Rattle.ascon.specs.Rounds.{adBlocks, textBlocks, messageRounds}
+use Rattle.stream.specs.declared.Phase.the-variants.{Ad, Text}
 use Rattle.stream.specs.Calls.{filledRounds}
 use Rattle.stream.proofs.Tests.{div-mono}
 use Rattle.history.specs.History.{roundsAt}
@@ -25,9 +25,9 @@ filled-more row pos count n =
     sym (mul-add (roundsOf (row .between)) (count / r) ((count + n) / r - count / r)) ∙ ap (λ (k : ℕ). roundsOf (row .between) * k) all
 
 -- a piece more of data, and of text
-pub rounds-data : (row : ParameterSet) → 0 < row .block → (a n : ℕ) → roundsAt row Data a 0 + filledRounds row a n ≡ roundsAt row Data (a + n) 0
+pub rounds-ad : (row : ParameterSet) → 0 < row .block → (a n : ℕ) → roundsAt row Ad a 0 + filledRounds row a n ≡ roundsAt row Ad (a + n) 0
 unfolding roundsAt
-rounds-data row pos a n = omega (arith, filled-more row pos a n)
+rounds-ad row pos a n = omega (arith, filled-more row pos a n)
 
 pub rounds-text : (row : ParameterSet) → 0 < row .block → (a t n : ℕ) → roundsAt row Text a t + filledRounds row t n ≡ roundsAt row Text a (t + n)
 unfolding roundsAt
@@ -35,7 +35,7 @@ rounds-text row pos a t n = omega (arith, filled-more row pos t n)
 
 -- the whole message's, with the last twelve
 pub rounds-whole : (row : ParameterSet) → roundsOf (row .ends) ≡ 12 → (a t : ℕ) → roundsAt row Text a t + 12 ≡ messageRounds row a t
-unfolding roundsAt messageRounds dataBlocks textBlocks
+unfolding roundsAt messageRounds adBlocks textBlocks
 rounds-whole row e a t = go (eqb a 0) refl
   where
     go : (z : Bool) → eqb a 0 ≡ z

@@ -15,11 +15,11 @@ use Rattle.judge.specs.Laws.{Begins}
 -- the tail begins at the first difference
 pub tail-begins : (wanted found : List ℕ) → Begins wanted found
 tail-begins [] found =
-    record { place = length found; rest = sym (drop-length found); agrees = λ i h k l. absurd (omega arith); differs = inl refl }
-tail-begins (a ∷ wanted) [] = record { place = 0; rest = refl; agrees = λ i h k l. absurd (omega arith); differs = inl refl }
+    record { begin = length found; rest = sym (drop-length found); agrees = λ i h k l. absurd (omega arith); differs = inl refl }
+tail-begins (a ∷ wanted) [] = record { begin = 0; rest = refl; agrees = λ i h k l. absurd (omega arith); differs = inl refl }
 tail-begins (a ∷ wanted) (b ∷ found) = go (eqb a b) refl (tail-begins wanted found)
   where
-    later : a ≡ b → (p : Begins wanted found) → (i : ℕ) → i < suc (p .place) → i < suc (length wanted) → i < suc (length found)
+    later : a ≡ b → (p : Begins wanted found) → (i : ℕ) → i < suc (p .begin) → i < suc (length wanted) → i < suc (length found)
         → getD (a ∷ wanted) i 0 ≡ getD (b ∷ found) i 0
     later e p zero h k l = e
     later e p (suc i) h k l = p .agrees i (omega arith) (omega arith) (omega arith)
@@ -27,13 +27,13 @@ tail-begins (a ∷ wanted) (b ∷ found) = go (eqb a b) refl (tail-begins wanted
     go : (t : Bool) → eqb a b ≡ t → Begins wanted found → Begins (a ∷ wanted) (b ∷ found)
     go true e p =
         record {
-          place = suc (p .place);
+          begin = suc (p .begin);
           rest = rw e (p .rest);
           agrees = later (eqb-true a b e) p;
           differs = ⊎-elim (λ n. inl (rw e n)) (λ d. inr (omega (arith, d .0), omega (arith, d .1), d .2)) (p .differs);
         }
     go false e p =
-        record { place = 0; rest = rw e; agrees = λ i h k l. absurd (omega arith); differs = inr (omega arith, omega arith, eqb-false a b e) }
+        record { begin = 0; rest = rw e; agrees = λ i h k l. absurd (omega arith); differs = inr (omega arith, omega arith, eqb-false a b e) }
 
 -- texts that are called equal have no tail
 pub agree-no-tail : (wanted found : List ℕ) → agree wanted found ≡ true → tailOf wanted found ≡ []

@@ -20,7 +20,7 @@ use Rattle.report.specs.declared.Verdict.the-variants.{Equal, Rounds, Cipher, T
 use Rattle.report.specs.Reports.{reportText}
 use Rattle.report.proofs.Lengths.{report-most}
 use Rattle.judge.specs.Tail.{agree}
-use Rattle.judge.specs.Verdicts.{sealing, rounds, verdictOn}
+use Rattle.judge.specs.Verdicts.{ourSealing, ourRounds, verdictOn}
 use Rattle.judge.specs.Steps.{verdictRead}
 use Rattle.judge.specs.Laws.{Agrees}
 use Rattle.judge.proofs.Tails.{agree-no-tail}
@@ -29,17 +29,17 @@ use Rattle.judge.proofs.Tails.{agree-no-tail}
 pub equal-agrees : (r : Record) → verdictOn r ≡ Equal → Agrees r
 unfolding verdictOn
 equal-agrees r =
-    go (eqb (broken r) 0) (eqb (r .rounds) (rounds r)) (agree (sealing r .cipher) (held (r .cipher))) (agree (sealing r .tag) (held (r .tag))) refl refl refl refl
+    go (eqb (broken r) 0) (eqb (r .rounds) (ourRounds r)) (agree (ourSealing r .cipher) (held (r .cipher))) (agree (ourSealing r .tag) (held (r .tag))) refl refl refl refl
   where
-    go : (s t u v : Bool) → eqb (broken r) 0 ≡ s → eqb (r .rounds) (rounds r) ≡ t
-        → agree (sealing r .cipher) (held (r .cipher)) ≡ u → agree (sealing r .tag) (held (r .tag)) ≡ v
+    go : (s t u v : Bool) → eqb (broken r) 0 ≡ s → eqb (r .rounds) (ourRounds r) ≡ t
+        → agree (ourSealing r .cipher) (held (r .cipher)) ≡ u → agree (ourSealing r .tag) (held (r .tag)) ≡ v
         → first Equal (Unread (broken r) when not s ∷ Rounds when not t ∷ Cipher when not u ∷ Tag when not v ∷ []) ≡ Equal → Agrees r
     go true true true true f g h k e =
         record {
           in-form = eqb-true (broken r) 0 f;
-          rounds-agree = eqb-true (r .rounds) (rounds r) g;
-          cipher-agrees = agree-no-tail (sealing r .cipher) (held (r .cipher)) h;
-          tag-agrees = agree-no-tail (sealing r .tag) (held (r .tag)) k;
+          rounds-agree = eqb-true (r .rounds) (ourRounds r) g;
+          cipher-agrees = agree-no-tail (ourSealing r .cipher) (held (r .cipher)) h;
+          tag-agrees = agree-no-tail (ourSealing r .tag) (held (r .tag)) k;
         }
     go true true true false f g h k e = let z : _≡_ {A = ℕ} 0 1 = cc in absurd (omega arith)
     go true true false v f g h k e = let z : _≡_ {A = ℕ} 0 1 = cc in absurd (omega arith)
@@ -49,13 +49,13 @@ equal-agrees r =
 -- where all three agree, the verdict is equal
 pub agrees-equal : (r : Record) → Agrees r → verdictOn r ≡ Equal
 unfolding verdictOn
-agrees-equal r a = rw (a .in-form, eq-eqb (r .rounds) (rounds r) (a .rounds-agree), a .cipher-agrees, a .tag-agrees)
+agrees-equal r a = rw (a .in-form, eq-eqb (r .rounds) (ourRounds r) (a .rounds-agree), a .cipher-agrees, a .tag-agrees)
 
 -- a record in form is not unread
 in-form-read : (r : Record) (line : ℕ) → broken r ≡ 0 → verdictOn r ≡ Unread line → ⊥
 unfolding verdictOn
 in-form-read r line sound e =
-    go (eqb (r .rounds) (rounds r)) (agree (sealing r .cipher) (held (r .cipher))) (agree (sealing r .tag) (held (r .tag))) (rw sound at e)
+    go (eqb (r .rounds) (ourRounds r)) (agree (ourSealing r .cipher) (held (r .cipher))) (agree (ourSealing r .tag) (held (r .tag))) (rw sound at e)
   where
     go : (t u v : Bool) → first Equal (Rounds when not t ∷ Cipher when not u ∷ Tag when not v ∷ []) ≡ Unread line → ⊥
     go true true true e = let z : _≡_ {A = ℕ} 0 1 = cc in omega arith

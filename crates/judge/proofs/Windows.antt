@@ -1,26 +1,27 @@
 -- A final window tells what the whole input tells.
 use mathlib.Core.Path.{_≡_, refl, sym, ap, _∙_}
-use mathlib.Core.Bool.{Bool, true, false, cond, _||_, false≢true}
-use mathlib.Core.List.{List, _++_}
+use mathlib.Core.Bool.{Bool, true, false, cond, not, _||_, false≢true}
+use mathlib.Core.List.{List, [], _∷_, _++_}
 use Prim.Native.Nat.{ℕ, _≤_}
 use native.Mathlib.Omega.{arith}
 use lib.Dec.{leb}
 use lib.ListN.{length, take, drop, take-append-drop, length-take}
-use lib.Seq.{take-all, take-take}
+use lib.Seq.{take-all, take-take, take-length}
 use borrow.Author.Tests.{leb-true, le-leb, ne-eqb}
 use Rattle.answers.specs.Numbers.{isDone}
+use Rattle.answers.specs.Order.{_when_, first}
 use Rattle.answers.proofs.Numbers.{done-is}
 use Rattle.record.specs.Calls.{readCall}
 use Rattle.record.specs.Text.{mostBytes}
 use Rattle.record.proofs.Laws.{reads-and-writes}
-use Rattle.report.specs.Reports.{reportText, reportCall}
+use Rattle.report.specs.Reports.{reportText}
+use Rattle.judge.specs.declared.stepping.Step.{Step}
 use Rattle.judge.specs.declared.stepping.Step.the-variants.{Judged, Stopped}
-use Rattle.judge.specs.Steps.{verdictRead, isFinal, stepLeaves, stepBy, reported, stepCall}
+use Rattle.judge.specs.Steps.{verdictRead, isFinal, stepLeaves, stepBy, stepCall, writtenBy}
 
 -- a beginning of the input that is a final window is read as the input is
 pub final-window : (text : List ℕ) (size : ℕ) (ended : Bool) → (ended ≡ true → length text ≤ size) → isFinal (take size text) ended ≡ true
     → readCall (take size text) ≡ readCall text
-unfolding isFinal
 final-window text size ended = go (isDone (readCall (take size text) .answer)) ended (leb mostBytes (length (take size text))) refl refl
   where
     go : (t s u : Bool) → isDone (readCall (take size text) .answer) ≡ t → leb mostBytes (length (take size text)) ≡ u
@@ -33,17 +34,32 @@ final-window text size ended = go (isDone (readCall (take size text) .answer)) e
     go false false false f g h e = absurd (false≢true e)
 
 -- a step on a final window gives the report on what the whole input begins with
-pub final-step : (text : List ℕ) (size : ℕ) (ended : Bool) (number : ℕ) (place : List ℕ) → (ended ≡ true → length text ≤ size) → 1 ≤ length (take size text)
+pub final-step : (text : List ℕ) (size : ℕ) (ended : Bool) (number : ℕ) (out : List ℕ) → (ended ≡ true → length text ≤ size) → 1 ≤ length (take size text)
     → isFinal (take size text) ended ≡ true
     → let report = reportText number (verdictRead (readCall text)) in
-    length report ≤ length place
-    → stepCall (take size text) ended number place
-    ≡ stepLeaves (cond (isDone (readCall text .answer)) (Judged (verdictRead (readCall text)) (readCall text .taken) (length report)) (Stopped (readCall text .line) (length report))) (report ++ drop (length report) place)
-unfolding stepCall reported stepBy reportCall
-final-step text size ended number place all some final room =
+    length report ≤ length out
+    → stepCall (take size text) ended number out
+    ≡ stepLeaves (cond (isDone (readCall text .answer)) (Judged (verdictRead (readCall text)) (readCall text .taken) (length report)) (Stopped (readCall text .line) (length report))) (report ++ drop (length report) out)
+unfolding stepCall stepBy
+final-step text size ended number out all some final room =
     rw (
       ne-eqb (length (take size text)) 0 (omega arith),
       final,
       final-window text size ended all final,
-      le-leb (length (reportText number (verdictRead (readCall text)))) (length place) room,
+      le-leb (length (reportText number (verdictRead (readCall text)))) (length out) room,
     )
+    (go (isDone (readCall text .answer)))
+  where
+    report : List ℕ
+    report = reportText number (verdictRead (readCall text))
+
+    judged : Step
+    judged = Judged (verdictRead (readCall text)) (readCall text .taken) (length report)
+
+    stopped : Step
+    stopped = Stopped (readCall text .line) (length report)
+
+    go : (done : Bool) → let step = first judged (stopped when not done ∷ []) in
+        stepLeaves step (take (writtenBy step) report ++ drop (writtenBy step) out) ≡ stepLeaves (cond done judged stopped) (report ++ drop (length report) out)
+    go true = rw take-length
+    go false = rw take-length

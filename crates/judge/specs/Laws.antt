@@ -15,22 +15,22 @@ use Rattle.report.specs.declared.Verdict.the-variants.{Equal, Unread}
 use Rattle.report.specs.Reports.{reportText}
 use Rattle.judge.specs.declared.stepping.Step.the-variants.{Judged, Stopped, Wait}
 use Rattle.judge.specs.Tail.{tailOf}
-use Rattle.judge.specs.Verdicts.{sealing, rounds, verdictOn}
+use Rattle.judge.specs.Verdicts.{ourSealing, ourRounds, verdictOn}
 use Rattle.judge.specs.Steps.{verdictRead, isFinal, stepLeaves, stepCall, takenBy, writtenBy, outputFrom}
 
 -- a record's rounds, cipher and tag agree with our own sealing, by the rules' meaning of equal
 pub record Agrees (r : Record) : Type 0 where
   pub in-form : broken r ≡ 0
-  pub rounds-agree : r .rounds ≡ rounds r
-  pub cipher-agrees : tailOf (sealing r .cipher) (held (r .cipher)) ≡ []
-  pub tag-agrees : tailOf (sealing r .tag) (held (r .tag)) ≡ []
+  pub rounds-agree : r .rounds ≡ ourRounds r
+  pub cipher-agrees : tailOf (ourSealing r .cipher) (held (r .cipher)) ≡ []
+  pub tag-agrees : tailOf (ourSealing r .tag) (held (r .tag)) ≡ []
 
 -- where a difference tail begins: before it the bytes that both texts have agree, and there both have a byte and the bytes differ, or the tail is empty
 pub record Begins (wanted found : List ℕ) : Type 0 where
-  pub place : ℕ
-  pub rest : tailOf wanted found ≡ drop place found
-  pub agrees : (i : ℕ) → i < place → i < length wanted → i < length found → getD wanted i 0 ≡ getD found i 0
-  pub differs : (tailOf wanted found ≡ []) ⊎ ((place < length wanted) × (place < length found) × (getD wanted place 0 ≡ getD found place 0 → ⊥))
+  pub begin : ℕ
+  pub rest : tailOf wanted found ≡ drop begin found
+  pub agrees : (i : ℕ) → i < begin → i < length wanted → i < length found → getD wanted i 0 ≡ getD found i 0
+  pub differs : (tailOf wanted found ≡ []) ⊎ ((begin < length wanted) × (begin < length found) × (getD wanted begin 0 ≡ getD found begin 0 → ⊥))
 
 pub record Judges : Type 0 where
   -- the verdict is equal exactly where all three agree
@@ -41,17 +41,17 @@ pub record Judges : Type 0 where
   pub window : (text : List ℕ) (size : ℕ) (ended : Bool) → (ended ≡ true → length text ≤ size) → isFinal (take size text) ended ≡ true
       → readCall (take size text) ≡ readCall text
   -- and a step on it gives the report on the record that the whole input begins with
-  pub step : (text : List ℕ) (size : ℕ) (ended : Bool) (number : ℕ) (place : List ℕ) → (ended ≡ true → length text ≤ size) → 1 ≤ length (take size text)
+  pub step : (text : List ℕ) (size : ℕ) (ended : Bool) (number : ℕ) (out : List ℕ) → (ended ≡ true → length text ≤ size) → 1 ≤ length (take size text)
       → isFinal (take size text) ended ≡ true
       → let report = reportText number (verdictRead (readCall text)) in
-      length report ≤ length place
-      → stepCall (take size text) ended number place
-      ≡ stepLeaves (cond (isDone (readCall text .answer)) (Judged (verdictRead (readCall text)) (readCall text .taken) (length report)) (Stopped (readCall text .line) (length report))) (report ++ drop (length report) place)
+      length report ≤ length out
+      → stepCall (take size text) ended number out
+      ≡ stepLeaves (cond (isDone (readCall text .answer)) (Judged (verdictRead (readCall text)) (readCall text .taken) (length report)) (Stopped (readCall text .line) (length report))) (report ++ drop (length report) out)
   -- a step takes no more than its window, writes no more than its place, and the place keeps its length
-  pub inside : (window : List ℕ) (ended : Bool) (number : ℕ) (place : List ℕ) → let leaves = stepCall window ended number place in
-      (takenBy (leaves .step) ≤ length window) × (writtenBy (leaves .step) ≤ length place) × (length (leaves .place) ≡ length place)
+  pub inside : (window : List ℕ) (ended : Bool) (number : ℕ) (out : List ℕ) → let leaves = stepCall window ended number out in
+      (takenBy (leaves .step) ≤ length window) × (writtenBy (leaves .step) ≤ length out) × (length (leaves .out) ≡ length out)
   -- a step waits only for an input that has not ended, in a window that has less than the most bytes of a record
-  pub waits : (window : List ℕ) (ended : Bool) (number : ℕ) (place : List ℕ) → stepCall window ended number place .step ≡ Wait
+  pub waits : (window : List ℕ) (ended : Bool) (number : ℕ) (out : List ℕ) → stepCall window ended number out .step ≡ Wait
       → (length window < mostBytes) × (ended ≡ false)
   -- a text that is read is never unread, and one that is not is unread at its line
   pub read : (text : List ℕ) (line : ℕ) → readCall text .answer ≡ Done → verdictRead (readCall text) ≡ Unread line → ⊥

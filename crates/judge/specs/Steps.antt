@@ -1,16 +1,17 @@
 -- One step of the program: from a window of the input to a report, and the whole output of an input.
-use mathlib.Core.Bool.{Bool, cond, _||_}
+use mathlib.Core.Bool.{Bool, cond, not, _&&_, _||_}
 use mathlib.Core.List.{List, [], _∷_, _++_}
 use Prim.Native.Nat.{ℕ, zero, suc, _+_}
 use lib.Dec.{eqb, leb}
-use lib.ListN.{length, drop}
+use lib.ListN.{length, take, drop}
 use Rattle.answers.specs.Numbers.{isDone}
+use Rattle.answers.specs.Order.{Choice, _when_, first}
 use Rattle.record.specs.declared.reading.Reading.{Reading}
 use Rattle.record.specs.Calls.{readCall}
 use Rattle.record.specs.Text.{mostBytes}
 use Rattle.report.specs.declared.Verdict.{Verdict}
 use Rattle.report.specs.declared.Verdict.the-variants.{Unread}
-use Rattle.report.specs.Reports.{reportText, ReportLeaves, reportCall}
+use Rattle.report.specs.Reports.{reportText}
 use Rattle.judge.specs.declared.stepping.Step.{Step}
 use Rattle.judge.specs.declared.stepping.Step.the-variants.{Judged, Stopped, Wait, End, Short}
 use Rattle.judge.specs.Verdicts.{verdictOn}
@@ -21,36 +22,21 @@ verdictRead reading = cond (isDone (reading .answer)) (verdictOn (reading .conte
 
 -- ---- one step
 
--- what a window tells is final: a whole record stands in it, or the input has ended, or the window has the most bytes of a record
-unfoldable pub isFinal : List ℕ → Bool → Bool
-isFinal window ended = isDone (readCall window .answer) || (ended || leb mostBytes (length window))
+-- what was read in so many bytes is final: a whole record stands there, or the input has ended, or they are the most bytes of a record
+abbrev pub isFinalIn : Reading → ℕ → Bool → Bool
+isFinalIn reading size ended = isDone (reading .answer) || (ended || leb mostBytes size)
+
+-- what a window tells is final
+abbrev pub isFinal : List ℕ → Bool → Bool
+isFinal window ended = isFinalIn (readCall window) (length window) ended
 
 -- a step, and what the place of the report then holds
 pub record StepLeaves : Type 0 where
   pub step : Step
-  pub place : List ℕ
+  pub out : List ℕ
 
 abbrev pub stepLeaves : Step → List ℕ → StepLeaves
-stepLeaves step place = record { step = step; place = place }
-
--- what a report makes of a step: a record was judged, or what stands there can not be read, or the place has no room
-unfoldable pub stepBy : Reading → ReportLeaves → StepLeaves
-stepBy reading report =
-    stepLeaves
-    (cond (isDone (report .outcome .answer))
-    (cond (isDone (reading .answer)) (Judged (verdictRead reading) (reading .taken) (report .outcome .written)) (Stopped (reading .line) (report .outcome .written)))
-    Short)
-    (report .place)
-
--- the report on what was read
-unfoldable pub reported : Reading → ℕ → List ℕ → StepLeaves
-reported reading number place = stepBy reading (reportCall number (verdictRead reading) place)
-
--- an empty window is the end of the input, or wants more of it; another gives a report where it is final, and else wants more
-unfoldable pub stepCall : List ℕ → Bool → ℕ → List ℕ → StepLeaves
-stepCall window ended number place =
-    cond (eqb (length window) 0) (stepLeaves (cond ended End Wait) place)
-    (cond (isFinal window ended) (reported (readCall window) number place) (stepLeaves Wait place))
+stepLeaves step out = record { step = step; out = out }
 
 -- how many bytes of the window a step takes
 abbrev pub takenBy : Step → ℕ
@@ -67,6 +53,30 @@ writtenBy (Stopped line written) = written
 writtenBy Wait = 0
 writtenBy End = 0
 writtenBy Short = 0
+
+-- a report on what was read, and so much room: there is no room for it, or what stands there can not be read
+abbrev pub reportChoices : Reading → ℕ → ℕ → List (Choice Step)
+reportChoices reading number room =
+    let size = length (reportText number (verdictRead reading)) in
+    Short when not (leb size room) ∷ Stopped (reading .line) size when not (isDone (reading .answer)) ∷ []
+
+-- the steps but a judged record, in their order, of what was read in so many bytes: the input has ended, more of it is wanted, then those of a report
+abbrev pub stepChoices : Reading → ℕ → Bool → ℕ → ℕ → List (Choice Step)
+stepChoices reading size ended number room =
+    End when (eqb size 0 && ended) ∷ Wait when (eqb size 0 || not (isFinalIn reading size ended)) ∷ reportChoices reading number room
+
+-- the first choice that holds, and else a record was judged; the place then begins with as many bytes of the report as were written
+unfoldable pub stepBy : Reading → ℕ → List ℕ → List (Choice Step) → StepLeaves
+stepBy reading number out choices =
+    let report = reportText number (verdictRead reading) in
+    let step = first (Judged (verdictRead reading) (reading .taken) (length report)) choices in
+    stepLeaves step (take (writtenBy step) report ++ drop (writtenBy step) out)
+
+-- a step on a window
+unfoldable pub stepCall : List ℕ → Bool → ℕ → List ℕ → StepLeaves
+stepCall window ended number out =
+    let reading = readCall window in
+    stepBy reading number out (stepChoices reading (length window) ended number (length out))
 
 -- ---- the whole output
 

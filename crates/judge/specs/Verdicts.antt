@@ -16,20 +16,20 @@ use Rattle.judge.specs.declared.verdict.Ours.{Ours}
 use Rattle.judge.specs.Tail.{agree}
 
 -- the published sealing of a record's text under its set, key, nonce and data
-unfoldable pub sealing : Record → Sealed
-sealing r = sealed (rowOf (r .set)) (held (r .key)) (held (r .nonce)) (held (r .ad)) (held (r .text))
+unfoldable pub ourSealing : Record → Sealed
+ourSealing r = sealed (rowOf (r .set)) (held (r .key)) (held (r .nonce)) (held (r .ad)) (held (r .text))
 
 -- the rounds of that sealing
-unfoldable pub rounds : Record → ℕ
-rounds r = messageRounds (rowOf (r .set)) (length (held (r .ad))) (length (held (r .text)))
+unfoldable pub ourRounds : Record → ℕ
+ourRounds r = messageRounds (rowOf (r .set)) (length (held (r .ad))) (length (held (r .text)))
 
 -- the verdicts but equal, in their order: out of form, at its first broken line; rounds; cipher; tag
 abbrev pub differences : Record → List (Choice Verdict)
 differences r =
     Unread (broken r) when not (eqb (broken r) 0)
-    ∷ Rounds when not (eqb (r .rounds) (rounds r))
-    ∷ Cipher when not (agree (sealing r .cipher) (held (r .cipher)))
-    ∷ Tag when not (agree (sealing r .tag) (held (r .tag)))
+    ∷ Rounds when not (eqb (r .rounds) (ourRounds r))
+    ∷ Cipher when not (agree (ourSealing r .cipher) (held (r .cipher)))
+    ∷ Tag when not (agree (ourSealing r .tag) (held (r .tag)))
     ∷ []
 
 -- the first that holds

@@ -1,7 +1,13 @@
 // One step of the program: from a window of the input to a report.
 ghost use mathlib.Core.Path.{_≡_};
-ghost use Rattle.judge.specs.Steps.{verdictRead, stepLeaves, stepCall, reported};
+ghost use mathlib.Core.Bool.{_||_};
+ghost use lib.Dec.{leb};
+ghost use lib.ListN.{length};
+ghost use Rattle.answers.specs.Numbers.{isDone};
+ghost use Rattle.record.specs.Text.{mostBytes};
+ghost use Rattle.judge.specs.Steps.{verdictRead, stepLeaves, reportChoices, stepBy, stepCall};
 use crate::verdict;
+use answers::Answer;
 use record::Reading;
 use report::Verdict;
 
@@ -38,12 +44,25 @@ fn verdict_on(reading: Reading) -> Verdict
     Verdict::Unread(reading.line)
 }
 
+// Whether what a window of a size tells is final, where reading it gave this answer.
+fn is_final(answer: Answer, ended: bool, size: usize) -> bool
+    ensures { λ r. ⌜ r ≡ (isDone answer || (ended || leb mostBytes size)) ⌝ }
+{
+    if answers::is_done(answer) {
+        return true;
+    }
+    if ended {
+        return true;
+    }
+    1688 <= size
+}
+
 // The report on what was read.
-fn report_on(reading: Reading, number: u64, place: &mut [u8]) -> Step
-    ensures { λ r. ⌜ stepLeaves r (now (place .exit)) ≡ reported reading number (now (place .entry)) ⌝ }
+fn report_on(reading: Reading, number: u64, out: &mut [u8]) -> Step
+    ensures { λ r. ⌜ stepLeaves r (now (out .exit)) ≡ stepBy reading number (now (out .entry)) (reportChoices reading number (length (now (out .entry)))) ⌝ }
 {
     let verdict = verdict_on(reading);
-    let done = report::report(number, verdict, place);
+    let done = report::report(number, verdict, out);
     let answer = done.answer;
     if !answers::is_done(answer) {
         return Step::Short;
@@ -64,8 +83,8 @@ fn report_on(reading: Reading, number: u64, place: &mut [u8]) -> Step
 
 // Judges the record that a window of the input begins with, where the window tells enough, and puts the report at the beginning of a place. `ended` says that the
 // window is all that is left of the input.
-pub fn judge_window(window: &[u8], ended: bool, number: u64, place: &mut [u8]) -> Step
-    ensures { λ r. ⌜ stepLeaves r (now (place .exit)) ≡ stepCall (now (window .entry)) ended number (now (place .entry)) ⌝ }
+pub fn judge_window(window: &[u8], ended: bool, number: u64, out: &mut [u8]) -> Step
+    ensures { λ r. ⌜ stepLeaves r (now (out .exit)) ≡ stepCall (now (window .entry)) ended number (now (out .entry)) ⌝ }
 {
     if window.len() == 0 {
         if ended {
@@ -75,14 +94,8 @@ pub fn judge_window(window: &[u8], ended: bool, number: u64, place: &mut [u8]) -
     }
     let reading = record::read(window);
     let answer = reading.answer;
-    if answers::is_done(answer) {
-        return report_on(reading, number, place);
+    if !is_final(answer, ended, window.len()) {
+        return Step::Wait;
     }
-    if ended {
-        return report_on(reading, number, place);
-    }
-    if 1688 <= window.len() {
-        return report_on(reading, number, place);
-    }
-    Step::Wait
+    report_on(reading, number, out)
 }

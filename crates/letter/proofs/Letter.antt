@@ -8,16 +8,17 @@ use Rattle.ascon.proofs.Sealing.{bytes-tag, bytes-encrypted, bytes-decrypted}
 use Rattle.sets.proofs.Rows.{row-fits}
 use Rattle.ascon.proofs.Rounds.{runs-total}
 use Rattle.ascon.proofs.Marks.{runs-marked}
+use Rattle.history.specs.History.{HistoryLaw}
+use Rattle.history.proofs.History.{history-law}
 use Rattle.judge.proofs.Laws.{judges}
 use Rattle.turns.proofs.Runs.{whole-reports}
+use Rattle.letter.specs.Model.{Reported}
 use Rattle.letter.specs.Letter.{Letter}
-use Rattle.letter.proofs.Model.{keeps}
+use Rattle.letter.proofs.Model.{keeps, of-kept, reported}
 use Rattle.letter.proofs.First.{first-demand}
 use Rattle.letter.proofs.Second.{second-demand}
 use Rattle.letter.proofs.Third.{third-demand}
-use Rattle.letter.proofs.Reported.{reports}
 use Rattle.letter.proofs.Worthless.{worthless}
-use Rattle.letter.proofs.Wrong.{wrong}
 
 pub letter : Letter
 unfolding sealed
@@ -26,7 +27,8 @@ letter =
       first = first-demand;
       second = second-demand;
       third = third-demand;
-      reported = reports;
+      history = of-kept (λ m. HistoryLaw (m .streams)) history-law;
+      reported = of-kept Reported reported;
       some-model = keeps;
       cases = cases;
       known-runs = permutation.known;
@@ -39,5 +41,4 @@ letter =
       judging = judges;
       program = whole-reports;
       worthless = worthless;
-      wrong = wrong;
     }

@@ -1,10 +1,14 @@
 -- The theorems of the letter.
-pub mod EveryCall
+pub mod Calls
+pub mod Engine
+pub mod Messages
+pub mod Streams
+pub mod Records
+pub mod Judging
 pub mod Model
 pub mod First
 pub mod Second
 pub mod Third
-pub mod Reported
 pub mod Worthless
 pub mod Wrong
 pub mod Letter

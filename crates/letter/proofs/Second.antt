@@ -14,18 +14,20 @@ use Rattle.answers.specs.declared.Answer.the-variants.{Done}
 use Rattle.answers.specs.Numbers.{numberOf, isDone}
 use Rattle.answers.proofs.Numbers.{done-is}
 use Rattle.ascon.specs.Sets.{rowOf}
-use Rattle.ascon.specs.Mode.{zeros, Sealed, sealed, opened}
+use Rattle.permutation.specs.Strings.{zeros}
+use Rattle.ascon.specs.Mode.{Sealed, sealed, opened}
 use Rattle.ascon.specs.Rounds.{messageRounds}
 use Rattle.ascon.proofs.Sealing.{seal-opened}
 use Rattle.sets.proofs.Rows.{row-fits}
 use Rattle.message.specs.Message.{faults, messageTest, SealLeaves, sealCall, OpenLeaves, openLeaves, judged, openCall}
 use Rattle.answers.specs.Order.{first}
 use Rattle.message.proofs.Tests.{message-passed}
-use Rattle.message.proofs.Demands.{test-first, test-small, answers-anything, is-published}
+use Rattle.message.proofs.Answered.{test-first, test-small, seal-answer, seal-given, open-refused, open-hands, open-of}
 use Rattle.message.proofs.Promise.{length-cipher}
-use Rattle.letter.specs.Model.{Model, ours, Keeps}
+use Rattle.letter.specs.Messages.{ours}
+use Rattle.letter.specs.Model.{Model, Keeps}
 use Rattle.letter.specs.Second.{Unrefused, Second}
-use Rattle.letter.proofs.First.{of-kept}
+use Rattle.letter.proofs.Model.{of-kept}
 
 -- ---- sealing
 
@@ -37,9 +39,9 @@ module _ (set : ℕ) (K N A P out tag : List ℕ) where
       × (leaves .tag ≡ sealed (rowOf set) K N A P .tag)
       × (drop (length P) (leaves .out) ≡ drop (length P) out)
   seal-published d =
-      let e = is-published .seals set K N A P out tag d in
+      let e = seal-given set K N A P out tag d in
       let test : messageTest set (length K) (length N) (length tag) (length A) (length P) (length out) ≡ Done =
-      test-first set (length K) (length N) (length tag) (length A) (length P) (length out) ∙ sym (answers-anything .seal-answer set K N A P out tag) ∙ d in
+      test-first set (length K) (length N) (length tag) (length A) (length P) (length out) ∙ sym (seal-answer set K N A P out tag) ∙ d in
       let passed = message-passed set (length K) (length N) (length tag) (length A) (length P) (length out) (ap isDone test) in
       let size = length-cipher set K N A P (passed .key-fits) in (
         ap (λ (x : SealLeaves). take (length P) (x .out)) e ∙ take-at (sealed (rowOf set) K N A P .cipher) (drop (length P) out) (length P) size,
@@ -68,7 +70,7 @@ module _ (set : ℕ) (K N A C T out : List ℕ) where
       go true e = e
       go false e =
           let stopped : openCall set K N A C T out .outcome .answer ≡ test =
-          ap (λ (x : OpenLeaves). x .outcome .answer) (answers-anything .open-refused set K N A C T out test (sym test-is) e) in
+          ap (λ (x : OpenLeaves). x .outcome .answer) (open-refused set K N A C T out test (sym test-is) e) in
           let number : numberOf (openCall set K N A C T out .outcome .answer) ≡ numberOf test = ap numberOf stopped in
           let some : numberOf test ≡ 0 → ⊥ = eqb-false (numberOf test) 0 e in
           let most : numberOf test ≤ 6 = test-small set (length K) (length N) (length T) (length A) (length C) (length out) in
@@ -93,18 +95,18 @@ module _ (set : ℕ) (K N A C T out : List ℕ) where
 
       handed : (Q : List ℕ) → sealed (rowOf set) K N A Q ≡ record { cipher = C; tag = T } → take (length C) (openCall set K N A C T out .out) ≡ Q
       handed Q s =
-          ap (λ (x : OpenLeaves). take (length C) (x .out)) (is-published .hands set K N A C T out Q none-holds s)
+          ap (λ (x : OpenLeaves). take (length C) (x .out)) (open-hands set K N A C T out none-holds Q s)
           ∙ take-at Q (drop (length C) out) (length C) (as-long (passed u) Q s)
 
       to : (openCall set K N A C T out .outcome .answer ≡ Done) × (take (length C) (openCall set K N A C T out .out) ≡ P)
           → sealed (rowOf set) K N A P ≡ record { cipher = C; tag = T }
       to (d, e) =
-          let found = is-published .opens set K N A C T out none-holds .0 d in
+          let found = open-of set K N A C T out none-holds d in
           ap (sealed (rowOf set) K N A) (sym e ∙ handed (found .0) (found .1)) ∙ found .1
 
       from : sealed (rowOf set) K N A P ≡ record { cipher = C; tag = T }
           → (openCall set K N A C T out .outcome .answer ≡ Done) × (take (length C) (openCall set K N A C T out .out) ≡ P)
-      from s = (ap (λ (x : OpenLeaves). x .outcome .answer) (is-published .hands set K N A C T out P none-holds s), handed P s)
+      from s = (ap (λ (x : OpenLeaves). x .outcome .answer) (open-hands set K N A C T out none-holds P s), handed P s)
 
   -- and touches nothing beyond
   open-beyond : drop (length C) (openCall set K N A C T out .out) ≡ drop (length C) out
@@ -135,5 +137,5 @@ second =
     }
 
 -- the second demand
-pub second-demand : (m : Model) → Keeps m → Second m
-second-demand = of-kept Second second
+pub second-demand : (m : Model) → Keeps m → Second (m .messages)
+second-demand = of-kept (λ m. Second (m .messages)) second

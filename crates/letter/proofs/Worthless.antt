@@ -1,55 +1,67 @@
 -- Worthless versions are refuted, each by the demand that it breaks.
 use mathlib.Core.Path.{_≡_, refl, sym, ap, _∙_}
 use mathlib.Core.Bool.{Bool, true, false, cond, not, _&&_, true≢false}
+use mathlib.Core.Logic.{inl}
 use mathlib.Core.List.{List, [], _∷_, _++_}
 use Prim.Native.Nat.{ℕ, zero, suc, _+_, _-_, _^_, _≤_, _<_}
 use native.Mathlib.Omega.{arith}
 use lib.Dec.{leb, lit≤, lit<}
 use lib.ListN.{length, getD, take, drop, replicate, length-append, length-replicate}
 use lib.Seq.{getD-drop}
-use borrow.Author.Tests.{leb-true, le-leb}
+use borrow.Author.Tests.{leb-true, le-leb, not-false}
 use Rattle.permutation.specs.Round.{_⋙_, addConstant, sBox, bit, fromBits, column, substituted, substitute, Σ₀, Σ₁, Σ₂, Σ₃, Σ₄, diffuse, round}
 use Rattle.permutation.specs.Runs.{constants, constantsOf, roundsOf, rounds, permute}
-use Rattle.permutation.specs.Strings.{Bytes, bytesOf, stringOf, stateOf}
+use Rattle.permutation.specs.Strings.{Bytes, bytesOf, stringOf, stateOf, zeros}
 use Rattle.permutation.specs.Strings as strings
-use Rattle.permutation.proofs.Strings.{bytes-none}
+use Rattle.permutation.proofs.Strings.{bytes-none, bytes-zeros}
 use Rattle.answers.specs.declared.Answer.{Answer}
-use Rattle.answers.specs.declared.Answer.the-variants.{Done, PastLimit, NoRoom, OutOfPhase, BrokenState}
+use Rattle.answers.specs.declared.Answer.the-variants.{Done, PastLimit, NoRoom, OutOfPhase, BrokenState, TagDiffers}
 use Rattle.answers.specs.Numbers.{numberOf, isDone}
 use Rattle.answers.proofs.Numbers.{done-is}
+use Rattle.answers.proofs.Order.{none-holds}
 use Rattle.ascon.specs.Sets.{table, isSet, rowOf, textLimit}
-use Rattle.ascon.specs.Mode.{zeros, p, count, pad, firstBlock, initialise, separate, beforeText, encrypted, decrypted, Processed, Sealed, sealed}
-use Rattle.ascon.specs.Rounds.{dataBlocks, textBlocks, messageRounds}
-use Rattle.ascon.proofs.Strings.{bytes-zeros}
-use Rattle.ascon.proofs.Sealing.{decrypt-encrypted}
+use Rattle.ascon.specs.Mode.{p, count, pad, firstBlock, initialise, separate, beforeText, encrypted, decrypted, finalise, Processed, Sealed, sealed, opened}
+use Rattle.ascon.specs.Rounds.{adBlocks, textBlocks, messageRounds}
+use Rattle.ascon.proofs.Sealing.{decrypt-encrypted, open-sealed}
 use Rattle.sets.proofs.Rows.{row-fits, row-sizes}
 use Rattle.stream.specs.declared.Direction.the-variants.{Sealing, Checking}
 use Rattle.stream.specs.declared.Phase.{Phase}
-use Rattle.stream.specs.declared.Phase.the-variants.{Data, Ended}
+use Rattle.stream.specs.declared.Phase.the-variants.{Ad, Ended}
 use Rattle.stream.specs.declared.Stream.{Stream}
-use Rattle.stream.specs.State.{isOpen, isSealing, ended, isSoundOpen, isSound}
-use Rattle.stream.specs.Calls.{Called}
-use Rattle.history.specs.History.{Call, giveText, next, BytesIn}
-use Rattle.history.specs.Cuts.{TextCut, TextCut.text-end, TextCut.text-piece, Cut.data-end, Message}
-use Rattle.message.specs.Message.{SealLeaves}
+use Rattle.stream.specs.State.{isDirection, isOpen, fits, ended, isSoundOpen, isSound}
+use Rattle.stream.specs.Calls.{Start, Called, finishFaults, tagFaults}
+use Rattle.stream.proofs.Tests.{both-true}
+use Rattle.history.specs.History.{Streams, Call, giveText, next, BytesIn}
+use Rattle.history.specs.Cuts.{TextCut, TextCut.text-end, TextCut.text-piece, Cut.ad-end, Message}
+use Rattle.message.specs.Message.{SealLeaves, isNone}
 use Rattle.answers.specs.Order.{Choice, _when_, first}
-use Rattle.message.proofs.Demands.{is-published}
+use Rattle.message.proofs.Answered.{one-text}
 use Rattle.message.proofs.Promise.{length-cipher}
-use Rattle.letter.specs.Model.{Model}
-use Rattle.letter.specs.First.{Listed}
+use Rattle.letter.specs.Messages as messages
+use Rattle.letter.specs.Streams as streams
 use Rattle.letter.specs.Second.{Unrefused, Second}
 use Rattle.letter.specs.Third.{Third}
-use Rattle.letter.specs.Reported.{Reported}
-use Rattle.letter.specs.Worthless.{NeverSeals, NeverStarts, SealsBlindly, Copies, CopiesLater, EmptyEnds, OpensAnyTag, AgreesToAnyTag, SameRounds, SameStreamRounds, ReportsLate, StaysOpen, WritesBeyond, Worthless}
+use Rattle.letter.specs.Worthless.{NeverSeals, NeverOpens, NeverStarts, SealsBlindly, Copies, CopiesOpenings, CopiesLater, EmptyEnds, ForgetsText, OpensAnyTag, AgreesToAnyTag, SameRounds, SameStreamRounds, ReportsLate, StaysOpen, WritesBeyond, Worthless}
 
 -- a key, a nonce and a place for a tag, of set 1
 abbrev sixteen : List ℕ
 sixteen = zeros 16
 
--- the published ciphertext of two zeros under zeros, computed
+-- the published ciphertext and tag of two zeros under zeros
+abbrev zeros-cipher : List ℕ
+zeros-cipher = 0x27 ∷ 0xe6 ∷ []
+
+abbrev zeros-tag : List ℕ
+zeros-tag = bytesOf 16 0xde6025e7f764968e6a9f3ad7fda2f60c
+
+-- they are, computed
+sealed-zeros : sealed (rowOf 1) sixteen sixteen [] (zeros 2) ≡ record { cipher = zeros-cipher; tag = zeros-tag }
+unfolding sealed encrypted beforeText separate initialise firstBlock pad count p permute rounds constantsOf constants round diffuse Σ₀ Σ₁ Σ₂ Σ₃ Σ₄ _⋙_ substitute substituted column fromBits bit sBox addConstant stringOf stateOf bytesOf strings.valueOf rowOf table roundsOf finalise
+sealed-zeros = refl
+
+-- the ciphertext alone
 two-zeros : sealed (rowOf 1) sixteen sixteen [] (zeros 2) .cipher ≡ 0x27 ∷ 0xe6 ∷ []
-unfolding sealed encrypted beforeText separate initialise firstBlock pad count p permute rounds constantsOf constants round diffuse Σ₀ Σ₁ Σ₂ Σ₃ Σ₄ _⋙_ substitute substituted column fromBits bit sBox addConstant stringOf stateOf bytesOf strings.numberOf rowOf table roundsOf
-two-zeros = refl
+two-zeros = ap (λ (w : Sealed). w .cipher) sealed-zeros
 
 -- its length is set 1's
 row-one : length sixteen ≡ rowOf 1 .key
@@ -89,14 +101,33 @@ no-every-tag set K N A C key found =
     differ (suc k) some e = let bytes : _≡_ {A = ℕ} 0 1 = ap (λ (x : List ℕ). getD x 0 0) e in omega (arith, bytes)
 
 -- a good message is listed as done
-refuses : (m : Model) → NeverSeals m → Listed m → ⊥
+refuses : (m : messages.Model) → NeverSeals m → messages.Listed m → ⊥
 unfolding isSet rowOf table
 refuses m undone l = undone 1 sixteen sixteen [] [] [] sixteen (l .seal 1 sixteen sixteen [] [] [] sixteen)
 
+-- a start of set 1 under zeros
+abbrev begin : Start
+begin = record { direction = Sealing; set = 1; key = sixteen; nonce = sixteen }
+
 -- and so is a good start
-refuses-streams : (m : Model) → NeverStarts m → Listed m → ⊥
+refuses-streams : (m : Streams) → NeverStarts m → streams.Listed m → ⊥
 unfolding isSet rowOf table
-refuses-streams m undone l = undone Sealing 1 sixteen sixteen (l .start Sealing 1 sixteen sixteen)
+refuses-streams m undone l = undone begin (l .start begin)
+
+-- the published sealing of two zeros is listed as opened
+opens-zeros : (m : messages.Model) → messages.Listed m
+    → m .unseal 1 sixteen sixteen [] zeros-cipher zeros-tag (zeros 2) .outcome .answer ≡ Done
+unfolding isSet rowOf table bytesOf
+opens-zeros m l =
+    let back : isNone (opened (rowOf 1) sixteen sixteen [] zeros-cipher zeros-tag) ≡ false =
+    ap (λ (w : Sealed). isNone (opened (rowOf 1) sixteen sixteen [] (w .cipher) (w .tag))) (sym sealed-zeros)
+    ∙ ap isNone (open-sealed (rowOf 1) (row-fits 1) sixteen row-one sixteen [] (zeros 2)) in
+    l .unseal 1 sixteen sixteen [] zeros-cipher zeros-tag (zeros 2)
+    ∙ ap (λ (b : Bool). cond b TagDiffers Done) back
+
+-- so not every opening is refused
+refuses-openings : (m : messages.Model) → NeverOpens m → messages.Listed m → ⊥
+refuses-openings m undone l = undone 1 sixteen sixteen [] _ _ (zeros 2) (opens-zeros m l)
 
 -- another byte
 other : ℕ → ℕ
@@ -122,7 +153,7 @@ bytes-other byte rest b = record { at = go byte }
     go byte (suc i) = b .at (suc i)
 
 -- two texts that differ have no sealing in common
-answers-same : (m : Model) (same : ℕ → ℕ → ℕ → ℕ → ℕ → List ℕ → List ℕ → SealLeaves) → SealsBlindly m same
+answers-same : (m : messages.Model) (same : ℕ → ℕ → ℕ → ℕ → ℕ → List ℕ → List ℕ → SealLeaves) → SealsBlindly m same
     → (set : ℕ) (K N A : List ℕ) (byte : ℕ) (rest out tag : List ℕ) → Bytes (byte ∷ rest) → length K ≡ rowOf set .key
     → m .seal set K N A (byte ∷ rest) out tag .outcome .answer ≡ Done
     → Second m → ⊥
@@ -136,10 +167,10 @@ answers-same m same always set K N A byte rest out tag bytes key done s =
       cipher = (sym (p .0) ∙ ap (λ (x : SealLeaves). take (length P) (x .out)) one ∙ q .0) j;
       tag = (sym (p .1) ∙ ap (λ (x : SealLeaves). x .tag) one ∙ q .1) j;
     } in
-    other-differs byte (ap (λ (x : List ℕ). getD x 0 0) (is-published .only set K N A P Q key both))
+    other-differs byte (ap (λ (x : List ℕ). getD x 0 0) (one-text set K N A P Q key both))
 
 -- two zeros are not their own ciphertext
-copies : (m : Model) → Copies m → Listed m → Second m → ⊥
+copies : (m : messages.Model) → Copies m → messages.Listed m → Second m → ⊥
 unfolding isSet rowOf table
 copies m copied l s =
     let done = l .seal 1 sixteen sixteen [] (zeros 2) (zeros 2) sixteen in
@@ -148,17 +179,26 @@ copies m copied l s =
     let differ : _≡_ {A = ℕ} 0 0x27 = ap (λ (x : List ℕ). getD x 0 0) (same ∙ two-zeros) in
     omega arith
 
+-- done is no refusal
+unrefused : (answer : Answer) → answer ≡ Done → Unrefused answer
+unrefused answer e r = let none : numberOf answer ≡ 0 = ap numberOf e in omega (arith, r .0, none)
+
+-- nor is their ciphertext the text
+copies-openings : (m : messages.Model) → CopiesOpenings m → messages.Listed m → Second m → ⊥
+copies-openings m copied l s =
+    let done = opens-zeros m l in
+    let text = s .opens 1 sixteen sixteen [] zeros-cipher _ (zeros 2) (unrefused _ done) (zeros 2) .1 sealed-zeros .1 in
+    let differ : _≡_ {A = ℕ} 0x27 0 = ap (λ (x : List ℕ). getD x 0 0) (sym (copied 1 sixteen sixteen [] _ _ (zeros 2) done) ∙ text) in
+    omega arith
+
 -- a done opening is the sealing of what it hands out
-takes-every-tag : (m : Model) (set : ℕ) (K N A C out : List ℕ) → length K ≡ rowOf set .key → OpensAnyTag m set K N A C out → Second m → ⊥
+takes-every-tag : (m : messages.Model) (set : ℕ) (K N A C out : List ℕ) → length K ≡ rowOf set .key → OpensAnyTag m set K N A C out → Second m → ⊥
 takes-every-tag m set K N A C out key done s =
     no-every-tag set K N A C key (λ T size.
     (take (length C) (m .unseal set K N A C T out .out), s .opens set K N A C T out (unrefused _ (done T size)) _ .0 (done T size, refl)))
-  where
-    unrefused : (answer : Answer) → answer ≡ Done → Unrefused answer
-    unrefused answer e r = let none : numberOf answer ≡ 0 = ap numberOf e in omega (arith, r .0, none)
 
 -- a published sealing is opened where it is not refused
-takes-no-tag : (m : Model) (set : ℕ) (K N A P out : List ℕ) → let published = sealed (rowOf set) K N A P in
+takes-no-tag : (m : messages.Model) (set : ℕ) (K N A P out : List ℕ) → let published = sealed (rowOf set) K N A P in
     let answer = m .unseal set K N A (published .cipher) (published .tag) out .outcome .answer in
     Unrefused answer → (answer ≡ Done → ⊥) → Second m → ⊥
 takes-no-tag m set K N A P out unrefused undone s =
@@ -166,8 +206,8 @@ takes-no-tag m set K N A P out unrefused undone s =
     undone (s .opens set K N A (published .cipher) (published .tag) out unrefused P .1 refl .0)
 
 -- nothing and nothing takes 24 rounds, seven bytes and seven take 30
-makes-up : (m : Model) (n : ℕ) → SameRounds m n → Listed m → Reported m → ⊥
-unfolding isSet rowOf table messageRounds dataBlocks textBlocks roundsOf constantsOf constants
+makes-up : (m : messages.Model) (n : ℕ) → SameRounds m n → messages.Listed m → messages.Reported m → ⊥
+unfolding isSet rowOf table messageRounds adBlocks textBlocks roundsOf constantsOf constants
 makes-up m n same l r =
     let none : n ≡ 24 = told [] (l .seal 1 sixteen sixteen [] [] [] sixteen) in
     let seven : n ≡ 30 = told (zeros 7) (l .seal 1 sixteen sixteen (zeros 7) (zeros 7) (zeros 7) sixteen) in
@@ -179,16 +219,15 @@ makes-up m n same l r =
 -- ---- streams
 
 -- a text of set 1 under zeros, with no data, and a cutting of it
-message : (m : Model) → Listed m → (P : List ℕ) (calls : List Call) → BytesIn calls → length P ≤ textLimit
-    → TextCut (m .streams) Sealing (m .streams .start Sealing 1 sixteen sixteen .next) P calls → Message (m .streams) Sealing 1 sixteen sixteen [] P calls
+message : (m : Streams) → streams.Listed m → (P : List ℕ) (calls : List Call) → BytesIn calls → length P ≤ textLimit
+    → TextCut m Sealing (m .start begin .next) P calls → Message m begin [] P calls
 unfolding isSet rowOf table
 message m l P calls b few cut = record {
-  started = ap isDone (l .start Sealing 1 sixteen sixteen);
-  key-bytes = bytes-zeros 16;
+  started = record { done = ap isDone (l .start begin); key-bytes = bytes-zeros 16 };
   bytes = b;
-  data-within = lit≤ tt;
+  ad-within = lit≤ tt;
   text-within = few;
-  cut = data-end cut;
+  cut = ad-end cut;
 }
 
 -- the joined output of two pieces, the second of which is copied, is not that of two zeros
@@ -205,17 +244,17 @@ copied-later false true x (v ∷ y) copied e = let size : _≡_ {A = ℕ} 1 2 = 
 copied-later false false x y copied e = let size : _≡_ {A = ℕ} 0 2 = ap length e in omega (arith, size)
 
 -- two zeros in two pieces: the second is copied
-copies-later : (m : Model) → CopiesLater m → Listed m → Third m → ⊥
+copies-later : (m : Streams) → CopiesLater m → streams.Listed m → Third m → ⊥
 unfolding next
 copies-later m copied l t =
-    let zero-byte : Call = giveText (0 ∷ []) (0 ∷ []) in
-    let one : Called = m .streams .seal (m .streams .start Sealing 1 sixteen sixteen .next) (0 ∷ []) (0 ∷ []) in
-    let two : Called = m .streams .seal (one .outcome .next) (0 ∷ []) (0 ∷ []) in
-    let whole = t .cutting .seals 1 sixteen sixteen [] (zeros 2) (zero-byte ∷ zero-byte ∷ []) sixteen
+    let zero-byte : Call = giveText Sealing (0 ∷ []) (0 ∷ []) in
+    let one : Called = m .text Sealing (m .start begin .next) (0 ∷ []) (0 ∷ []) in
+    let two : Called = m .text Sealing (one .outcome .next) (0 ∷ []) (0 ∷ []) in
+    let whole = t .cutting .seals begin [] (zeros 2) (zero-byte ∷ zero-byte ∷ []) sixteen refl
     (message m l (zeros 2) (zero-byte ∷ zero-byte ∷ []) (bytes-none, bytes-zeros 1, (bytes-none, bytes-zeros 1, tt)) (lit≤ tt)
-    (text-piece (0 ∷ []) (0 ∷ []) (lit≤ tt) (text-piece (0 ∷ []) (0 ∷ []) (lit≤ tt) text-end))) row-one in
+    (text-piece (0 ∷ []) (0 ∷ []) (λ _. lit≤ tt) (text-piece (0 ∷ []) (0 ∷ []) (λ _. lit≤ tt) text-end))) row-one in
     copied-later (isDone (one .outcome .answer)) (isDone (two .outcome .answer)) (one .lent) (two .lent)
-    (λ e f. copied 1 sixteen sixteen (zero-byte ∷ []) (0 ∷ []) (0 ∷ []) (some (isDone (one .outcome .answer)) e) (done-is (two .outcome .answer) f))
+    (λ e f. copied begin (zero-byte ∷ []) (0 ∷ []) (0 ∷ []) refl (some (isDone (one .outcome .answer)) e) (done-is (two .outcome .answer) f))
     (whole .out ∙ two-zeros)
   where
     -- a byte that was taken is some text
@@ -251,28 +290,52 @@ none-taken phase e s direction a b =
     go true = refl
     go false = refl
 
+-- two zeros in one piece
+abbrev two : Call
+two = giveText Sealing (zeros 2) (zeros 2)
+
+two-whole : (m : Streams) → streams.Listed m → Message m begin [] (zeros 2) (two ∷ [])
+two-whole m l = message m l (zeros 2) (two ∷ []) (bytes-none, bytes-zeros 2, tt) (lit≤ tt) (text-piece (zeros 2) (zeros 2) (λ _. lit≤ tt) text-end)
+
+-- they are taken
+two-taken : (m : Streams) → streams.Listed m → Third m → m .text Sealing (m .start begin .next) (zeros 2) (zeros 2) .outcome .answer ≡ Done
+unfolding next
+two-taken m l t =
+    let given : Called = m .text Sealing (m .start begin .next) (zeros 2) (zeros 2) in
+    let alone = t .cutting .seals begin [] (zeros 2) (two ∷ []) sixteen refl (two-whole m l) row-one in
+    done-is (given .outcome .answer) (gave (isDone (given .outcome .answer)) 2 (given .lent) (0x27 ∷ 0xe6 ∷ []) (alone .out ∙ two-zeros) (lit< tt))
+
+-- and counted
+forgets : (m : Streams) → ForgetsText m → streams.Listed m → Third m → ⊥
+unfolding next
+forgets m none l t =
+    let s : Stream = m .start begin .next in
+    let end : Stream = m .text Sealing s (zeros 2) (zeros 2) .outcome .next in
+    let alone = t .cutting .seals begin [] (zeros 2) (two ∷ []) sixteen refl (two-whole m l) row-one in
+    let passed = none-holds (finishFaults Sealing end 16 ++ tagFaults Sealing end sixteen) refl (ap isDone (sym (l .finish Sealing end sixteen) ∙ alone .answer)) in
+    let open-still = both-true (isOpen (end .phase)) _ (not-false (fits Sealing end) (passed .1 .0)) .0 in
+    let counted = t .limited begin (two-whole m l .started) (two ∷ []) (two-whole m l .bytes) open-still .1 in
+    let taken = ap (λ (a : Answer). length ([] ++ cond (isDone a) (zeros 2) [])) (two-taken m l t) in
+    let zero-is-two : _≡_ {A = ℕ} 0 2 = sym (none s (zeros 2) (zeros 2) (two-taken m l t)) ∙ counted ∙ taken in
+    omega (arith, zero-is-two)
+
 -- two zeros behind an empty piece come to nothing
-ends-early : (m : Model) → EmptyEnds m → Listed m → Third m → ⊥
+ends-early : (m : Streams) → EmptyEnds m → streams.Listed m → Third m → ⊥
 unfolding next
 ends-early m ends l t =
-    let two : Call = giveText (zeros 2) (zeros 2) in
-    let s : Stream = m .streams .start Sealing 1 sixteen sixteen .next in
-    let alone = t .cutting .seals 1 sixteen sixteen [] (zeros 2) (two ∷ []) sixteen
-    (message m l (zeros 2) (two ∷ []) (bytes-none, bytes-zeros 2, tt) (lit≤ tt) (text-piece (zeros 2) (zeros 2) (lit≤ tt) text-end)) row-one in
-    let given : Called = m .streams .seal s (zeros 2) (zeros 2) in
-    let taken : given .outcome .answer ≡ Done =
-    done-is (given .outcome .answer) (gave (isDone (given .outcome .answer)) 2 (given .lent) (0x27 ∷ 0xe6 ∷ []) (alone .out ∙ two-zeros) (lit< tt)) in
-    let empty : m .streams .seal s [] [] .outcome .answer ≡ Done =
-    l .seal-piece s [] [] ∙ empty-taken (isSound s) (isOpen (s .phase) && isSealing (s .direction)) (s .text) 2 textLimit true (sym (l .seal-piece s (zeros 2) (zeros 2)) ∙ taken) in
-    let end : Stream = m .streams .seal s [] [] .outcome .next in
-    let refused : isDone (m .streams .seal end (zeros 2) (zeros 2) .outcome .answer) ≡ false =
-    ap isDone (l .seal-piece end (zeros 2) (zeros 2))
-    ∙ none-taken (end .phase) (ends s [] empty) (isSound end) (isSealing (end .direction)) (PastLimit when not (leb (end .text + 2) textLimit)) (NoRoom when not true) in
-    let behind = t .cutting .seals 1 sixteen sixteen [] (zeros 2) (giveText [] [] ∷ two ∷ []) sixteen
-    (message m l (zeros 2) (giveText [] [] ∷ two ∷ []) (bytes-none, bytes-none, (bytes-none, bytes-zeros 2, tt)) (lit≤ tt)
-    (text-piece [] [] (lit≤ tt) (text-piece (zeros 2) (zeros 2) (lit≤ tt) text-end))) row-one in
-    nothing (isDone (m .streams .seal s [] [] .outcome .answer)) (isDone (m .streams .seal end (zeros 2) (zeros 2) .outcome .answer))
-    (m .streams .seal s [] [] .lent) (m .streams .seal end (zeros 2) (zeros 2) .lent) refused (behind .out ∙ two-zeros)
+    let s : Stream = m .start begin .next in
+    let taken = two-taken m l t in
+    let empty : m .text Sealing s [] [] .outcome .answer ≡ Done =
+    l .text Sealing s [] [] ∙ empty-taken (isSound s) (fits Sealing s) (s .text) 2 textLimit true (sym (l .text Sealing s (zeros 2) (zeros 2)) ∙ taken) in
+    let end : Stream = m .text Sealing s [] [] .outcome .next in
+    let refused : isDone (m .text Sealing end (zeros 2) (zeros 2) .outcome .answer) ≡ false =
+    ap isDone (l .text Sealing end (zeros 2) (zeros 2))
+    ∙ none-taken (end .phase) (ends s [] empty) (isSound end) (isDirection Sealing (end .direction)) (PastLimit when not (leb (end .text + 2) textLimit)) (NoRoom when not true) in
+    let behind = t .cutting .seals begin [] (zeros 2) (giveText Sealing [] [] ∷ two ∷ []) sixteen refl
+    (message m l (zeros 2) (giveText Sealing [] [] ∷ two ∷ []) (bytes-none, bytes-none, (bytes-none, bytes-zeros 2, tt)) (lit≤ tt)
+    (text-piece [] [] (λ _. lit≤ tt) (text-piece (zeros 2) (zeros 2) (λ _. lit≤ tt) text-end))) row-one in
+    nothing (isDone (m .text Sealing s [] [] .outcome .answer)) (isDone (m .text Sealing end (zeros 2) (zeros 2) .outcome .answer))
+    (m .text Sealing s [] [] .lent) (m .text Sealing end (zeros 2) (zeros 2) .lent) refused (behind .out ∙ two-zeros)
   where
     nothing : (a b : Bool) (x y : List ℕ) → b ≡ false → [] ++ cond a (take 0 x) [] ++ cond b (take 2 y) [] ≡ 0x27 ∷ 0xe6 ∷ [] → ⊥
     nothing true false x y f e = let size : _≡_ {A = ℕ} 0 2 = ap length e in omega (arith, size)
@@ -280,75 +343,77 @@ ends-early m ends l t =
     nothing a true x y f e = true≢false f
 
 -- a byte of text and a block of it make the rounds differ
-makes-up-streams : (m : Model) (start text finish : ℕ) → SameStreamRounds m start text finish → Listed m → Third m → ⊥
-unfolding next isSet rowOf table messageRounds dataBlocks textBlocks roundsOf constantsOf constants
+makes-up-streams : (m : Streams) (start text finish : ℕ) → SameStreamRounds m start text finish → streams.Listed m → Third m → ⊥
+unfolding next isSet rowOf table messageRounds adBlocks textBlocks roundsOf constantsOf constants
 makes-up-streams m start text finish same l t =
     let one : start + text + finish ≡ 24 = sum 1 (lit< tt) (lit≤ tt) in
     let eight : start + text + finish ≡ 30 = sum 8 (lit< tt) (lit≤ tt) in
     omega (arith, one, eight)
   where
     s : Stream
-    s = m .streams .start Sealing 1 sixteen sixteen .next
+    s = m .start begin .next
 
     -- n zeros in one piece
     sum : (n : ℕ) → 0 < n → length (zeros n ++ []) ≤ textLimit → start + text + finish ≡ messageRounds (rowOf 1) 0 (length (zeros n ++ []))
     sum n some few =
-        let piece : Call = giveText (zeros n) (zeros n) in
+        let piece : Call = giveText Sealing (zeros n) (zeros n) in
         let P : List ℕ = zeros n ++ [] in
-        let whole = t .cutting .seals 1 sixteen sixteen [] P (piece ∷ []) sixteen
-        (message m l P (piece ∷ []) (bytes-none, bytes-zeros n, tt) few (text-piece (zeros n) (zeros n) (omega arith) text-end)) row-one in
+        let whole = t .cutting .seals begin [] P (piece ∷ []) sixteen refl
+        (message m l P (piece ∷ []) (bytes-none, bytes-zeros n, tt) few (text-piece (zeros n) (zeros n) (λ _. omega arith) text-end)) row-one in
         let size : length (sealed (rowOf 1) sixteen sixteen [] P .cipher) ≡ n = length-cipher 1 sixteen sixteen [] P refl ∙ length-append (zeros n) [] ∙ ap (λ (k : ℕ). k + 0) (length-replicate n 0) ∙ omega arith in
-        let taken = done-is (m .streams .seal s (zeros n) (zeros n) .outcome .answer) (gave _ (length (zeros n)) _ _ (whole .out) (omega (arith, size, some))) in
-        let begin = same .0 Sealing 1 sixteen sixteen (l .start Sealing 1 sixteen sixteen) in
+        let taken = done-is (m .text Sealing s (zeros n) (zeros n) .outcome .answer) (gave _ (length (zeros n)) _ _ (whole .out) (omega (arith, size, some))) in
+        let first-rounds = same .0 begin (l .start begin) in
         let middle = same .1 s (zeros n) (zeros n) taken in
-        let end = same .2 (m .streams .seal s (zeros n) (zeros n) .outcome .next) sixteen (whole .answer) in
+        let end = same .2 (m .text Sealing s (zeros n) (zeros n) .outcome .next) sixteen (whole .answer) in
         let all = whole .rounds in
-        omega (arith, begin, middle, end, all)
+        omega (arith, first-rounds, middle, end, all)
 
 -- a checking's yes is a sealing under the tag
-says-yes : (m : Model) (set : ℕ) (K N A C : List ℕ) (calls : List Call) → length K ≡ rowOf set .key → Message (m .streams) Checking set K N A C calls
-    → AgreesToAnyTag m set K N calls → Third m → ⊥
-says-yes m set K N A C calls key message agrees t =
-    no-every-tag set K N A C key (λ tag size. t .cutting .checks set K N A C calls tag message .yes .0 (agrees tag size))
+says-yes : (m : Streams) (start : Start) (A C : List ℕ) (calls : List Call) → length (start .key) ≡ rowOf (start .set) .key → start .direction ≡ Checking
+    → Message m start A C calls → AgreesToAnyTag m start calls → Third m → ⊥
+says-yes m start A C calls key checking message agrees t =
+    no-every-tag (start .set) (start .key) (start .nonce) A C key (λ tag size. t .cutting .checks start A C calls tag checking message .yes .0 (agrees tag size))
 
 -- a start runs twelve rounds
-reports-late : (m : Model) → ReportsLate m → Listed m → Reported m → ⊥
+reports-late : (m : Streams) → ReportsLate m → streams.Listed m → streams.Reported m → ⊥
 unfolding isSet rowOf table
 reports-late m none l r =
-    let twelve = r .start Sealing 1 sixteen sixteen (l .start Sealing 1 sixteen sixteen) .0 in
-    let nought = none Sealing 1 sixteen sixteen in
+    let twelve = r .start begin (l .start begin) .0 in
+    let nought = none begin in
     omega (arith, twelve, nought)
 
 -- a stream of set 1 with nothing taken
 fresh : Stream
-fresh = record { words = zeros 5; set = 1; direction = Sealing; phase = Data; key = zeros 16; ad = 0; text = 0; place = 0 }
+fresh = record { words = zeros 5; set = 1; direction = Sealing; phase = Ad; key = zeros 16; ad = 0; text = 0; place = 0 }
 
 -- a finish of it is done, and ends it
-stays-open : (m : Model) → StaysOpen m → Listed m → Reported m → ⊥
+stays-open : (m : Streams) → StaysOpen m → streams.Listed m → streams.Reported m → ⊥
 unfolding isSet rowOf table isSound isSoundOpen fresh
 stays-open m same l r =
-    let done = l .finish-sealing fresh sixteen in
-    let end : fresh ≡ ended = sym (same fresh sixteen done) ∙ r .finish-sealing fresh sixteen done .1 in
-    let phase : Data ≡ Ended = ap (λ (s : Stream). s .phase) end in
+    let done = l .finish Sealing fresh sixteen in
+    let end : fresh ≡ ended = sym (same fresh sixteen done) ∙ r .finish Sealing fresh sixteen (inl done) .1 in
+    let phase : Ad ≡ Ended = ap (λ (s : Stream). s .phase) end in
     let off : _≡_ {A = ℕ} 0 1 = cc phase in
     omega arith
 
 -- an empty piece of it is done, and leaves the one byte lent
-writes-beyond : (m : Model) (s : Stream) (piece out : List ℕ) (place : ℕ) → WritesBeyond m s piece out place → Reported m → ⊥
-writes-beyond m s piece out place (done, behind, changed) r =
-    let lent = m .streams .seal s piece out .lent in
+writes-beyond : (m : Streams) (s : Stream) (piece out : List ℕ) (index : ℕ) → WritesBeyond m s piece out index → streams.Reported m → ⊥
+writes-beyond m s piece out index (done, behind, changed) r =
+    let lent = m .text Sealing s piece out .lent in
     let n = length piece in
-    let here : place ≡ n + (place - n) = omega arith in
-    let at : (l : List ℕ) → getD l place 0 ≡ getD (drop n l) (place - n) 0 = λ l. ap (λ (k : ℕ). getD l k 0) here ∙ sym (getD-drop n l (place - n) 0) in
-    changed (at lent ∙ ap (λ (l : List ℕ). getD l (place - n) 0) (r .seal-piece s piece out done .3) ∙ sym (at out))
+    let here : index ≡ n + (index - n) = omega arith in
+    let at : (l : List ℕ) → getD l index 0 ≡ getD (drop n l) (index - n) 0 = λ l. ap (λ (k : ℕ). getD l k 0) here ∙ sym (getD-drop n l (index - n) 0) in
+    changed (at lent ∙ ap (λ (l : List ℕ). getD l (index - n) 0) (r .text Sealing s piece out done .3) ∙ sym (at out))
 
 pub worthless : Worthless
 worthless =
     record {
       refuses = refuses;
       refuses-streams = refuses-streams;
+      refuses-openings = refuses-openings;
       answers-same = answers-same;
       copies = copies;
+      copies-openings = copies-openings;
       takes-every-tag = takes-every-tag;
       takes-no-tag = takes-no-tag;
       says-yes = says-yes;
@@ -357,6 +422,7 @@ worthless =
       writes-beyond = writes-beyond;
       copies-later = copies-later;
       ends-early = ends-early;
+      forgets = forgets;
       makes-up = makes-up;
       makes-up-streams = makes-up-streams;
     }

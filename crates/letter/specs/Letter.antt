@@ -10,23 +10,24 @@ use Rattle.ascon.specs.Mode.{decrypted, sealed}
 use Rattle.ascon.specs.Rounds.{runs, total, messageRounds, Marked}
 use Rattle.ascon.specs.Cases.{Cases}
 use Rattle.ascon.specs.Known as ascon
+use Rattle.history.specs.History.{HistoryLaw}
 use Rattle.judge.specs.Laws.{Judges}
 use Rattle.turns.specs.Laws.{WholeReports}
-use Rattle.letter.specs.Model.{Model, ours, Keeps}
+use Rattle.letter.specs.Model.{Model, ours, Keeps, Reported}
 use Rattle.letter.specs.First.{First}
 use Rattle.letter.specs.Second.{Second}
 use Rattle.letter.specs.Third.{Third}
-use Rattle.letter.specs.Reported.{Reported}
 use Rattle.letter.specs.Worthless.{Worthless}
-use Rattle.letter.specs.Wrong.{Wrong}
 
 pub record Letter : Type 2 where
   -- what it does with anything that is not a good message
   pub first : First
   -- who says that it is the cipher
-  pub second : (m : Model) → Keeps m → Second m
+  pub second : (m : Model) → Keeps m → Second (m .messages)
   -- whether the cut matters
-  pub third : (m : Model) → Keeps m → Third m
+  pub third : (m : Model) → Keeps m → Third (m .streams)
+  -- behind it: after any calls, also refused ones, the state, with its counts, is that of the start, the phase, and what was taken
+  pub history : (m : Model) → Keeps m → HistoryLaw (m .streams)
   -- what each call reports and leaves beyond the demands' words
   pub reported : (m : Model) → Keeps m → Reported m
   -- there is a model that keeps the contracts
@@ -47,6 +48,5 @@ pub record Letter : Type 2 where
   pub judging : Judges
   -- the bench's program: it says its end only where all of its report is written, and there if no call fails
   pub program : WholeReports
-  -- what the demands and the contracts shut out
+  -- what the demands shut out
   pub worthless : Worthless
-  pub wrong : Wrong

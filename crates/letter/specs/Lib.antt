@@ -1,10 +1,14 @@
--- The letter: every public call, the three demands, and what they shut out.
-pub mod EveryCall
+-- The letter: what is said of each family of calls, the three demands, and what they shut out.
+pub mod Calls
+pub mod Engine
+pub mod Messages
+pub mod Streams
+pub mod Records
+pub mod Judging
 pub mod Model
 pub mod First
 pub mod Second
 pub mod Third
-pub mod Reported
 pub mod Worthless
 pub mod Wrong
 pub mod Letter

@@ -9,7 +9,7 @@ use Rattle.answers.specs.declared.Answer.the-variants.{Done}
 use Rattle.answers.specs.Numbers.{numberOf}
 use Rattle.ascon.specs.Sets.{rowOf}
 use Rattle.ascon.specs.Mode.{sealed}
-use Rattle.letter.specs.Model.{Model}
+use Rattle.letter.specs.Messages.{Model}
 
 -- no refusal 1 to 6
 abbrev pub Unrefused : Answer → Type 0

@@ -10,26 +10,26 @@ use lib.Dec.{eqb}
 use lib.ListN.{length}
 use Rattle.answers.specs.Numbers.{isDone}
 use Rattle.permutation.specs.Runs.{roundsOf, constantsOf, constants}
-use Rattle.ascon.specs.Sets.{rowOf, dataLimit, textLimit}
+use Rattle.ascon.specs.Sets.{rowOf, adLimit, textLimit}
 use Rattle.ascon.specs.Mode.{opened}
-use Rattle.ascon.specs.Rounds.{dataBlocks, textBlocks, messageRounds}
+use Rattle.ascon.specs.Rounds.{adBlocks, textBlocks, messageRounds}
 use Rattle.sets.proofs.Rows.{row-sizes}
 use Rattle.message.specs.Message.{messageTest, SealLeaves, sealCall, OpenLeaves, judged, openCall}
 use Rattle.message.proofs.Tests.{message-passed}
 
-few-blocks : (r n : ℕ) → n ≤ dataLimit → dataBlocks r n ≤ 65_537
-unfolding dataBlocks
+few-blocks : (r n : ℕ) → n ≤ adLimit → adBlocks r n ≤ 65_537
+unfolding adBlocks
 few-blocks r n h = go (eqb n 0)
   where
     go : (z : Bool) → cond z 0 (n / r + 1) ≤ 65_537
     go true = omega arith
     go false = omega (arith, div-le-self n r)
 
-few-rounds : (set a n : ℕ) → a ≤ dataLimit → n ≤ textLimit → messageRounds (rowOf set) a n ≤ 8_912_928
+few-rounds : (set a n : ℕ) → a ≤ adLimit → n ≤ textLimit → messageRounds (rowOf set) a n ≤ 8_912_928
 unfolding messageRounds textBlocks roundsOf constantsOf constants
 few-rounds set a n h k =
     let row = rowOf set in
-    let blocks : ℕ = dataBlocks (row .block) a + (n / row .block + 1) - 1 in
+    let blocks : ℕ = adBlocks (row .block) a + (n / row .block + 1) - 1 in
     let bound : blocks ≤ 1_114_113 = omega (arith, few-blocks (row .block) a h, div-le-self n (row .block)) in
     let most : roundsOf (row .between) * blocks ≤ 8 * blocks = mul-le-mul-right blocks (row-sizes set .rounds) in
     rw (row-sizes set .ends) (omega arith)

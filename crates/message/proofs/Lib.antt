@@ -2,5 +2,5 @@
 pub mod Tests
 pub mod Whole
 pub mod Bounds
-pub mod Demands
+pub mod Answered
 pub mod Promise

@@ -11,8 +11,8 @@ use Rattle.answers.specs.declared.Answer.the-variants.{Done}
 use Rattle.answers.specs.Numbers.{isDone}
 use Rattle.answers.specs.Order.{Choice, first}
 use Rattle.answers.proofs.Order.{none-holds, first-append}
-use Rattle.ascon.specs.Sets.{rowOf, dataLimit, textLimit}
-use Rattle.stream.specs.Calls.{startFaults, startTest}
+use Rattle.ascon.specs.Sets.{rowOf, adLimit, textLimit}
+use Rattle.sets.specs.Start.{startFaults, startTest}
 use Rattle.message.specs.Message.{faults, messageTest}
 
 -- those behind the tests of a start
@@ -36,7 +36,7 @@ pub record MessagePassed (set key nonce tag ad text out : ℕ) : Type 0 where
   pub key-fits : key ≡ rowOf set .key
   pub nonce-fits : nonce ≡ rowOf set .key
   pub tag-fits : tag ≡ rowOf set .key
-  pub ad-within : ad ≤ dataLimit
+  pub ad-within : ad ≤ adLimit
   pub text-within : text ≤ textLimit
   pub room : text ≤ out
 
@@ -46,12 +46,12 @@ unfolding messageTest
 message-passed set key nonce tag ad text out e =
     let h = none-holds (faults set key nonce tag ad text out) refl e in
     let behind = h .1 .1 .1 in
-    let within = both-passed (leb ad dataLimit) (leb text textLimit) (behind .1 .0) in
+    let within = both-passed (leb ad adLimit) (leb text textLimit) (behind .1 .0) in
     record {
       key-fits = eqb-true key (rowOf set .key) (not-false (eqb key (rowOf set .key)) (h .1 .0));
       nonce-fits = eqb-true nonce (rowOf set .key) (not-false (eqb nonce (rowOf set .key)) (h .1 .1 .0));
       tag-fits = eqb-true tag (rowOf set .key) (not-false (eqb tag (rowOf set .key)) (behind .0));
-      ad-within = leb-true ad dataLimit (within .0);
+      ad-within = leb-true ad adLimit (within .0);
       text-within = leb-true text textLimit (within .1);
       room = leb-true text out (not-false (leb text out) (behind .1 .1 .0));
     }

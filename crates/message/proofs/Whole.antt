@@ -5,14 +5,14 @@ use Prim.Native.Nat.{ℕ, _-_, _≤_}
 use lib.ListN.{length, drop}
 use lib.Seq.{take-at}
 use borrow.Author.Tests.{le-leb}
-use Rattle.permutation.specs.Strings.{Bytes, wordsOfString}
+use Rattle.permutation.specs.Strings.{Bytes, wordsOfString, zeros}
 use Rattle.ascon.specs.Sets.{ParameterSet}
-use Rattle.ascon.specs.Mode.{zeros, p, Processed, initialise, beforeText, finalise}
+use Rattle.ascon.specs.Mode.{p, Processed, initialise, beforeText, finalise}
 use Rattle.ascon.proofs.Views.{streamed}
 use Rattle.ascon.proofs.Sealing.{Fits, encrypted-view, decrypted-view}
 use Rattle.sponge.specs.declared.Way.{Way}
 use Rattle.sponge.specs.declared.Way.the-variants.{Seal, Open}
-use Rattle.sponge.specs.Sponge.{keepOf, started, absorbed, crypted, cryptedOf, dataClosed, tagOf}
+use Rattle.sponge.specs.Sponge.{keepOf, started, absorbed, crypted, cryptedOf, adClosed, tagOf}
 use Rattle.sponge.proofs.Fronts.{stood, absorbed-more, given-more, tag-is, l₀, b₀, closed-is, l₁, b₁}
 use Rattle.permutation.proofs.Strings.{bytes-none}
 use Rattle.message.specs.Message.{processed}
@@ -32,9 +32,9 @@ module _ (row : ParameterSet) (fits : Fits row) (K N : List ℕ) (key : length K
       (take-at K (zeros (16 - length K)) (row .key) key) (take-at N (zeros (16 - length N)) (row .key) nonce)
 
   -- the words before the text
-  pub before-is : (A : List ℕ) → Bytes A → dataClosed row (absorbed row Seal (wordsOfString (initialise row K N)) 0 A) (length A) ≡ wordsOfString (beforeText row K N A)
+  pub before-is : (A : List ℕ) → Bytes A → adClosed row (absorbed row Seal (wordsOfString (initialise row K N)) 0 A) (length A) ≡ wordsOfString (beforeText row K N A)
   before-is A ab =
-      ap (λ (w : List ℕ). dataClosed row w (length A)) (absorbed-more row fits Seal (initialise row K N) (l₀ row fits K N key kb) (b₀ row fits K N key kb) [] A bytes-none)
+      ap (λ (w : List ℕ). adClosed row w (length A)) (absorbed-more row fits Seal (initialise row K N) (l₀ row fits K N key kb) (b₀ row fits K N key kb) [] A bytes-none)
       ∙ closed-is row fits K N key kb A ab
 
   module _ (way : Way) (A X : List ℕ) where

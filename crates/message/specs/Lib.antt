@@ -1,3 +1,2 @@
 -- The rules of whole messages.
 pub mod Message
-pub mod Demands

@@ -1,5 +1,5 @@
 -- What sealing and opening a whole message answer: the tests in their order, the rounds, and what each lent place then holds.
-use mathlib.Core.Bool.{cond, not, _||_}
+use mathlib.Core.Bool.{Bool, true, false, cond, not, _||_}
 use mathlib.Core.List.{List, [], _∷_, _++_}
 use mathlib.Core.Option.{Option, some, none}
 use Prim.Native.Nat.{ℕ}
@@ -9,12 +9,13 @@ use Rattle.answers.specs.declared.Answer.{Answer}
 use Rattle.answers.specs.declared.Answer.the-variants.{Done, TagLength, PastLimit, NoRoom, TagDiffers}
 use Rattle.answers.specs.Numbers.{isDone}
 use Rattle.answers.specs.Order.{Choice, _when_, first}
-use Rattle.ascon.specs.Sets.{ParameterSet, rowOf, dataLimit, textLimit}
-use Rattle.ascon.specs.Mode.{zeros, Processed, encrypted, decrypted, sealed, opened}
+use Rattle.ascon.specs.Sets.{ParameterSet, rowOf, adLimit, textLimit}
+use Rattle.permutation.specs.Strings.{zeros}
+use Rattle.ascon.specs.Mode.{Processed, encrypted, decrypted, sealed, opened}
 use Rattle.ascon.specs.Rounds.{messageRounds}
 use Rattle.sponge.specs.declared.Way.{Way}
 use Rattle.sponge.specs.declared.Way.the-variants.{Seal, Open}
-use Rattle.stream.specs.Calls.{startFaults}
+use Rattle.sets.specs.Start.{startFaults}
 use Rattle.message.specs.declared.Outcome.{Outcome}
 
 -- ---- the tests, in their order
@@ -24,7 +25,7 @@ abbrev pub faults : ℕ → ℕ → ℕ → ℕ → ℕ → ℕ → ℕ → List
 faults set key nonce tag ad text out =
     startFaults set key nonce
     ++ TagLength when not (eqb tag (rowOf set .key))
-    ∷ PastLimit when (not (leb ad dataLimit) || not (leb text textLimit))
+    ∷ PastLimit when (not (leb ad adLimit) || not (leb text textLimit))
     ∷ NoRoom when not (leb text out)
     ∷ []
 
@@ -61,10 +62,23 @@ pub record OpenLeaves : Type 0 where
 abbrev pub openLeaves : Outcome → List ℕ → OpenLeaves
 openLeaves outcome out = record { outcome = outcome; out = out }
 
--- done with the plaintext, or 9 with as many zeros as the ciphertext has bytes; bytes of `out` beyond it stay
+-- nothing was opened
+abbrev pub isNone : Option (List ℕ) → Bool
+isNone (some P) = false
+isNone none = true
+
+-- behind the tests, of what was opened: 9
+abbrev pub openFaults : Option (List ℕ) → List (Choice Answer)
+openFaults opening = TagDiffers when isNone opening ∷ []
+
+-- the plaintext, or n zeros
+abbrev pub orZeros : Option (List ℕ) → ℕ → List ℕ
+orZeros (some P) n = P
+orZeros none n = zeros n
+
+-- an opening of n bytes; bytes of `out` beyond them stay
 abbrev pub judged : Option (List ℕ) → ℕ → ℕ → List ℕ → OpenLeaves
-judged (some P) rounds n out = openLeaves (record { answer = Done; rounds = rounds }) (P ++ drop n out)
-judged none rounds n out = openLeaves (record { answer = TagDiffers; rounds = rounds }) (zeros n ++ drop n out)
+judged opening rounds n out = openLeaves (record { answer = first Done (openFaults opening); rounds = rounds }) (orZeros opening n ++ drop n out)
 
 -- the published opening
 unfoldable pub openCall : ℕ → List ℕ → List ℕ → List ℕ → List ℕ → List ℕ → List ℕ → OpenLeaves

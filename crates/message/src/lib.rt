@@ -4,9 +4,10 @@ ghost use mathlib.Core.Path.{_≡_};
 ghost use mathlib.Core.List.{_++_};
 ghost use Prim.Native.Nat.{_-_, _≤_};
 ghost use lib.ListN.{length, drop};
-ghost use Rattle.ascon.specs.Sets.{rowOf};
-ghost use Rattle.ascon.specs.Mode.{zeros, finalise};
-ghost use Rattle.ascon.specs.Rounds.{dataBlocks, messageRounds};
+ghost use Rattle.ascon.specs.Sets.{rowOf, adLimit, textLimit};
+ghost use Rattle.permutation.specs.Strings.{zeros};
+ghost use Rattle.ascon.specs.Mode.{finalise};
+ghost use Rattle.ascon.specs.Rounds.{adBlocks, messageRounds};
 ghost use Rattle.message.specs.Message.{processed, messageTest, sealLeaves, sealCall, openLeaves, openCall};
 use answers::Answer;
 use sponge::Way;
@@ -29,17 +30,17 @@ fn message_test(
 ) -> Answer
     ensures { λ r. ⌜ r ≡ messageTest set key nonce tag ad text out ⌝ }
 {
-    let start = stream::start_test(set, key, nonce);
+    let start = sets::start_test(set, key, nonce);
     if !answers::is_done(start) {
         return start;
     }
     if tag != sets::key_length(set) {
         return Answer::TagLength;
     }
-    if 65536 < ad {
+    if sets::AD_LIMIT < ad {
         return Answer::PastLimit;
     }
-    if 1048576 < text {
+    if sets::TEXT_LIMIT < text {
         return Answer::PastLimit;
     }
     if out < text {
@@ -49,9 +50,9 @@ fn message_test(
 }
 
 // The padded blocks of associated data.
-fn data_blocks(set: u64, ad: usize) -> usize
-    requires { ⌜ ad ≤ 65536 ⌝ }
-    ensures { λ r. ⌜ r ≡ dataBlocks (rowOf set .block) ad ⌝ }
+fn ad_blocks(set: u64, ad: usize) -> usize
+    requires { ⌜ ad ≤ adLimit ⌝ }
+    ensures { λ r. ⌜ r ≡ adBlocks (rowOf set .block) ad ⌝ }
     ensures { λ r. ⌜ r ≤ 65537 ⌝ }
 {
     if ad == 0 {
@@ -62,11 +63,11 @@ fn data_blocks(set: u64, ad: usize) -> usize
 
 // The rounds of a message, by the lengths of its data and of its text.
 fn message_rounds(set: u64, ad: usize, text: usize) -> u64
-    requires { ⌜ ad ≤ 65536 ⌝ }
-    requires { ⌜ text ≤ 1048576 ⌝ }
+    requires { ⌜ ad ≤ adLimit ⌝ }
+    requires { ⌜ text ≤ textLimit ⌝ }
     ensures { λ r. ⌜ r ≡ messageRounds (rowOf set) ad text ⌝ }
 {
-    let blocks = data_blocks(set, ad) + text / sets::block_length(set);
+    let blocks = ad_blocks(set, ad) + text / sets::block_length(set);
     24 + sets::rounds_between(set) * (blocks as u64)
 }
 
@@ -89,19 +90,19 @@ fn process(
     let key16 = tags::sixteen(key);
     let started = sponge::start(set, key16, tags::sixteen(nonce));
     let absorbed = sponge::absorb(set, Way::Seal, started, 0, ad);
-    let before = sponge::close_data(set, absorbed, ad.len());
+    let before = sponge::close_ad(set, absorbed, ad.len());
     let after = sponge::crypt(set, way, before, 0, text, out);
     sponge::finish(set, after, text.len(), key16)
 }
 
 // Puts zeros into the first n bytes of a place.
-fn clear(place: &mut [u8], n: usize)
-    requires { ⌜ n ≤ length (now place) ⌝ }
-    ensures { λ _. ⌜ now (place .exit) ≡ zeros n ++ drop n (now (place .entry)) ⌝ }
+fn clear(out: &mut [u8], n: usize)
+    requires { ⌜ n ≤ length (now out) ⌝ }
+    ensures { λ _. ⌜ now (out .exit) ≡ zeros n ++ drop n (now (out .entry)) ⌝ }
 {
     let mut i = 0;
     while i < n {
-        place[i] = 0;
+        out[i] = 0;
         i += 1;
     }
 }

@@ -1,17 +1,20 @@
--- A number and its bytes, a state and its 40 bytes, are each other's inverse.
+-- Strings of bytes: zeros, the test for equality; a number and its bytes, a state and its 40 bytes, are each other's inverse.
 use mathlib.Core.Path.{_≡_, refl, sym, ap, ap₂, _∙_}
+use mathlib.Core.Bool.{Bool, true, false, _&&_, false≢true}
 use mathlib.Core.List.{List, [], _∷_, _++_}
 use Prim.Native.Nat.{ℕ, zero, suc, _+_, _-_, _*_, _/_, _%_, _^_, _≤_, _<_}
-use native.Mathlib.Nat.{mod-lt, mod-eq-of-lt, mod-one, mul-mod-left, div-eq-of-lt, lt-of-lt-of-le, not-suc-le-zero, le-of-suc-le-suc}
+use native.Mathlib.Nat.{mod-lt, mod-eq-of-lt, mod-one, mul-mod-left, div-eq-of-lt, lt-of-lt-of-le, not-suc-le-zero, le-of-suc-le-suc, sub-zero, zero-sub, suc-sub-suc}
+use native.Mathlib.Numerals.{add-one}
 use native.Mathlib.Omega.{arith}
 use lib.Arith.{digits-lt}
 use lib.Bits.{bitXor, xor-shr, xor-mod, xor-zero-r}
-use lib.Dec.{lit<}
+use lib.Dec.{eqb, lit<}
 use lib.ListN.{length, getD, set, take, drop, length-drop, take-append-drop}
 use lib.Pow.{pow-add, pow-mono, mod-pow-add, mod-mod-pow, field, high, low, shl-lt, shl-shr}
-use lib.Seq.{length-take-le, take-all, drop-drop, getD-drop}
+use lib.Seq.{length-take-le, take-all, drop-drop, drop-cons, getD-drop}
+use borrow.Author.Tests.{eqb-true, eq-eqb}
 use Rattle.permutation.specs.declared.State.{State}
-use Rattle.permutation.specs.Strings.{Bytes, bytesOf, numberOf, stringOf, stateOf}
+use Rattle.permutation.specs.Strings.{Bytes, zeros, same, bytesOf, valueOf, stringOf, stateOf}
 use Rattle.permutation.proofs.Words.{Words}
 
 -- ---- strings of bytes
@@ -25,6 +28,16 @@ bytes-cons {b} {x} h p = record { at = each }
     each : (i : ℕ) → getD (b ∷ x) i 0 < 2 ^ 8
     each zero = h
     each (suc i) = p .at i
+
+pub bytes-zeros : (n : ℕ) → Bytes (zeros n)
+bytes-zeros zero = record { at = λ i. lit< tt }
+bytes-zeros (suc n) = bytes-cons (lit< tt) (bytes-zeros n)
+
+-- what is left of zeros
+pub drop-zeros : (n m : ℕ) → drop n (zeros m) ≡ zeros (m - n)
+drop-zeros zero m = ap zeros (sym (sub-zero m))
+drop-zeros (suc n) zero = ap zeros (sym (zero-sub (suc n)))
+drop-zeros (suc n) (suc m) = drop-zeros n m ∙ ap zeros (sym (suc-sub-suc m n))
 
 pub bytes-tail : {b : ℕ} {x : List ℕ} → Bytes (b ∷ x) → Bytes x
 bytes-tail p = record { at = λ i. p .at (suc i) }
@@ -46,6 +59,27 @@ bytes-set [] i b p h = p
 bytes-set (a ∷ x) zero b p h = bytes-cons h (bytes-tail p)
 bytes-set (a ∷ x) (suc i) b p h = bytes-cons (p .at 0) (bytes-set x i b (bytes-tail p) h)
 
+-- ---- the test for equality
+
+pub same-refl : (x : List ℕ) → same x x ≡ true
+same-refl [] = refl
+same-refl (a ∷ x) = rw (eq-eqb a a refl, same-refl x)
+
+pub same-eq : (x y : List ℕ) → same x y ≡ true → x ≡ y
+same-eq [] [] e = refl
+same-eq [] (b ∷ y) e = absurd (false≢true e)
+same-eq (a ∷ x) [] e = absurd (false≢true e)
+same-eq (a ∷ x) (b ∷ y) e = go (eqb a b) refl e (same-eq x y)
+  where
+    go : (t : Bool) → eqb a b ≡ t → (t && same x y) ≡ true → (same x y ≡ true → x ≡ y) → a ∷ x ≡ b ∷ y
+    go true f g rest = ap₂ (λ (c : ℕ) (t : List ℕ). c ∷ t) (eqb-true a b f) (rest g)
+    go false f g rest = absurd (false≢true g)
+
+-- the bytes at i, and the rest
+pub same-left : (xs ys : List ℕ) (i : ℕ) → i < length xs → i < length ys
+    → same (drop i xs) (drop i ys) ≡ (eqb (getD xs i 0) (getD ys i 0) && same (drop (i + 1) xs) (drop (i + 1) ys))
+same-left xs ys i h k = rw (add-one i, drop-cons xs i 0 h, drop-cons ys i 0 k)
+
 -- ---- a number and its bytes
 
 -- one byte more
@@ -63,8 +97,8 @@ bytes-bytes zero x = bytes-none
 bytes-bytes (suc n) x = bytes-cons (mod-lt (x / 2 ^ (8 * n)) (lit< tt)) (bytes-bytes n x)
 
 -- n bytes of a number make the number up to 2 ^ (8 * n)
-number-low : (n x : ℕ) → numberOf (bytesOf n x) ≡ x % 2 ^ (8 * n)
-unfolding bytesOf numberOf
+number-low : (n x : ℕ) → valueOf (bytesOf n x) ≡ x % 2 ^ (8 * n)
+unfolding bytesOf valueOf
 number-low zero x = sym (mod-one x)
 number-low (suc n) x =
     ap₂ (λ (l m : ℕ). x / 2 ^ (8 * n) % 2 ^ 8 * 2 ^ (8 * l) + m) (length-bytes n x) (number-low n x)
@@ -72,7 +106,7 @@ number-low (suc n) x =
     ∙ ap (λ (k : ℕ). x % 2 ^ k) (sym (eight-more n))
 
 -- the bytes of a number make the number
-pub number-bytes : (n x : ℕ) → x < 2 ^ (8 * n) → numberOf (bytesOf n x) ≡ x
+pub number-bytes : (n x : ℕ) → x < 2 ^ (8 * n) → valueOf (bytesOf n x) ≡ x
 number-bytes n x h = number-low n x ∙ mod-eq-of-lt h
 
 -- numbers alike up to 2 ^ (8 * n) have the same n bytes
@@ -86,8 +120,8 @@ same-low (suc n) x y e =
     (same-low n x y (sym (mod-mod-pow x 8 (8 * n)) ∙ ap (λ (m : ℕ). m % 2 ^ (8 * n)) f ∙ mod-mod-pow y 8 (8 * n)))
 
 -- a string of n bytes makes a number below 2 ^ (8 * n)
-pub number-lt : (x : List ℕ) → Bytes x → numberOf x < 2 ^ (8 * length x)
-unfolding numberOf
+pub number-lt : (x : List ℕ) → Bytes x → valueOf x < 2 ^ (8 * length x)
+unfolding valueOf
 number-lt [] p = lit< tt
 number-lt (b ∷ x) p =
     let e : 2 ^ 8 * 2 ^ (8 * length x) ≡ 2 ^ (8 * suc (length x)) =
@@ -95,15 +129,15 @@ number-lt (b ∷ x) p =
     rw (← e) (digits-lt (p .at 0) (number-lt x (bytes-tail p)))
 
 -- the number of a string of bytes has these bytes
-pub bytes-number : (x : List ℕ) → Bytes x → bytesOf (length x) (numberOf x) ≡ x
-unfolding numberOf bytesOf
+pub bytes-number : (x : List ℕ) → Bytes x → bytesOf (length x) (valueOf x) ≡ x
+unfolding valueOf bytesOf
 bytes-number [] p = refl
 bytes-number (b ∷ x) p =
     let k : ℕ = 8 * length x in
-    let l : numberOf x < 2 ^ k = number-lt x (bytes-tail p) in
+    let l : valueOf x < 2 ^ k = number-lt x (bytes-tail p) in
     ap₂ (λ (c : ℕ) (t : List ℕ). c ∷ t)
     (ap (λ (m : ℕ). m % 2 ^ 8) (high b k l) ∙ mod-eq-of-lt (p .at 0))
-    (same-low (length x) (b * 2 ^ k + numberOf x) (numberOf x) (low b k l ∙ sym (mod-eq-of-lt l)) ∙ bytes-number x (bytes-tail p))
+    (same-low (length x) (b * 2 ^ k + valueOf x) (valueOf x) (low b k l ∙ sym (mod-eq-of-lt l)) ∙ bytes-number x (bytes-tail p))
 
 -- ---- one byte of a number
 
@@ -165,11 +199,11 @@ state-string s h = λ j. record {
 }
 
 -- eight bytes of a string, through their number
-eight-bytes : (i : ℕ) (S : List ℕ) → Bytes S → i + 8 ≤ length S → bytesOf 8 (numberOf (take 8 (drop i S))) ≡ take 8 (drop i S)
+eight-bytes : (i : ℕ) (S : List ℕ) → Bytes S → i + 8 ≤ length S → bytesOf 8 (valueOf (take 8 (drop i S))) ≡ take 8 (drop i S)
 eight-bytes i S p h =
     let d : length (drop i S) ≡ length S - i = length-drop i S in
     let e : length (take 8 (drop i S)) ≡ 8 = length-take-le 8 (drop i S) (omega arith) in
-    ap (λ (n : ℕ). bytesOf n (numberOf (take 8 (drop i S)))) (sym e) ∙ bytes-number (take 8 (drop i S)) (bytes-take 8 (bytes-drop i p))
+    ap (λ (n : ℕ). bytesOf n (valueOf (take 8 (drop i S)))) (sym e) ∙ bytes-number (take 8 (drop i S)) (bytes-take 8 (bytes-drop i p))
 
 -- eight bytes, and what follows them
 eight-on : (i : ℕ) (S rest : List ℕ) → rest ≡ drop (i + 8) S → take 8 (drop i S) ++ rest ≡ drop i S

@@ -12,14 +12,14 @@ use Rattle.digits.specs.Numbers.{numeral}
 use Rattle.digits.proofs.Spelling.{and-both, length-hex}
 use Rattle.digits.proofs.Numerals.{places-least, length-numeral}
 use Rattle.ascon.specs.Sets.{rowOf}
-use Rattle.sets.proofs.Rows.{row-sizes}
+use Rattle.sets.proofs.Rows.{one-digit, row-sizes}
 use Rattle.record.specs.declared.field.Field.{Field}
 use Rattle.record.specs.declared.lines.Record.{Record}
 use Rattle.record.specs.Form.{held, isField, isNumber, numberAt, fieldAt, keeps}
 use Rattle.record.specs.Text.{names, name, valueText, lineText, textFrom, mostBytes}
 use Rattle.record.proofs.Fields.{held-most}
 use Rattle.record.proofs.Places.{each-line}
-use Rattle.record.proofs.Rules.{set-most, rule-is-field, rule-number}
+use Rattle.record.proofs.Rules.{rule-is-field, rule-number}
 use Rattle.record.proofs.Steps.{line-length}
 use Rattle.record.proofs.Chains.{Sound}
 
@@ -53,7 +53,7 @@ line-most : (line : ℕ) → 1 ≤ line → line ≤ 8 → (r : Record) → keep
 unfolding keeps name names valueText
 line-most =
     each-line (λ (line : ℕ). (r : Record) → keeps line r ≡ true → length (lineText line r) ≤ most line)
-    (λ r k. omega (arith, line-length 1 r, length-numeral (r .set), places-least (r .set) 0 (omega (arith, set-most (r .set) k))))
+    (λ r k. omega (arith, line-length 1 r, length-numeral (r .set), places-least (r .set) 0 (omega (arith, one-digit (r .set) k))))
     (λ r k. omega (arith, line-length 2 r, key-hex-most (r .key) (r .set) k))
     (λ r k. omega (arith, line-length 3 r, key-hex-most (r .nonce) (r .set) k))
     (λ r k. omega (arith, line-length 4 r, field-hex-most (r .ad) true k))

@@ -10,8 +10,8 @@ use lib.Seq.{take-append-seam, length-take-le}
 use lib.Pow.{areBytes}
 use borrow.Author.Tests.{leb-true}
 use Rattle.digits.proofs.Spelling.{and-both}
-use Rattle.ascon.specs.Mode.{zeros}
-use Rattle.ascon.proofs.Strings.{same-eq}
+use Rattle.permutation.specs.Strings.{zeros}
+use Rattle.permutation.proofs.Strings.{same-eq}
 use Rattle.record.specs.declared.field.Field.{Field}
 use Rattle.record.specs.Form.{fieldOf, held, isField}
 use Rattle.record.specs.Laws.{Whole}

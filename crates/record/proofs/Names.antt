@@ -8,7 +8,7 @@ use lib.Dec.{leb}
 use lib.ListN.{length, getD, take, length-append}
 use lib.Seq.{take-append-seam}
 use borrow.Author.Tests.{leb-true, le-leb}
-use Rattle.ascon.specs.Mode.{zeros}
+use Rattle.permutation.specs.Strings.{zeros}
 use Rattle.digits.proofs.Spelling.{and-both}
 use Rattle.record.specs.declared.lines.Name.{Name}
 use Rattle.record.specs.Text.{names, name}

@@ -3,20 +3,14 @@ use mathlib.Core.Path.{_≡_}
 use mathlib.Core.Bool.{true, false, cond, false≢true, true≢false}
 use Prim.Native.Nat.{ℕ, _≤_}
 use native.Mathlib.Omega.{arith}
-use lib.Dec.{leb}
 use borrow.Author.Tests.{leb-true}
 use Rattle.digits.proofs.Spelling.{and-both}
-use Rattle.ascon.specs.Sets.{table, isSet}
+use Rattle.sets.proofs.Rows.{one-digit}
 use Rattle.record.specs.declared.lines.Record.{Record}
 use Rattle.record.specs.Form.{isField, isNumber, numberAt, fieldAt, withNumber, withField, keeps}
 use Rattle.record.proofs.Places.{each-line}
 
 -- ---- what a rule says
-
--- a set is 1 or 2
-pub set-most : (set : ℕ) → isSet set ≡ true → set ≤ 2
-unfolding isSet table
-set-most set e = leb-true set 2 (and-both (leb 1 set) _ e .1)
 
 -- a line of bytes that keeps its rule is a field in form
 pub rule-is-field : (line : ℕ) → 1 ≤ line → line ≤ 8 → isNumber line ≡ false → (r : Record) → keeps line r ≡ true → isField (fieldAt line r) ≡ true
@@ -37,7 +31,7 @@ pub rule-number : (line : ℕ) → 1 ≤ line → line ≤ 8 → isNumber line �
 unfolding keeps
 rule-number =
     each-line (λ (line : ℕ). isNumber line ≡ true → (r : Record) → keeps line r ≡ true → numberAt line r ≤ 9_999_999)
-    (λ e r k. omega (arith, set-most (r .set) k))
+    (λ e r k. omega (arith, one-digit (r .set) k))
     (λ e. absurd (false≢true e))
     (λ e. absurd (false≢true e))
     (λ e. absurd (false≢true e))

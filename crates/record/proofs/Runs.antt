@@ -10,7 +10,7 @@ use lib.Seq.{take-append-seam, drop-cons, take-take}
 use borrow.Author.Tests.{ltb-true, ltb-false}
 use Rattle.digits.specs.Hex.{digitOf, isValue, allDigits}
 use Rattle.digits.proofs.Spelling.{and-both}
-use Rattle.ascon.proofs.Strings.{same-refl, same-eq}
+use Rattle.permutation.proofs.Strings.{same-refl, same-eq}
 use Rattle.record.specs.Calls.{begins, run}
 
 -- ---- another text

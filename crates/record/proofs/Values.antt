@@ -11,8 +11,8 @@ use lib.Pow.{areBytes}
 use borrow.Author.Tests.{leb-true, le-leb}
 use Rattle.digits.specs.declared.numbers.Numeral.{Numeral}
 use Rattle.digits.specs.declared.numbers.Numeral.the-variants.{Number, NoNumber}
-use Rattle.digits.specs.Hex.{allDigits, bytesOf, hexOf}
-use Rattle.digits.specs.Numbers.{numberOf, numeral}
+use Rattle.digits.specs.Hex.{allDigits, fromHex, hexOf}
+use Rattle.digits.specs.Numbers.{decimalOf, numeral}
 use Rattle.digits.proofs.Spelling.{bytes-hex, hex-bytes, digits-hex}
 use Rattle.digits.proofs.Numerals.{numeral-number, number-numeral, digits-numeral}
 use Rattle.record.specs.declared.lines.Record.{Record}
@@ -48,7 +48,7 @@ module _ (line : ℕ) (l : 1 ≤ line) (m : line ≤ 8) (r : Record) (w : Whole 
       go : (t : Bool) → isNumber line ≡ t
           → keeps line (cond t (withNumber line (numberAt line r) s) (withField line (fieldAt line r) s)) ≡ true
           → let v = cond t (numeral (numberAt line r)) (hexOf (held (fieldAt line r))) in
-          kept line (cond t (numbered line s (numberOf v)) (filled line s (fitted (bytesOf v))))
+          kept line (cond t (numbered line s (decimalOf v)) (filled line s (fitted (fromHex v))))
           ≡ some (cond t (withNumber line (numberAt line r) s) (withField line (fieldAt line r) s))
       go true e d = rw (numeral-number (numberAt line r) (rule-number line l m e r k), d)
       go false e d =
@@ -74,12 +74,12 @@ kept-rule line (some r) s e = go (keeps line r) refl e
     go false f e = absurd (Option·none-ne-some s e)
 
 -- a number was read
-number-follows : (line : ℕ) → 1 ≤ line → line ≤ 8 → isNumber line ≡ true → (digits : List ℕ) (r s : Record) → numbered line r (numberOf digits) ≡ some s
+number-follows : (line : ℕ) → 1 ≤ line → line ≤ 8 → isNumber line ≡ true → (digits : List ℕ) (r s : Record) → numbered line r (decimalOf digits) ≡ some s
     → keeps line s ≡ true → Follows line digits r s
 unfolding valueText
-number-follows line l m t digits r s = go (numberOf digits) refl
+number-follows line l m t digits r s = go (decimalOf digits) refl
   where
-    go : (n : Numeral) → numberOf digits ≡ n → numbered line r n ≡ some s → keeps line s ≡ true → Follows line digits r s
+    go : (n : Numeral) → decimalOf digits ≡ n → numbered line r n ≡ some s → keeps line s ≡ true → Follows line digits r s
     go (Number n) f e k =
         let p : s ≡ withNumber line n r = sym (Option·some-injective _ s e) in
         record {
@@ -91,12 +91,12 @@ number-follows line l m t digits r s = go (numberOf digits) refl
     go NoNumber f e k = absurd (Option·none-ne-some s e)
 
 -- bytes were read
-field-follows : (line : ℕ) → 1 ≤ line → line ≤ 8 → isNumber line ≡ false → (digits : List ℕ) (r s : Record) → filled line r (fitted (bytesOf digits)) ≡ some s
+field-follows : (line : ℕ) → 1 ≤ line → line ≤ 8 → isNumber line ≡ false → (digits : List ℕ) (r s : Record) → filled line r (fitted (fromHex digits)) ≡ some s
     → keeps line s ≡ true → Follows line digits r s
 unfolding valueText
-field-follows line l m t digits r s = go (bytesOf digits) refl
+field-follows line l m t digits r s = go (fromHex digits) refl
   where
-    fits : (x : List ℕ) (u : Bool) → leb (length x) 256 ≡ u → bytesOf digits ≡ some x → filled line r (cond u (some (fieldOf x)) none) ≡ some s → keeps line s ≡ true → Follows line digits r s
+    fits : (x : List ℕ) (u : Bool) → leb (length x) 256 ≡ u → fromHex digits ≡ some x → filled line r (cond u (some (fieldOf x)) none) ≡ some s → keeps line s ≡ true → Follows line digits r s
     fits x true u f e k =
         let p : s ≡ withField line (fieldOf x) r = sym (Option·some-injective _ s e) in
         let b = hex-bytes digits x f in
@@ -108,7 +108,7 @@ field-follows line l m t digits r s = go (bytesOf digits) refl
         }
     fits x false u f e k = absurd (Option·none-ne-some s e)
 
-    go : (o : Option (List ℕ)) → bytesOf digits ≡ o → filled line r (fitted o) ≡ some s → keeps line s ≡ true → Follows line digits r s
+    go : (o : Option (List ℕ)) → fromHex digits ≡ o → filled line r (fitted o) ≡ some s → keeps line s ≡ true → Follows line digits r s
     go (some x) f e k = fits x (leb (length x) 256) refl f e k
     go none f e k = absurd (Option·none-ne-some s e)
 
@@ -117,7 +117,7 @@ pub value-follows : (line : ℕ) → 1 ≤ line → line ≤ 8 → (digits : Lis
 unfolding valueRead
 value-follows line l m digits r s e = let k = kept-rule line _ s e in go (isNumber line) refl (k .0) (k .1)
   where
-    go : (t : Bool) → isNumber line ≡ t → cond t (numbered line r (numberOf digits)) (filled line r (fitted (bytesOf digits))) ≡ some s → keeps line s ≡ true
+    go : (t : Bool) → isNumber line ≡ t → cond t (numbered line r (decimalOf digits)) (filled line r (fitted (fromHex digits))) ≡ some s → keeps line s ≡ true
         → Follows line digits r s
     go true t f k = number-follows line l m t digits r s f k
     go false t f k = field-follows line l m t digits r s f k

@@ -10,7 +10,7 @@ use lib.Dec.{eqb, leb}
 use lib.ListN.{length, getD, take, drop, length-take, List·getD-eq-default}
 use lib.Seq.{drop-cons, drop-drop, getD-drop}
 use borrow.Author.Tests.{leb-true, leb-false}
-use Rattle.ascon.proofs.Strings.{same-eq}
+use Rattle.permutation.proofs.Strings.{same-eq}
 use Rattle.digits.specs.Hex.{digitOf, isValue}
 use Rattle.record.specs.declared.lines.Record.{Record}
 use Rattle.record.specs.declared.reading.Taken.{Taken}

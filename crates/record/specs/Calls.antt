@@ -11,9 +11,9 @@ use Rattle.answers.specs.Numbers.{isDone}
 use Rattle.answers.specs.Order.{Choice, _when_, first}
 use Rattle.digits.specs.declared.numbers.Numeral.{Numeral}
 use Rattle.digits.specs.declared.numbers.Numeral.the-variants.{Number, NoNumber}
-use Rattle.digits.specs.Hex.{digitOf, isValue, bytesOf}
-use Rattle.digits.specs.Numbers.{numberOf}
-use Rattle.ascon.specs.Mode.{zeros, same}
+use Rattle.digits.specs.Hex.{digitOf, isValue, fromHex}
+use Rattle.digits.specs.Numbers.{decimalOf}
+use Rattle.permutation.specs.Strings.{zeros, same}
 use Rattle.record.specs.declared.field.Field.{Field}
 use Rattle.record.specs.declared.lines.Record.{Record}
 use Rattle.record.specs.declared.reading.Reading.{Reading}
@@ -56,7 +56,7 @@ kept line none = none
 
 -- the record with a line's digits read
 unfoldable pub valueRead : ℕ → Record → List ℕ → Option Record
-valueRead line r digits = kept line (cond (isNumber line) (numbered line r (numberOf digits)) (filled line r (fitted (bytesOf digits))))
+valueRead line r digits = kept line (cond (isNumber line) (numbered line r (decimalOf digits)) (filled line r (fitted (fromHex digits))))
 
 -- the record after a line, and how many bytes the line has
 pub record Line : Type 0 where

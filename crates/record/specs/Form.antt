@@ -5,7 +5,7 @@ use Prim.Native.Nat.{ℕ, zero, suc, _+_, _-_}
 use lib.Dec.{eqb, leb}
 use lib.ListN.{length, getD, take, drop}
 use Rattle.ascon.specs.Sets.{isSet, rowOf}
-use Rattle.ascon.specs.Mode.{zeros, same}
+use Rattle.permutation.specs.Strings.{zeros, same}
 use Rattle.record.specs.declared.field.Field.{Field}
 use Rattle.record.specs.declared.lines.Record.{Record}
 

@@ -2,7 +2,7 @@
 ghost use mathlib.Core.Path.{_≡_};
 ghost use mathlib.Core.List.{[]};
 ghost use mathlib.Core.Option.{none};
-ghost use Rattle.digits.specs.Hex.{bytesOf};
+ghost use Rattle.digits.specs.Hex.{fromHex};
 ghost use Rattle.record.specs.Form.{fieldOf, isField};
 ghost use Rattle.record.specs.Calls.{fitted, spelledAs};
 use digits::Pair;
@@ -49,7 +49,7 @@ pub(crate) fn is_field(field: Field) -> bool
 
 // The field of digits, two a byte.
 pub(crate) fn read_field(text: &[u8]) -> Spelled
-    ensures { λ r. ⌜ r ≡ spelledAs (fitted (bytesOf (now (text .entry)))) ⌝ }
+    ensures { λ r. ⌜ r ≡ spelledAs (fitted (fromHex (now (text .entry)))) ⌝ }
 {
     let mut bytes = [0; 256];
     let mut size = 0;

@@ -3,8 +3,8 @@ ghost use mathlib.Core.Path.{_≡_};
 ghost use mathlib.Core.Option.{some, none};
 ghost use lib.Dec.{eqb};
 ghost use lib.ListN.{getD};
-ghost use Rattle.digits.specs.Hex.{bytesOf};
-ghost use Rattle.digits.specs.Numbers.{numberOf};
+ghost use Rattle.digits.specs.Hex.{fromHex};
+ghost use Rattle.digits.specs.Numbers.{decimalOf};
 ghost use Rattle.record.specs.Calls.{begins, nameTaken, takenAs, kept, numbered, filled, fitted, valueRead, refusedAt, readCall};
 use crate::field;
 use crate::lines;
@@ -76,7 +76,7 @@ fn keep(line: usize, content: Record) -> Taken
 
 // A record with the number of a line's digits.
 fn take_number(line: usize, entry: Record, text: &[u8]) -> Taken
-    ensures { λ r. ⌜ r ≡ takenAs (kept line (numbered line entry (numberOf (now (text .entry))))) ⌝ }
+    ensures { λ r. ⌜ r ≡ takenAs (kept line (numbered line entry (decimalOf (now (text .entry))))) ⌝ }
 {
     let numeral = digits::read_number(text);
     let Numeral::Number(n) = numeral else {
@@ -87,7 +87,7 @@ fn take_number(line: usize, entry: Record, text: &[u8]) -> Taken
 
 // A record with the bytes of a line's digits.
 fn take_field(line: usize, entry: Record, text: &[u8]) -> Taken
-    ensures { λ r. ⌜ r ≡ takenAs (kept line (filled line entry (fitted (bytesOf (now (text .entry)))))) ⌝ }
+    ensures { λ r. ⌜ r ≡ takenAs (kept line (filled line entry (fitted (fromHex (now (text .entry)))))) ⌝ }
 {
     let spelled = field::read_field(text);
     if !spelled.ok {

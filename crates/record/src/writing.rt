@@ -33,19 +33,19 @@ fn value_length(line: usize, entry: Record) -> usize
 }
 
 // Puts the digits of a line that keeps its rule at the beginning of a place, and gives how many.
-fn put_value(line: usize, entry: Record, place: &mut [u8]) -> usize
+fn put_value(line: usize, entry: Record, out: &mut [u8]) -> usize
     requires { ⌜ keeps line entry ≡ true ⌝ }
     requires { ⌜ 1 ≤ line ⌝ }
     requires { ⌜ line ≤ 8 ⌝ }
-    ensures { λ r. ⌜ laid r (now (place .exit)) ≡ put (valueText line entry) (now (place .entry)) ⌝ }
+    ensures { λ r. ⌜ laid r (now (out .exit)) ≡ put (valueText line entry) (now (out .entry)) ⌝ }
 {
     if lines::is_number(line) {
-        return digits::put_number(lines::number_at(line, entry), place);
+        return digits::put_number(lines::number_at(line, entry), out);
     }
     let field = lines::field_at(line, entry);
     let bytes = field.bytes;
     let size = field.size;
-    digits::put_bytes(&bytes[..size], place)
+    digits::put_bytes(&bytes[..size], out)
 }
 
 // How many bytes a line that keeps its rule has.
@@ -60,18 +60,18 @@ fn line_length(line: usize, entry: Record) -> usize
 }
 
 // Puts a line that keeps its rule at the beginning of a place, and gives its length; a place too short for it stays as it is, and the length is 0.
-fn put_line(line: usize, entry: Record, place: &mut [u8]) -> usize
+fn put_line(line: usize, entry: Record, out: &mut [u8]) -> usize
     requires { ⌜ keeps line entry ≡ true ⌝ }
     requires { ⌜ 1 ≤ line ⌝ }
     requires { ⌜ line ≤ 8 ⌝ }
-    ensures { λ r. ⌜ laid r (now (place .exit)) ≡ put (lineText line entry) (now (place .entry)) ⌝ }
+    ensures { λ r. ⌜ laid r (now (out .exit)) ≡ put (lineText line entry) (now (out .entry)) ⌝ }
 {
     let name = lines::name_of(line);
     let bytes = name.bytes;
     let size = name.size;
     let mut value = [0; 512];
     let count = put_value(line, entry, &mut value);
-    digits::put_line(&bytes[..size], &value[..count], place)
+    digits::put_line(&bytes[..size], &value[..count], out)
 }
 
 // How many bytes the text of a record in form has.
@@ -89,8 +89,8 @@ fn text_length(entry: Record) -> usize
 }
 
 // Writes a record at the beginning of a place; one out of form, or a place too short, is refused.
-pub fn write(entry: Record, place: &mut [u8]) -> Writing
-    ensures { λ r. ⌜ writeLeaves r (now (place .exit)) ≡ writeCall entry (now (place .entry)) ⌝ }
+pub fn write(entry: Record, out: &mut [u8]) -> Writing
+    ensures { λ r. ⌜ writeLeaves r (now (out .exit)) ≡ writeCall entry (now (out .entry)) ⌝ }
 {
     let bad = lines::first_broken(entry);
     if bad != 0 {
@@ -100,7 +100,7 @@ pub fn write(entry: Record, place: &mut [u8]) -> Writing
             written: 0,
         };
     }
-    if place.len() < text_length(entry) {
+    if out.len() < text_length(entry) {
         return Writing {
             answer: Answer::NoRoom,
             line: 0,
@@ -110,7 +110,7 @@ pub fn write(entry: Record, place: &mut [u8]) -> Writing
     let mut at = 0;
     let mut line = 1;
     while line < 9 {
-        at += put_line(line, entry, &mut place[at..]);
+        at += put_line(line, entry, &mut out[at..]);
         line += 1;
     }
     Writing {

@@ -1,10 +1,13 @@
 -- The three lines of a report.
-use mathlib.Core.Bool.{cond}
+use mathlib.Core.Bool.{cond, not}
 use mathlib.Core.List.{List, [], _∷_, _++_}
 use Prim.Native.Nat.{ℕ}
 use lib.Dec.{leb}
 use lib.ListN.{length, drop}
+use Rattle.answers.specs.declared.Answer.{Answer}
 use Rattle.answers.specs.declared.Answer.the-variants.{Done, NoRoom}
+use Rattle.answers.specs.Numbers.{isDone}
+use Rattle.answers.specs.Order.{Choice, _when_, first}
 use Rattle.digits.specs.Ascii.{ascii}
 use Rattle.digits.specs.Numbers.{numeral}
 use Rattle.digits.specs.Room.{lineOf}
@@ -49,15 +52,19 @@ reportText number verdict = recordLine number ++ (verdictLine verdict ++ fieldLi
 -- an answer, and what the place of the report then holds
 pub record ReportLeaves : Type 0 where
   pub outcome : Reported
-  pub place : List ℕ
+  pub out : List ℕ
 
 abbrev pub reportLeaves : Reported → List ℕ → ReportLeaves
-reportLeaves outcome place = record { outcome = outcome; place = place }
+reportLeaves outcome out = record { outcome = outcome; out = out }
 
--- the whole report, or 6, which changes nothing
+-- 6
+abbrev pub reportFaults : ℕ → Verdict → ℕ → List (Choice Answer)
+reportFaults number verdict room = NoRoom when not (leb (length (reportText number verdict)) room) ∷ []
+
+-- the whole report; a refusal changes nothing
 unfoldable pub reportCall : ℕ → Verdict → List ℕ → ReportLeaves
-reportCall number verdict place =
+reportCall number verdict out =
     let text = reportText number verdict in
-    cond (leb (length text) (length place))
-    (reportLeaves (record { answer = Done; written = length text }) (text ++ drop (length text) place))
-    (reportLeaves (record { answer = NoRoom; written = 0 }) place)
+    let answer = first Done (reportFaults number verdict (length out)) in
+    cond (isDone answer) (reportLeaves (record { answer = Done; written = length text }) (text ++ drop (length text) out))
+    (reportLeaves (record { answer = answer; written = 0 }) out)

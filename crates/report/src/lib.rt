@@ -23,37 +23,39 @@ pub struct Reported {
 }
 
 // Puts a name and a number's line at the beginning of a place.
-fn put_number_line(name: &[u8], n: u64, place: &mut [u8]) -> usize
-    ensures { λ r. ⌜ laid r (now (place .exit)) ≡ put (lineOf (now (name .entry)) (numeral n)) (now (place .entry)) ⌝ }
+fn put_number_line(name: &[u8], n: u64, out: &mut [u8]) -> usize
+    ensures { λ r. ⌜ laid r (now (out .exit)) ≡ put (lineOf (now (name .entry)) (numeral n)) (now (out .entry)) ⌝ }
 {
     let mut text = [0; 20];
     let size = digits::put_number(n, &mut text);
-    digits::put_line(name, &text[..size], place)
+    digits::put_line(name, &text[..size], out)
 }
 
 // Puts the verdict's line at the beginning of a place.
-fn put_verdict_line(verdict: Verdict, place: &mut [u8]) -> usize
-    ensures { λ r. ⌜ laid r (now (place .exit)) ≡ put (verdictLine verdict) (now (place .entry)) ⌝ }
+fn put_verdict_line(verdict: Verdict, out: &mut [u8]) -> usize
+    ensures { λ r. ⌜ laid r (now (out .exit)) ≡ put (verdictLine verdict) (now (out .entry)) ⌝ }
 {
     match verdict {
-        Verdict::Equal => digits::put_line(b"verdict=", b"equal", place),
-        Verdict::Rounds => digits::put_line(b"verdict=", b"differs", place),
-        Verdict::Cipher => digits::put_line(b"verdict=", b"differs", place),
-        Verdict::Tag => digits::put_line(b"verdict=", b"differs", place),
-        Verdict::Unread(_) => digits::put_line(b"verdict=", b"unread", place),
+        Verdict::Equal => digits::put_line(b"verdict=", b"equal", out),
+        Verdict::Rounds | Verdict::Cipher | Verdict::Tag => digits::put_line(
+            b"verdict=",
+            b"differs",
+            out,
+        ),
+        Verdict::Unread(_) => digits::put_line(b"verdict=", b"unread", out),
     }
 }
 
 // Puts the line of the differing field, or of the broken line, at the beginning of a place.
-fn put_field_line(verdict: Verdict, place: &mut [u8]) -> usize
-    ensures { λ r. ⌜ laid r (now (place .exit)) ≡ put (fieldLine verdict) (now (place .entry)) ⌝ }
+fn put_field_line(verdict: Verdict, out: &mut [u8]) -> usize
+    ensures { λ r. ⌜ laid r (now (out .exit)) ≡ put (fieldLine verdict) (now (out .entry)) ⌝ }
 {
     match verdict {
-        Verdict::Equal => digits::put_line(b"field=", b"none", place),
-        Verdict::Rounds => digits::put_line(b"field=", b"rounds", place),
-        Verdict::Cipher => digits::put_line(b"field=", b"cipher", place),
-        Verdict::Tag => digits::put_line(b"field=", b"tag", place),
-        Verdict::Unread(line) => put_number_line(b"field=", line as u64, place),
+        Verdict::Equal => digits::put_line(b"field=", b"none", out),
+        Verdict::Rounds => digits::put_line(b"field=", b"rounds", out),
+        Verdict::Cipher => digits::put_line(b"field=", b"cipher", out),
+        Verdict::Tag => digits::put_line(b"field=", b"tag", out),
+        Verdict::Unread(line) => put_number_line(b"field=", line as u64, out),
     }
 }
 
@@ -79,26 +81,26 @@ fn report_length(number: u64, verdict: Verdict) -> usize
 }
 
 // Puts the three lines at the beginning of a place that has room, and gives their length.
-fn put_lines(number: u64, verdict: Verdict, place: &mut [u8]) -> usize
-    requires { ⌜ length (reportText number verdict) ≤ length (now place) ⌝ }
-    ensures { λ r. ⌜ laid r (now (place .exit)) ≡ put (reportText number verdict) (now (place .entry)) ⌝ }
+fn put_lines(number: u64, verdict: Verdict, out: &mut [u8]) -> usize
+    requires { ⌜ length (reportText number verdict) ≤ length (now out) ⌝ }
+    ensures { λ r. ⌜ laid r (now (out .exit)) ≡ put (reportText number verdict) (now (out .entry)) ⌝ }
 {
-    let one = put_number_line(b"record=", number, place);
-    let two = one + put_verdict_line(verdict, &mut place[one..]);
-    two + put_field_line(verdict, &mut place[two..])
+    let one = put_number_line(b"record=", number, out);
+    let two = one + put_verdict_line(verdict, &mut out[one..]);
+    two + put_field_line(verdict, &mut out[two..])
 }
 
 // Writes the report on a record with a number at the beginning of a place.
-pub fn report(number: u64, verdict: Verdict, place: &mut [u8]) -> Reported
-    ensures { λ r. ⌜ reportLeaves r (now (place .exit)) ≡ reportCall number verdict (now (place .entry)) ⌝ }
+pub fn report(number: u64, verdict: Verdict, out: &mut [u8]) -> Reported
+    ensures { λ r. ⌜ reportLeaves r (now (out .exit)) ≡ reportCall number verdict (now (out .entry)) ⌝ }
 {
-    if place.len() < report_length(number, verdict) {
+    if out.len() < report_length(number, verdict) {
         return Reported {
             answer: Answer::NoRoom,
             written: 0,
         };
     }
-    let written = put_lines(number, verdict, place);
+    let written = put_lines(number, verdict, out);
     Reported {
         answer: Answer::Done,
         written,

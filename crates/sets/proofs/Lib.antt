@@ -1,2 +1,3 @@
--- Laws of the rows of the table.
+-- Laws of the table's rows, and of the tests of a start.
 pub mod Rows
+pub mod Start

@@ -1,8 +1,50 @@
-// The numbers of the parameter sets: the rows of the published Table 1. An unknown set has the first row's.
+// The parameter sets: the one table of their numbers, the limits of data and text, and the tests of a start.
 ghost use mathlib.Core.Path.{_≡_};
-ghost use Rattle.ascon.specs.Sets.{isSet, rowOf};
+ghost use Prim.Native.Nat.{_<_};
+ghost use lib.ListN.{length, getD};
 ghost use Rattle.permutation.specs.Runs.{roundsOf};
+ghost use Rattle.permutation.specs.Strings.{valueOf};
+ghost use Rattle.ascon.specs.Sets.{ascon128, table, isSet, rowOf};
+ghost use Rattle.sets.specs.Rows.{inCode};
+ghost use Rattle.sets.specs.Start.{startTest};
+use answers::Answer;
 use permutation::Run;
+
+// The longest associated data.
+pub const AD_LIMIT: usize = 65536;
+
+// The longest text.
+pub const TEXT_LIMIT: usize = 1048576;
+
+// A row of the table: the length of key, nonce and tag, that of a block, the run between blocks and its rounds, and the first word of a start.
+pub struct Row {
+    key: usize,
+    block: usize,
+    between: Run,
+    rounds: u64,
+    word: u64,
+}
+
+// How many sets there are.
+const ROWS: usize = 2;
+
+// The rows of the definition's table, set 1 first.
+const TABLE: [Row; ROWS] = [
+    Row {
+        key: 16,
+        block: 8,
+        between: Run::FirstSix,
+        rounds: 6,
+        word: 0x800c060000000000,
+    },
+    Row {
+        key: 12,
+        block: 16,
+        between: Run::FirstEight,
+        rounds: 8,
+        word: 0x600c080000000000,
+    },
+];
 
 // Whether a number names a set.
 pub fn is_set(set: u64) -> bool
@@ -11,37 +53,74 @@ pub fn is_set(set: u64) -> bool
     if set == 0 {
         return false;
     }
-    set <= 2
+    set <= (ROWS as u64)
+}
+
+// Where a set's row stands; an unknown set has the first.
+fn index_of(set: u64) -> usize
+    ensures { λ r. ⌜ getD table r ascon128 ≡ rowOf set ⌝ }
+    ensures { λ r. ⌜ r < length table ⌝ }
+{
+    if !is_set(set) {
+        return 0;
+    }
+    (set - 1) as usize
+}
+
+// The row of a set.
+fn row_of(set: u64) -> Row
+    ensures { λ r. ⌜ r ≡ inCode (rowOf set) ⌝ }
+{
+    TABLE[index_of(set)]
 }
 
 // The length of key, nonce and tag.
 pub fn key_length(set: u64) -> usize
     ensures { λ r. ⌜ r ≡ rowOf set .key ⌝ }
 {
-    if set == 2 { 12 } else { 16 }
+    row_of(set).key
 }
 
 // The length of a block.
 pub fn block_length(set: u64) -> usize
     ensures { λ r. ⌜ r ≡ rowOf set .block ⌝ }
 {
-    if set == 2 { 16 } else { 8 }
+    row_of(set).block
 }
 
 // The run between blocks.
 pub fn between(set: u64) -> Run
     ensures { λ r. ⌜ r ≡ rowOf set .between ⌝ }
 {
-    if set == 2 {
-        Run::FirstEight
-    } else {
-        Run::FirstSix
-    }
+    row_of(set).between
 }
 
 // The rounds of the run between blocks.
 pub fn rounds_between(set: u64) -> u64
     ensures { λ r. ⌜ r ≡ roundsOf (rowOf set .between) ⌝ }
 {
-    if set == 2 { 8 } else { 6 }
+    row_of(set).rounds
+}
+
+// The first word of a start.
+pub fn first_word(set: u64) -> u64
+    ensures { λ r. ⌜ r ≡ valueOf (rowOf set .word) ⌝ }
+{
+    row_of(set).word
+}
+
+// The tests of a start: set, key length, nonce length.
+pub fn start_test(set: u64, key: usize, nonce: usize) -> Answer
+    ensures { λ r. ⌜ r ≡ startTest set key nonce ⌝ }
+{
+    if !is_set(set) {
+        return Answer::UnknownSet;
+    }
+    if key != key_length(set) {
+        return Answer::KeyLength;
+    }
+    if nonce != key_length(set) {
+        return Answer::NonceLength;
+    }
+    Answer::Done
 }

@@ -12,10 +12,10 @@ use Rattle.ascon.specs.Mode.{p, initialise, separate, beforeText, encrypted, de
 use Rattle.ascon.specs.Bytewise.{At, at, sealing, opening, closed, steps, outs}
 use Rattle.ascon.proofs.Bytewise.{steps-append, outs-append, steps-place, length-steps, bytes-steps}
 use Rattle.ascon.proofs.Sealing.{Fits, length-p, bytes-p, length-initialise, bytes-initialise, length-before, bytes-before, encrypted-view, decrypted-view}
-use Rattle.ascon.proofs.Views.{data-view}
+use Rattle.ascon.proofs.Views.{ad-view}
 use Rattle.sponge.specs.declared.Way.{Way}
 use Rattle.sponge.specs.declared.Way.the-variants.{Seal, Open}
-use Rattle.sponge.specs.Sponge.{keepOf, frontOf, absorbed, given, dataClosed, tagOf}
+use Rattle.sponge.specs.Sponge.{keepOf, frontOf, absorbed, given, adClosed, tagOf}
 use Rattle.sponge.proofs.Words.{string-view}
 
 -- a direction keeps a byte
@@ -71,15 +71,15 @@ module _ (row : ParameterSet) (fits : Fits row) (K N : List ℕ) (key : length K
 
   -- the end of the data
   pub closed-is : (A : List ℕ) → Bytes A
-      → dataClosed row (wordsOfString (steps (row .block) (p (row .between)) sealing (at S₀ 0) A .state)) (length A) ≡ wordsOfString (beforeText row K N A)
-  unfolding dataClosed beforeText
+      → adClosed row (wordsOfString (steps (row .block) (p (row .between)) sealing (at S₀ 0) A .state)) (length A) ≡ wordsOfString (beforeText row K N A)
+  unfolding adClosed beforeText
   closed-is [] h = ap (λ (S : List ℕ). wordsOfString (separate S)) (string-view S₀ l₀ b₀)
   closed-is (a ∷ A) h =
       let room : row .block + row .key ≤ 40 = fits .room in
       rw (ne-eqb (suc (length A)) 0 (omega arith))
       (ap (λ (f : At). wordsOfString (separate (p (row .between) (closed f)))) (front-is row fits Seal S₀ l₀ b₀ (a ∷ A) h)
       ∙ ap (λ (S : List ℕ). wordsOfString (separate S))
-      (sym (data-view (row .block) (p (row .between)) 40 (λ x e. length-p (row .between) x) (omega arith) (fits .some-block) S₀ l₀ a A)))
+      (sym (ad-view (row .block) (p (row .between)) 40 (λ x e. length-p (row .between) x) (omega arith) (fits .some-block) S₀ l₀ a A)))
 
   module _ (A : List ℕ) where
     abbrev pub S₁ : List ℕ

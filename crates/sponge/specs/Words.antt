@@ -3,10 +3,10 @@ use mathlib.Core.List.{List, [], _∷_}
 use Prim.Native.Nat.{ℕ, _+_, _-_, _*_, _/_, _%_, _^_}
 use lib.Bits.{bitXor}
 use lib.ListN.{getD, set, take, drop}
+use Rattle.permutation.specs.declared.Run.{Run}
 use Rattle.permutation.specs.Runs.{permuteWords}
-use Rattle.permutation.specs.Strings.{_‖_, stringOfWords}
-use Rattle.ascon.specs.Sets.{ParameterSet}
-use Rattle.ascon.specs.Mode.{_⊕_, zeros}
+use Rattle.permutation.specs.Strings.{_‖_, stringOfWords, zeros}
+use Rattle.ascon.specs.Mode.{_⊕_}
 use Rattle.ascon.specs.Bytewise.{At, turned}
 use Rattle.sponge.specs.declared.Way.{Way}
 use Rattle.sponge.specs.declared.Way.the-variants.{Seal, Open}
@@ -33,10 +33,10 @@ feedOf Open came out = out
 abbrev pub goneOf : List ℕ → ℕ → ℕ → ℕ
 goneOf w place came = bitXor (byteOf w place) came
 
--- the words and the place after a byte
-abbrev pub stepped : ParameterSet → Way → At → ℕ → At
-stepped row way a came =
-    turned (row .block) (permuteWords (row .between))
+-- the words and the place after a byte, with blocks of so many bytes and a run between them
+abbrev pub stepped : ℕ → Run → Way → At → ℕ → At
+stepped block run way a came =
+    turned block (permuteWords run)
     (withByte (a .state) (a .place) (feedOf way came (goneOf (a .state) (a .place) came))) (a .place + 1)
 
 -- the last n bytes of the words, each combined with a key's, and zeros behind them

@@ -3,11 +3,9 @@
 ghost use mathlib.Core.Path.{_≡_};
 ghost use Prim.Native.Nat.{_+_, _<_, _≤_};
 ghost use lib.ListN.{length, take};
-ghost use Rattle.permutation.specs.Strings.{numberOf};
 ghost use Rattle.ascon.specs.Sets.{rowOf};
-ghost use Rattle.ascon.specs.Mode.{firstBlock};
 ghost use Rattle.ascon.specs.Bytewise.{at};
-ghost use Rattle.sponge.specs.Sponge.{started, absorbed, crypted, cryptedOf, dataClosed, tagOf, finished};
+ghost use Rattle.sponge.specs.Sponge.{started, absorbed, crypted, cryptedOf, adClosed, tagOf, finished};
 ghost use Rattle.sponge.specs.Words.{byteOf, withByte, withBytes, feedOf, goneOf, stepped, maskedEnd};
 use permutation::Run;
 
@@ -77,15 +75,15 @@ struct Placed {
 }
 
 // One byte: it is taken, and the words are run where it fills a block.
-fn step(set: u64, way: Way, w: &mut [u64; 5], place: usize, came: u8) -> Placed
+fn step(block: usize, run: Run, way: Way, w: &mut [u64; 5], place: usize, came: u8) -> Placed
     requires { ⌜ place < 40 ⌝ }
     ensures { λ r. ⌜ r .gone ≡ goneOf (now (w .entry)) place came ⌝ }
-    ensures { λ r. ⌜ at (now (w .exit)) (r .place) ≡ stepped (rowOf set) way (at (now (w .entry)) place) came ⌝ }
+    ensures { λ r. ⌜ at (now (w .exit)) (r .place) ≡ stepped block run way (at (now (w .entry)) place) came ⌝ }
 {
     let gone = byte_at(&*w, place) ^ came;
     take_byte(way, &mut *w, place, came);
-    if place + 1 == sets::block_length(set) {
-        permutation::permute_words(&mut *w, sets::between(set));
+    if place + 1 == block {
+        permutation::permute_words(&mut *w, run);
         return Placed { place: 0, gone };
     }
     Placed {
@@ -98,11 +96,13 @@ fn step(set: u64, way: Way, w: &mut [u64; 5], place: usize, came: u8) -> Placed
 pub fn absorb(set: u64, way: Way, words: [u64; 5], count: usize, piece: &[u8]) -> [u64; 5]
     ensures { λ r. ⌜ r ≡ absorbed (rowOf set) way words count (now (piece .entry)) ⌝ }
 {
+    let block = sets::block_length(set);
+    let run = sets::between(set);
     let mut w = words;
-    let mut place = count % sets::block_length(set);
+    let mut place = count % block;
     let mut i = 0;
     while i < piece.len() {
-        let placed = step(set, way, &mut w, place, piece[i]);
+        let placed = step(block, run, way, &mut w, place, piece[i]);
         place = placed.place;
         i += 1;
     }
@@ -123,27 +123,18 @@ pub fn crypt(
     if out.len() < piece.len() {
         return words;
     }
+    let block = sets::block_length(set);
+    let run = sets::between(set);
     let mut w = words;
-    let mut place = count % sets::block_length(set);
+    let mut place = count % block;
     let mut i = 0;
     while i < piece.len() {
-        let placed = step(set, way, &mut w, place, piece[i]);
+        let placed = step(block, run, way, &mut w, place, piece[i]);
         out[i] = placed.gone;
         place = placed.place;
         i += 1;
     }
     w
-}
-
-// The first word of a set: the key's bits and the two round numbers.
-fn first_word(set: u64) -> u64
-    ensures { λ r. ⌜ r ≡ numberOf (take 8 (firstBlock (rowOf set))) ⌝ }
-{
-    if set == 2 {
-        0x600c080000000000
-    } else {
-        0x800c060000000000
-    }
 }
 
 // The words after the start with a key and a nonce; of each, only as many bytes count as the set's keys have.
@@ -152,7 +143,7 @@ pub fn start(set: u64, key: [u8; 16], nonce: [u8; 16]) -> [u64; 5]
 {
     let n = sets::key_length(set);
     let mut w = [0; 5];
-    w[0] = first_word(set);
+    w[0] = sets::first_word(set);
     put_key(&mut w, 40 - 2 * n, key, n);
     put_key(&mut w, 40 - n, nonce, n);
     permutation::permute_words(&mut w, Run::Twelve);
@@ -161,8 +152,8 @@ pub fn start(set: u64, key: [u8; 16], nonce: [u8; 16]) -> [u64; 5]
 }
 
 // The words after the end of `count` bytes of associated data.
-pub fn close_data(set: u64, words: [u64; 5], count: usize) -> [u64; 5]
-    ensures { λ r. ⌜ r ≡ dataClosed (rowOf set) words count ⌝ }
+pub fn close_ad(set: u64, words: [u64; 5], count: usize) -> [u64; 5]
+    ensures { λ r. ⌜ r ≡ adClosed (rowOf set) words count ⌝ }
 {
     let mut w = words;
     if count == 0 {

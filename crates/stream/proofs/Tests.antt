@@ -1,6 +1,6 @@
 -- What the tests say, one byte at a time, and the bound of a round count.
-use mathlib.Core.Path.{_≡_, refl}
-use mathlib.Core.Bool.{Bool, true, false, cond, not, _&&_}
+use mathlib.Core.Path.{_≡_, refl, sym, ap, _∙_}
+use mathlib.Core.Bool.{Bool, true, false, cond, not, _&&_, false≢true}
 use mathlib.Core.List.{List, [], _∷_}
 use Prim.Native.Nat.{ℕ, _+_, _-_, _*_, _/_, _≤_, _<_}
 use native.Mathlib.Nat.{le-trans, le-div-iff-mul-le, div-mul-le-self, mul-le-mul-right, div-le-self}
@@ -9,16 +9,18 @@ use native.Mathlib.Omega.{arith}
 use lib.Dec.{eqb, leb, lit≤}
 use lib.ListN.{length, getD, drop}
 use lib.Seq.{drop-cons}
-use borrow.Author.Tests.{eqb-true, leb-true, not-false}
+use borrow.Author.Tests.{eqb-true, leb-true, not-false, eq-eqb}
 use Rattle.answers.specs.declared.Answer.the-variants.{Done, NoRoom}
 use Rattle.answers.specs.Numbers.{isDone}
 use Rattle.answers.specs.Order.{_when_}
 use Rattle.answers.proofs.Order.{none-holds, first-append}
 use Rattle.permutation.specs.Runs.{roundsOf}
-use Rattle.ascon.specs.Sets.{ParameterSet, isSet, rowOf, textLimit}
+use Rattle.ascon.specs.Sets.{ParameterSet, rowOf, textLimit}
 use Rattle.sets.proofs.Rows.{Sizes, row-sizes}
-use Rattle.stream.specs.State.{allZero, isData, isOpen, isSealing, isSound}
-use Rattle.stream.specs.Calls.{filledRounds, closingRounds, startFaults, startTest, pieceFaults, pieceTest, sealTest, finishFaults, finishTest}
+use Rattle.stream.specs.State.{rankOf, isDirection, givesText, isAd, fits, allZero, isSound}
+use Rattle.stream.specs.Calls.{filledRounds, closingRounds, pieceFaults, pieceTest, textFaults, textTest, finishFaults, finishTest}
+use Rattle.stream.specs.declared.Direction.{Direction}
+use Rattle.stream.specs.declared.Direction.the-variants.{Sealing, Checking}
 use Rattle.stream.specs.declared.Stream.{Stream}
 
 -- the element at i, and the rest
@@ -29,74 +31,91 @@ pub div-mono : (x y : ℕ) {k : ℕ} → 0 < k → x ≤ y → x / k ≤ y / k
 div-mono x y {k} pos h = le-div-iff-mul-le pos .1 (le-trans (div-mul-le-self x k) h)
 
 -- a piece within the limit runs few rounds
-pub rounds-bound : (row : ParameterSet) → Sizes row → (count n : ℕ) → count + n ≤ 1_048_576 → filledRounds row count n ≤ 8_388_608
+pub rounds-bound : (row : ParameterSet) → Sizes row → (count n : ℕ) → count + n ≤ textLimit → filledRounds row count n ≤ 8_388_608
 unfolding filledRounds
 rounds-bound row sizes count n h =
     let blocks : ℕ = (count + n) / row .block - count / row .block in
-    let few : blocks ≤ 1_048_576 = omega (arith, div-le-self (count + n) (row .block)) in
+    let few : blocks ≤ textLimit = omega (arith, div-le-self (count + n) (row .block)) in
     let most : roundsOf (row .between) * blocks ≤ 8 * blocks = mul-le-mul-right blocks (sizes .rounds) in
     omega arith
 
 -- closing the data runs few rounds
 pub closing-bound : (s : Stream) → closingRounds s ≤ 8
 unfolding closingRounds
-closing-bound s = go (isData (s .phase)) (eqb (s .ad) 0)
+closing-bound s = go (isAd (s .phase)) (eqb (s .ad) 0)
   where
     go : (a b : Bool) → cond a (cond b 0 (roundsOf (rowOf (s .set) .between))) 0 ≤ 8
     go true true = lit≤ tt
     go true false = row-sizes (s .set) .rounds
     go false b = lit≤ tt
 
+-- ---- directions
+
+pub one-direction : (d e : Direction) → isDirection d e ≡ true → d ≡ e
+one-direction Sealing Sealing h = refl
+one-direction Sealing Checking h = absurd (false≢true h)
+one-direction Checking Sealing h = absurd (false≢true h)
+one-direction Checking Checking h = refl
+
+pub own-direction : (d : Direction) → isDirection d d ≡ true
+own-direction d = eq-eqb (rankOf d) (rankOf d) refl
+
+-- both halves of a conjunction that holds
+pub both-true : (a b : Bool) → (a && b) ≡ true → (a ≡ true) × (b ≡ true)
+both-true true b e = (refl, e)
+both-true false b e = absurd (false≢true e)
+
 -- ---- what passed tests say
 
-pub record StartPassed (set key nonce : ℕ) : Type 0 where
-  pub known : isSet set ≡ true
-  pub key-fits : key ≡ rowOf set .key
-  pub nonce-fits : nonce ≡ rowOf set .key
-
-pub start-passed : (set key nonce : ℕ) → isDone (startTest set key nonce) ≡ true → StartPassed set key nonce
-unfolding startTest
-start-passed set key nonce e =
-    let h = none-holds (startFaults set key nonce) refl e in
-    record {
-      known = not-false (isSet set) (h .0);
-      key-fits = eqb-true key (rowOf set .key) (not-false (eqb key (rowOf set .key)) (h .1 .0));
-      nonce-fits = eqb-true nonce (rowOf set .key) (not-false (eqb nonce (rowOf set .key)) (h .1 .1 .0));
-    }
-
-pub record PiecePassed (s : Stream) (fits : Bool) (count n limit : ℕ) : Type 0 where
+pub record PiecePassed (s : Stream) (fit : Bool) (count n limit : ℕ) : Type 0 where
   pub sound : isSound s ≡ true
-  pub fit : fits ≡ true
+  pub in-phase : fit ≡ true
   pub within : count + n ≤ limit
 
-pub piece-passed : (s : Stream) (fits : Bool) (count n limit : ℕ) → isDone (pieceTest s fits count n limit) ≡ true → PiecePassed s fits count n limit
+pub piece-passed : (s : Stream) (fit : Bool) (count n limit : ℕ) → isDone (pieceTest s fit count n limit) ≡ true → PiecePassed s fit count n limit
 unfolding pieceTest
-piece-passed s fits count n limit e =
-    let h = none-holds (pieceFaults s fits (count + n) limit) refl e in
+piece-passed s fit count n limit e =
+    let h = none-holds (pieceFaults s fit (count + n) limit) refl e in
     record {
       sound = not-false (isSound s) (h .0);
-      fit = not-false fits (h .1 .0);
+      in-phase = not-false fit (h .1 .0);
       within = leb-true (count + n) limit (not-false (leb (count + n) limit) (h .1 .1 .0));
     }
 
 -- the room is tested behind the tests of a piece
-pub seal-test : (s : Stream) (n room : ℕ) → let answer = pieceTest s (isOpen (s .phase) && isSealing (s .direction)) (s .text) n textLimit in
-    sealTest s n room ≡ cond (isDone answer) (cond (not (leb n room)) NoRoom Done) answer
-unfolding pieceTest sealTest
-seal-test s n room =
-    first-append (pieceFaults s (isOpen (s .phase) && isSealing (s .direction)) (s .text + n) textLimit) (NoRoom when not (leb n room) ∷ []) refl
+pub text-test-is : (d : Direction) (s : Stream) (n room : ℕ) → let answer = pieceTest s (fits d s) (s .text) n textLimit in
+    textTest d s n room ≡ cond (isDone answer) (cond (givesText d && not (leb n room)) NoRoom Done) answer
+unfolding pieceTest textTest
+text-test-is d s n room = first-append (pieceFaults s (fits d s) (s .text + n) textLimit) (NoRoom when (givesText d && not (leb n room)) ∷ []) refl
 
-pub record FinishPassed (s : Stream) (fits : Bool) (n : ℕ) : Type 0 where
+pub record TextPassed (d : Direction) (s : Stream) (n room : ℕ) : Type 0 where
+  pub piece : PiecePassed s (fits d s) (s .text) n textLimit
+  pub room-fits : givesText d ≡ true → n ≤ room
+
+pub text-passed : (d : Direction) (s : Stream) (n room : ℕ) → isDone (textTest d s n room) ≡ true → TextPassed d s n room
+unfolding textTest pieceTest
+text-passed d s n room e =
+    let h = none-holds (textFaults d s n room) refl e in
+    record {
+      piece = record {
+        sound = not-false (isSound s) (h .0);
+        in-phase = not-false (fits d s) (h .1 .0);
+        within = leb-true (s .text + n) textLimit (not-false (leb (s .text + n) textLimit) (h .1 .1 .0));
+      };
+      room-fits = λ g. leb-true n room (not-false (leb n room) (ap (λ (t : Bool). t && not (leb n room)) (sym g) ∙ h .1 .1 .1 .0));
+    }
+
+pub record FinishPassed (d : Direction) (s : Stream) (n : ℕ) : Type 0 where
   pub sound : isSound s ≡ true
-  pub fit : fits ≡ true
+  pub in-phase : fits d s ≡ true
   pub tag-fits : n ≡ rowOf (s .set) .key
 
-pub finish-passed : (s : Stream) (fits : Bool) (n : ℕ) → isDone (finishTest s fits n) ≡ true → FinishPassed s fits n
+pub finish-passed : (d : Direction) (s : Stream) (n : ℕ) → isDone (finishTest d s n) ≡ true → FinishPassed d s n
 unfolding finishTest
-finish-passed s fits n e =
-    let h = none-holds (finishFaults s fits n) refl e in
+finish-passed d s n e =
+    let h = none-holds (finishFaults d s n) refl e in
     record {
       sound = not-false (isSound s) (h .0);
-      fit = not-false fits (h .1 .0);
+      in-phase = not-false (fits d s) (h .1 .0);
       tag-fits = eqb-true n (rowOf (s .set) .key) (not-false (eqb n (rowOf (s .set) .key)) (h .1 .1 .0));
     }

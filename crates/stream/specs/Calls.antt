@@ -5,20 +5,21 @@ use Prim.Native.Nat.{ℕ, _+_, _-_, _*_, _/_, _%_}
 use lib.Dec.{eqb, leb}
 use lib.ListN.{length, drop}
 use Rattle.answers.specs.declared.Answer.{Answer}
-use Rattle.answers.specs.declared.Answer.the-variants.{Done, UnknownSet, KeyLength, NonceLength, TagLength, PastLimit, NoRoom, OutOfPhase, BrokenState, TagDiffers}
+use Rattle.answers.specs.declared.Answer.the-variants.{Done, TagLength, PastLimit, NoRoom, OutOfPhase, BrokenState, TagDiffers}
 use Rattle.answers.specs.Numbers.{isDone}
 use Rattle.answers.specs.Order.{Choice, _when_, first}
 use Rattle.permutation.specs.Runs.{roundsOf}
-use Rattle.permutation.specs.Strings.{wordsOfString}
-use Rattle.ascon.specs.Sets.{ParameterSet, isSet, rowOf, dataLimit, textLimit}
-use Rattle.ascon.specs.Mode.{zeros, initialise, same}
-use Rattle.sponge.specs.declared.Way.the-variants.{Seal, Open}
-use Rattle.sponge.specs.Sponge.{absorbed, given, dataClosed, tagOf}
+use Rattle.permutation.specs.Strings.{zeros, same, wordsOfString}
+use Rattle.ascon.specs.Sets.{ParameterSet, rowOf, adLimit, textLimit}
+use Rattle.ascon.specs.Mode.{initialise}
+use Rattle.sets.specs.Start.{startTest}
+use Rattle.sponge.specs.declared.Way.the-variants.{Seal}
+use Rattle.sponge.specs.Sponge.{absorbed, given, adClosed, tagOf}
 use Rattle.stream.specs.declared.Direction.{Direction}
-use Rattle.stream.specs.declared.Phase.the-variants.{Data, Text}
+use Rattle.stream.specs.declared.Phase.the-variants.{Ad, Text}
 use Rattle.stream.specs.declared.Stream.{Stream}
 use Rattle.stream.specs.declared.Outcome.{Outcome}
-use Rattle.stream.specs.State.{isData, isOpen, isSealing, isChecking, ended, isSound}
+use Rattle.stream.specs.State.{wayOf, givesText, givesTag, isAd, fits, ended, isSound}
 
 -- ---- refusals
 
@@ -32,34 +33,26 @@ decided answer s done = cond (isDone answer) done (refused answer s)
 
 -- ---- the tests, in their order
 
--- a start, of lengths: 1, 2, 3
-abbrev pub startFaults : ℕ → ℕ → ℕ → List (Choice Answer)
-startFaults set key nonce =
-    UnknownSet when not (isSet set) ∷ KeyLength when not (eqb key (rowOf set .key)) ∷ NonceLength when not (eqb nonce (rowOf set .key)) ∷ []
-
-unfoldable pub startTest : ℕ → ℕ → ℕ → Answer
-startTest set key nonce = first Done (startFaults set key nonce)
-
 -- a piece, with so many bytes taken then: 8, 7, 5
 abbrev pub pieceFaults : Stream → Bool → ℕ → ℕ → List (Choice Answer)
-pieceFaults s fits taken limit = BrokenState when not (isSound s) ∷ OutOfPhase when not fits ∷ PastLimit when not (leb taken limit) ∷ []
+pieceFaults s fit taken limit = BrokenState when not (isSound s) ∷ OutOfPhase when not fit ∷ PastLimit when not (leb taken limit) ∷ []
 
 unfoldable pub pieceTest : Stream → Bool → ℕ → ℕ → ℕ → Answer
-pieceTest s fits count n limit = first Done (pieceFaults s fits (count + n) limit)
+pieceTest s fit count n limit = first Done (pieceFaults s fit (count + n) limit)
 
--- a piece of n bytes that is sealed into so much room: 6 behind those
-abbrev pub sealFaults : Stream → ℕ → ℕ → List (Choice Answer)
-sealFaults s n room = pieceFaults s (isOpen (s .phase) && isSealing (s .direction)) (s .text + n) textLimit ++ NoRoom when not (leb n room) ∷ []
+-- a piece of n bytes of text for a direction, with so much room: 6 behind those
+abbrev pub textFaults : Direction → Stream → ℕ → ℕ → List (Choice Answer)
+textFaults d s n room = pieceFaults s (fits d s) (s .text + n) textLimit ++ NoRoom when (givesText d && not (leb n room)) ∷ []
 
-unfoldable pub sealTest : Stream → ℕ → ℕ → Answer
-sealTest s n room = first Done (sealFaults s n room)
+unfoldable pub textTest : Direction → Stream → ℕ → ℕ → Answer
+textTest d s n room = first Done (textFaults d s n room)
 
--- a finish with a tag of n bytes: 8, 7, 4
-abbrev pub finishFaults : Stream → Bool → ℕ → List (Choice Answer)
-finishFaults s fits n = BrokenState when not (isSound s) ∷ OutOfPhase when not fits ∷ TagLength when not (eqb n (rowOf (s .set) .key)) ∷ []
+-- a finish in a direction with a tag of n bytes: 8, 7, 4
+abbrev pub finishFaults : Direction → Stream → ℕ → List (Choice Answer)
+finishFaults d s n = BrokenState when not (isSound s) ∷ OutOfPhase when not (fits d s) ∷ TagLength when not (eqb n (rowOf (s .set) .key)) ∷ []
 
-unfoldable pub finishTest : Stream → Bool → ℕ → Answer
-finishTest s fits n = first Done (finishFaults s fits n)
+unfoldable pub finishTest : Direction → Stream → ℕ → Answer
+finishTest d s n = first Done (finishFaults d s n)
 
 -- ---- the rounds
 
@@ -69,23 +62,30 @@ filledRounds row count n = roundsOf (row .between) * ((count + n) / row .block -
 
 -- of closing the associated data, where it is open and not empty
 unfoldable pub closingRounds : Stream → ℕ
-closingRounds s = cond (isData (s .phase)) (cond (eqb (s .ad) 0) 0 (roundsOf (rowOf (s .set) .between))) 0
+closingRounds s = cond (isAd (s .phase)) (cond (eqb (s .ad) 0) 0 (roundsOf (rowOf (s .set) .between))) 0
 
 -- ---- the calls
 
+-- what a start is given
+pub record Start : Type 0 where
+  pub direction : Direction
+  pub set : ℕ
+  pub key : List ℕ
+  pub nonce : List ℕ
+
 -- a start; a refused one gives the ended state
-unfoldable pub startCall : Direction → ℕ → List ℕ → List ℕ → Outcome
-startCall direction set key nonce =
-    decided (startTest set (length key) (length nonce)) ended
+unfoldable pub startCall : Start → Outcome
+startCall start =
+    decided (startTest (start .set) (length (start .key)) (length (start .nonce))) ended
     (record {
       answer = Done;
       rounds = 12;
       next = record {
-        words = wordsOfString (initialise (rowOf set) key nonce);
-        set = set;
-        direction = direction;
-        phase = Data;
-        key = key ++ zeros (16 - length key);
+        words = wordsOfString (initialise (rowOf (start .set)) (start .key) (start .nonce));
+        set = start .set;
+        direction = start .direction;
+        phase = Ad;
+        key = start .key ++ zeros (16 - length (start .key));
         ad = 0;
         text = 0;
         place = 0;
@@ -93,8 +93,8 @@ startCall direction set key nonce =
     })
 
 -- a piece of the associated data that is taken
-abbrev pub tookData : Stream → List ℕ → Outcome
-tookData s piece =
+abbrev pub tookAd : Stream → List ℕ → Outcome
+tookAd s piece =
     let row = rowOf (s .set) in
     let n = length piece in
     record {
@@ -113,12 +113,12 @@ tookData s piece =
     }
 
 -- a piece of the associated data
-unfoldable pub dataCall : Stream → List ℕ → Outcome
-dataCall s piece = decided (pieceTest s (isData (s .phase)) (s .ad) (length piece) dataLimit) s (tookData s piece)
+unfoldable pub adCall : Stream → List ℕ → Outcome
+adCall s piece = decided (pieceTest s (isAd (s .phase)) (s .ad) (length piece) adLimit) s (tookAd s piece)
 
 -- the words at the text: the associated data is closed where it is open
 unfoldable pub textWords : Stream → List ℕ
-textWords s = cond (isData (s .phase)) (dataClosed (rowOf (s .set)) (s .words) (s .ad)) (s .words)
+textWords s = cond (isAd (s .phase)) (adClosed (rowOf (s .set)) (s .words) (s .ad)) (s .words)
 
 -- a text call that took n bytes and left these words
 unfoldable pub tookText : Stream → List ℕ → ℕ → Outcome
@@ -146,39 +146,32 @@ pub record Called : Type 0 where
 abbrev pub called : Outcome → List ℕ → Called
 called outcome lent = record { outcome = outcome; lent = lent }
 
--- a piece of text, sealed; bytes of `out` beyond the piece stay
-unfoldable pub sealCall : Stream → List ℕ → List ℕ → Called
-sealCall s piece out =
-    let row = rowOf (s .set) in
-    let n = length piece in
-    let answer = sealTest s n (length out) in
-    cond (isDone answer)
-    (called (tookText s (absorbed row Seal (textWords s) (s .text) piece) n) (given row Seal (textWords s) (s .text) piece ++ drop n out))
-    (called (refused answer s) out)
+-- what a piece of text gives in a direction, at the front of `out`
+abbrev pub givenText : Direction → Stream → List ℕ → List ℕ → List ℕ
+givenText d s piece out = cond (givesText d) (given (rowOf (s .set)) (wayOf d) (textWords s) (s .text) piece ++ drop (length piece) out) out
 
--- a piece of ciphertext, checked
-unfoldable pub checkCall : Stream → List ℕ → Outcome
-checkCall s piece =
-    let n = length piece in
-    decided (pieceTest s (isOpen (s .phase) && isChecking (s .direction)) (s .text) n textLimit) s
-    (tookText s (absorbed (rowOf (s .set)) Open (textWords s) (s .text) piece) n)
+-- a piece of text in a direction
+unfoldable pub textCall : Direction → Stream → List ℕ → List ℕ → Called
+textCall d s piece out =
+    let answer = textTest d s (length piece) (length out) in
+    cond (isDone answer)
+    (called (tookText s (absorbed (rowOf (s .set)) (wayOf d) (textWords s) (s .text) piece) (length piece)) (givenText d s piece out))
+    (called (refused answer s) out)
 
 -- the tag of the text so far
 abbrev pub ownTag : Stream → List ℕ
 ownTag s = tagOf (rowOf (s .set)) (textWords s) (s .text) (s .key)
 
+-- a tag that is given to be compared, and is not the stream's own: 9
+abbrev pub tagFaults : Direction → Stream → List ℕ → List (Choice Answer)
+tagFaults d s tag = TagDiffers when (not (givesTag d) && not (same tag (ownTag s))) ∷ []
+
 -- the end of the stream with an answer: closing, and twelve rounds
 abbrev pub finishedWith : Answer → Stream → Outcome
 finishedWith answer s = record { answer = answer; rounds = closingRounds s + 12; next = ended }
 
--- the end of a sealing: the tag in the place lent for it
-unfoldable pub finishSealingCall : Stream → List ℕ → Called
-finishSealingCall s tag =
-    let answer = finishTest s (isOpen (s .phase) && isSealing (s .direction)) (length tag) in
-    cond (isDone answer) (called (finishedWith Done s) (ownTag s)) (called (refused answer s) tag)
-
--- the end of a checking: 9 where the tag differs
-unfoldable pub finishCheckingCall : Stream → List ℕ → Outcome
-finishCheckingCall s tag =
-    decided (finishTest s (isOpen (s .phase) && isChecking (s .direction)) (length tag)) s
-    (finishedWith (cond (same tag (ownTag s)) Done TagDiffers) s)
+-- a finish in a direction: a sealing puts its tag into the place, another direction leaves the place as it is
+unfoldable pub finishCall : Direction → Stream → List ℕ → Called
+finishCall d s tag =
+    let answer = finishTest d s (length tag) in
+    cond (isDone answer) (called (finishedWith (first Done (tagFaults d s tag)) s) (cond (givesTag d) (ownTag s) tag)) (called (refused answer s) tag)

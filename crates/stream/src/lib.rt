@@ -1,11 +1,13 @@
 // Sealing and checking streams. A state goes into each call and comes back from it; every call takes any state, any lengths and any order, and answers with
 // its listed number.
 ghost use mathlib.Core.Path.{_≡_};
+ghost use mathlib.Core.List.{[]};
 ghost use Prim.Native.Nat.{_+_, _-_, _*_, _≤_, _<_};
 ghost use lib.ListN.{take, drop};
-ghost use Rattle.ascon.specs.Sets.{rowOf};
-ghost use Rattle.stream.specs.State.{allZero, isData, isOpen, isSealing, isChecking, ended, isSoundOpen, isSoundEnded, isSound};
-ghost use Rattle.stream.specs.Calls.{filledRounds, pieceTest, finishTest, startTest, refused, textWords, closingRounds, startCall, dataCall, tookText, ownTag, called, sealCall, checkCall, finishSealingCall, finishCheckingCall};
+ghost use Rattle.ascon.specs.Sets.{rowOf, textLimit};
+ghost use Rattle.stream.specs.declared.Direction.the-variants.{Sealing, Checking};
+ghost use Rattle.stream.specs.State.{rankOf, isDirection, givesText, isAd, isOpen, fits, allZero, ended, isSoundOpen, isSoundEnded, isSound};
+ghost use Rattle.stream.specs.Calls.{filledRounds, pieceTest, textTest, finishTest, refused, textWords, closingRounds, startCall, adCall, tookText, ownTag, called, textCall, finishCall};
 use answers::Answer;
 use sponge::Way;
 
@@ -17,7 +19,7 @@ pub enum Direction {
 
 // What a stream takes next.
 pub enum Phase {
-    Data,
+    Ad,
     Text,
     Ended,
 }
@@ -43,11 +45,11 @@ pub struct Outcome {
 }
 
 // Whether a phase is that of the associated data.
-fn is_data(phase: Phase) -> bool
-    ensures { λ r. ⌜ r ≡ isData phase ⌝ }
+fn is_ad(phase: Phase) -> bool
+    ensures { λ r. ⌜ r ≡ isAd phase ⌝ }
 {
     match phase {
-        Phase::Data => true,
+        Phase::Ad => true,
         Phase::Text => false,
         Phase::Ended => false,
     }
@@ -58,29 +60,36 @@ fn is_open(phase: Phase) -> bool
     ensures { λ r. ⌜ r ≡ isOpen phase ⌝ }
 {
     match phase {
-        Phase::Data => true,
+        Phase::Ad => true,
         Phase::Text => true,
         Phase::Ended => false,
     }
 }
 
-// Whether a direction is sealing.
-fn is_sealing(direction: Direction) -> bool
-    ensures { λ r. ⌜ r ≡ isSealing direction ⌝ }
+// The rank of a direction.
+fn rank(direction: Direction) -> u64
+    ensures { λ r. ⌜ r ≡ rankOf direction ⌝ }
+{
+    match direction {
+        Direction::Sealing => 0,
+        Direction::Checking => 1,
+    }
+}
+
+// Whether two directions are one.
+fn is_direction(one: Direction, other: Direction) -> bool
+    ensures { λ r. ⌜ r ≡ isDirection one other ⌝ }
+{
+    rank(one) == rank(other)
+}
+
+// Whether a piece of text has an output in a direction.
+fn gives_text(direction: Direction) -> bool
+    ensures { λ r. ⌜ r ≡ givesText direction ⌝ }
 {
     match direction {
         Direction::Sealing => true,
         Direction::Checking => false,
-    }
-}
-
-// Whether a direction is checking.
-fn is_checking(direction: Direction) -> bool
-    ensures { λ r. ⌜ r ≡ isChecking direction ⌝ }
-{
-    match direction {
-        Direction::Sealing => false,
-        Direction::Checking => true,
     }
 }
 
@@ -114,28 +123,12 @@ fn zero_words(words: [u64; 5]) -> bool
 
 // The rounds of the blocks that n bytes fill after `count` of them.
 fn filled_rounds(set: u64, count: usize, n: usize) -> u64
-    requires { ⌜ count + n ≤ 1048576 ⌝ }
+    requires { ⌜ count + n ≤ textLimit ⌝ }
     ensures { λ r. ⌜ r ≡ filledRounds (rowOf set) count n ⌝ }
 {
     let block = sets::block_length(set);
     let blocks = (count + n) / block - count / block;
     sets::rounds_between(set) * (blocks as u64)
-}
-
-// The tests of a start: set, key length, nonce length.
-pub fn start_test(set: u64, key: usize, nonce: usize) -> Answer
-    ensures { λ r. ⌜ r ≡ startTest set key nonce ⌝ }
-{
-    if !sets::is_set(set) {
-        return Answer::UnknownSet;
-    }
-    if key != sets::key_length(set) {
-        return Answer::KeyLength;
-    }
-    if nonce != sets::key_length(set) {
-        return Answer::NonceLength;
-    }
-    Answer::Done
 }
 
 // A refusal, which leaves the state as it was.
@@ -172,19 +165,11 @@ impl Stream {
     {
         let set = self.set;
         let key = self.key;
-        tags::both(
-            sets::is_set(set),
-            tags::both(
-                zero_from(key, sets::key_length(set)),
-                tags::both(
-                    self.ad <= 65536,
-                    tags::both(
-                        self.text <= 1048576,
-                        self.place == count % sets::block_length(set),
-                    ),
-                ),
-            ),
-        )
+        sets::is_set(set)
+            & (zero_from(key, sets::key_length(set))
+                & ((self.ad <= sets::AD_LIMIT)
+                    & ((self.text <= sets::TEXT_LIMIT)
+                        & (self.place == count % sets::block_length(set)))))
     }
 
     // Whether the state is the ended one, but for its phase.
@@ -194,19 +179,11 @@ impl Stream {
         let words = self.words;
         let key = self.key;
         let direction = self.direction;
-        tags::both(
-            zero_words(words),
-            tags::both(
-                zero_from(key, 0),
-                tags::both(
-                    is_sealing(direction),
-                    tags::both(
-                        self.set == 1,
-                        tags::both(self.ad == 0, tags::both(self.text == 0, self.place == 0)),
-                    ),
-                ),
-            ),
-        )
+        zero_words(words)
+            & (zero_from(key, 0)
+                & (is_direction(Direction::Sealing, direction)
+                    & ((self.set == 1)
+                        & ((self.ad == 0) & ((self.text == 0) & (self.place == 0))))))
     }
 
     // Whether the state breaks no rule.
@@ -215,20 +192,20 @@ impl Stream {
     {
         let phase = self.phase;
         match phase {
-            Phase::Data => tags::both(self.text == 0, self.sound_open(self.ad)),
+            Phase::Ad => (self.text == 0) & self.sound_open(self.ad),
             Phase::Text => self.sound_open(self.text),
             Phase::Ended => self.sound_ended(),
         }
     }
 
     // The tests of a piece of n bytes after `count` of them: state, phase and direction, limit.
-    fn piece_test(self, fits: bool, count: usize, n: usize, limit: usize) -> Answer
-        ensures { λ r. ⌜ r ≡ pieceTest self fits count n limit ⌝ }
+    fn piece_test(self, fit: bool, count: usize, n: usize, limit: usize) -> Answer
+        ensures { λ r. ⌜ r ≡ pieceTest self fit count n limit ⌝ }
     {
         if !self.sound() {
             return Answer::BrokenState;
         }
-        if !fits {
+        if !fit {
             return Answer::OutOfPhase;
         }
         if limit < n {
@@ -240,14 +217,37 @@ impl Stream {
         Answer::Done
     }
 
-    // The tests of a finish with a tag of n bytes: state, phase and direction, tag length.
-    fn finish_test(self, fits: bool, n: usize) -> Answer
-        ensures { λ r. ⌜ r ≡ finishTest self fits n ⌝ }
+    // Whether a call on the text, for a direction, is in its phase and on a stream of that direction.
+    fn fits(self, wanted: Direction) -> bool
+        ensures { λ r. ⌜ r ≡ fits wanted self ⌝ }
+    {
+        let phase = self.phase;
+        let direction = self.direction;
+        is_open(phase) & is_direction(wanted, direction)
+    }
+
+    // The tests of a piece of n bytes of text for a direction: those of a piece, and the room where it has an output.
+    fn text_test(self, wanted: Direction, n: usize, room: usize) -> Answer
+        ensures { λ r. ⌜ r ≡ textTest wanted self n room ⌝ }
+    {
+        let answer = self.piece_test(self.fits(wanted), self.text, n, sets::TEXT_LIMIT);
+        if !answers::is_done(answer) {
+            return answer;
+        }
+        if gives_text(wanted) & !(n <= room) {
+            return Answer::NoRoom;
+        }
+        Answer::Done
+    }
+
+    // The tests of a finish in a direction with a tag of n bytes: state, phase and direction, tag length.
+    fn finish_test(self, wanted: Direction, n: usize) -> Answer
+        ensures { λ r. ⌜ r ≡ finishTest wanted self n ⌝ }
     {
         if !self.sound() {
             return Answer::BrokenState;
         }
-        if !fits {
+        if !self.fits(wanted) {
             return Answer::OutOfPhase;
         }
         if n != sets::key_length(self.set) {
@@ -262,8 +262,8 @@ impl Stream {
     {
         let words = self.words;
         let phase = self.phase;
-        if is_data(phase) {
-            return sponge::close_data(self.set, words, self.ad);
+        if is_ad(phase) {
+            return sponge::close_ad(self.set, words, self.ad);
         }
         words
     }
@@ -273,7 +273,7 @@ impl Stream {
         ensures { λ r. ⌜ r ≡ closingRounds self ⌝ }
     {
         let phase = self.phase;
-        if !is_data(phase) {
+        if !is_ad(phase) {
             return 0;
         }
         if self.ad == 0 {
@@ -284,9 +284,9 @@ impl Stream {
 
     // A start: set, key and nonce are tested, and the data phase is open.
     pub fn start(direction: Direction, set: u64, key: &[u8], nonce: &[u8]) -> Outcome
-        ensures { λ r. ⌜ r ≡ startCall direction set (now (key .entry)) (now (nonce .entry)) ⌝ }
+        ensures { λ r. ⌜ r ≡ startCall (record { direction = direction; set = set; key = now (key .entry); nonce = now (nonce .entry) }) ⌝ }
     {
-        let answer = start_test(set, key.len(), nonce.len());
+        let answer = sets::start_test(set, key.len(), nonce.len());
         if !answers::is_done(answer) {
             return refusal(answer, Stream::ended());
         }
@@ -296,7 +296,7 @@ impl Stream {
             words,
             set,
             direction,
-            phase: Phase::Data,
+            phase: Phase::Ad,
             key: key16,
             ad: 0,
             text: 0,
@@ -311,11 +311,11 @@ impl Stream {
 
     // A piece of the associated data, in either direction.
     pub fn ad(self, piece: &[u8]) -> Outcome
-        ensures { λ r. ⌜ r ≡ dataCall self (now (piece .entry)) ⌝ }
+        ensures { λ r. ⌜ r ≡ adCall self (now (piece .entry)) ⌝ }
     {
         let phase = self.phase;
         let count = self.ad;
-        let answer = self.piece_test(is_data(phase), count, piece.len(), 65536);
+        let answer = self.piece_test(is_ad(phase), count, piece.len(), sets::AD_LIMIT);
         if !answers::is_done(answer) {
             return refusal(answer, self);
         }
@@ -347,7 +347,7 @@ impl Stream {
 
     // What a text call answers when n bytes were taken and left these words.
     fn took_text(self, words: [u64; 5], n: usize) -> Outcome
-        requires { ⌜ self .text + n ≤ 1048576 ⌝ }
+        requires { ⌜ self .text + n ≤ textLimit ⌝ }
         ensures { λ r. ⌜ r ≡ tookText self words n ⌝ }
     {
         let set = self.set;
@@ -377,17 +377,11 @@ impl Stream {
 
     // A piece of the text, sealed into `out`.
     pub fn seal(self, piece: &[u8], out: &mut [u8]) -> Outcome
-        ensures { λ r. ⌜ called r (now (out .exit)) ≡ sealCall self (now (piece .entry)) (now (out .entry)) ⌝ }
+        ensures { λ r. ⌜ called r (now (out .exit)) ≡ textCall Sealing self (now (piece .entry)) (now (out .entry)) ⌝ }
     {
-        let phase = self.phase;
-        let direction = self.direction;
-        let fits = tags::both(is_open(phase), is_sealing(direction));
-        let answer = self.piece_test(fits, self.text, piece.len(), 1048576);
+        let answer = self.text_test(Direction::Sealing, piece.len(), out.len());
         if !answers::is_done(answer) {
             return refusal(answer, self);
-        }
-        if out.len() < piece.len() {
-            return refusal(Answer::NoRoom, self);
         }
         let words = sponge::crypt(
             self.set,
@@ -402,12 +396,9 @@ impl Stream {
 
     // A piece of the ciphertext, to be checked.
     pub fn check(self, piece: &[u8]) -> Outcome
-        ensures { λ r. ⌜ r ≡ checkCall self (now (piece .entry)) ⌝ }
+        ensures { λ r. ⌜ r ≡ textCall Checking self (now (piece .entry)) [] .outcome ⌝ }
     {
-        let phase = self.phase;
-        let direction = self.direction;
-        let fits = tags::both(is_open(phase), is_checking(direction));
-        let answer = self.piece_test(fits, self.text, piece.len(), 1048576);
+        let answer = self.text_test(Direction::Checking, piece.len(), 0);
         if !answers::is_done(answer) {
             return refusal(answer, self);
         }
@@ -425,12 +416,9 @@ impl Stream {
 
     // The end of a sealing: the tag.
     pub fn finish_sealing(self, tag: &mut [u8]) -> Outcome
-        ensures { λ r. ⌜ called r (now (tag .exit)) ≡ finishSealingCall self (now (tag .entry)) ⌝ }
+        ensures { λ r. ⌜ called r (now (tag .exit)) ≡ finishCall Sealing self (now (tag .entry)) ⌝ }
     {
-        let phase = self.phase;
-        let direction = self.direction;
-        let fits = tags::both(is_open(phase), is_sealing(direction));
-        let answer = self.finish_test(fits, tag.len());
+        let answer = self.finish_test(Direction::Sealing, tag.len());
         if !answers::is_done(answer) {
             return refusal(answer, self);
         }
@@ -445,12 +433,9 @@ impl Stream {
 
     // The end of a checking: whether the tag is the right one.
     pub fn finish_checking(self, tag: &[u8]) -> Outcome
-        ensures { λ r. ⌜ r ≡ finishCheckingCall self (now (tag .entry)) ⌝ }
+        ensures { λ r. ⌜ r ≡ finishCall Checking self (now (tag .entry)) .outcome ⌝ }
     {
-        let phase = self.phase;
-        let direction = self.direction;
-        let fits = tags::both(is_open(phase), is_checking(direction));
-        let answer = self.finish_test(fits, tag.len());
+        let answer = self.finish_test(Direction::Checking, tag.len());
         if !answers::is_done(answer) {
             return refusal(answer, self);
         }

@@ -5,8 +5,8 @@ use mathlib.Core.List.{List, _++_}
 use Prim.Native.Nat.{ℕ, _-_, _≤_}
 use lib.ListN.{length, take}
 use borrow.Author.Tests.{le-leb}
-use Rattle.ascon.specs.Mode.{zeros, same}
-use Rattle.ascon.proofs.Strings.{same-eq}
+use Rattle.permutation.specs.Strings.{zeros, same}
+use Rattle.permutation.proofs.Strings.{same-eq}
 use Rattle.tags.specs.Tags.{sixteenOf, givenTag}
 
 pub and-assoc : (a b c : Bool) → ((a && b) && c) ≡ (a && (b && c))

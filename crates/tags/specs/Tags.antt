@@ -4,8 +4,7 @@ use mathlib.Core.List.{List}
 use Prim.Native.Nat.{ℕ, _-_}
 use lib.Dec.{leb}
 use lib.ListN.{length, take}
-use Rattle.permutation.specs.Strings.{_‖_}
-use Rattle.ascon.specs.Mode.{zeros}
+use Rattle.permutation.specs.Strings.{_‖_, zeros}
 
 -- a string with zeros behind it, in 16 bytes
 unfoldable pub sixteenOf : List ℕ → List ℕ

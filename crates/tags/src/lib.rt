@@ -1,15 +1,7 @@
 // Keys and tags, strings of at most 16 bytes: put into 16 bytes, given out, compared.
 ghost use mathlib.Core.Path.{_≡_};
-ghost use mathlib.Core.Bool.{_&&_};
-ghost use Rattle.ascon.specs.Mode.{same};
+ghost use Rattle.permutation.specs.Strings.{same};
 ghost use Rattle.tags.specs.Tags.{sixteenOf, givenTag};
-
-// Whether both hold.
-pub fn both(one: bool, other: bool) -> bool
-    ensures { λ r. ⌜ r ≡ (one && other) ⌝ }
-{
-    if one { other } else { false }
-}
 
 // A string of at most 16 bytes with zeros behind it; zeros for a longer one.
 pub fn sixteen(string: &[u8]) -> [u8; 16]
@@ -44,7 +36,7 @@ pub fn same_tag(ours: &[u8], theirs: &[u8]) -> bool
     let mut equal = true;
     let mut i = 0;
     while i < theirs.len() {
-        equal = both(equal, theirs[i] == ours[i]);
+        equal = equal & (theirs[i] == ours[i]);
         i += 1;
     }
     equal

@@ -385,7 +385,6 @@ keeps-report r had wrote said k judging unread some final =
 
 -- a window that is not final is not all of the input
 not-final : (window : List ℕ) (ended : Bool) → isFinal window ended ≡ false → ended ≡ false
-unfolding isFinal
 not-final window false = λ e. refl
 not-final window true = go (isDone (readCall window .answer))
   where

@@ -1,36 +1,46 @@
 -- `bench::close` meets its contract.
-use mathlib.Core.Path.{sym, subst, _∙_}
+use mathlib.Core.Path.{ap, subst⁻¹}
 use denote.Ref.{now}
 use borrow.Author.Needs.{needs}
+use Rattle.turns.specs.Run.{isClosing}
 use Rattle.bench.specs.declared.progress.Progress.{Progress}
-use Rattle.bench.specs.Progress.{Closed}
+use Rattle.bench.specs.Progress.{ending, Closed}
+use Rattle.bench.proofs.Stages.{not-closing}
 use Rattle.bench.proofs.Views.{closed-says, closed-stays}
 use Rattle.bench.proofs.close.Statement.{statement}
 use Rattle.bench.proofs.close.Tie as tie
 
-is-closing-requires : tie.Need-is-closing-requires
-is-closing-requires c κs = search needs
+enum-told : tie.Need-enum-told
+enum-told c = search needs
+
+returns : tie.Need-returns
+returns c = let p = c .before .before .args .p in closed-stays p _ (not-closing (p .stage) (c .match .keys2))
 
 put-end-requires : tie.Need-put-end-requires
 put-end-requires c κs = search needs
 
-saying-requires : tie.Need-saying-requires
-saying-requires c κs = search needs
+at-stage-requires : tie.Need-at-stage-requires
+at-stage-requires c κs = search needs
 
 same-length : tie.Need-same-length
 same-length c = search needs
 
-returns : tie.Need-returns
-returns c =
-    let s = c .before .before .before .before .before .before .before .before .before in
-    let closing = sym (c .before .before .before .before .before .before .before .is-closing .ensures) ∙ c .before .before .before .before .before .before .if1 .taken in
-    subst (λ (q : Progress). Closed (s .args .p) (now (s .args .text)) q (c .before .before .before .put-end .last .1 .0)) (sym (c .saying .ensures))
-    (closed-says (s .args .p) _ _ _ closing (c .before .before .before .put-end .ensures))
+-- from where the line was put, back to where the function begins
+abbrev entry : tie.After-put-end → tie.Start
+entry c = c .before .before .before .before .before .before
+
+-- what closing makes of the places, once the line is put
+closes : (c : tie.After-put-end) → let s = entry c in
+    let size = c .put-end .result in
+    Closed (s .args .p) (now (s .args .text)) (ending (s .args .p) size) (c .put-end .last .1 .0)
+closes c = closed-says (entry c .args .p) _ _ _ (ap isClosing (c .before .before .before .enum-told .given .1)) (c .put-end .ensures)
 
 returns-2 : tie.Need-returns-2
-returns-2 c = let s = c .before .before .before in closed-stays (s .args .p) _ (sym (c .before .is-closing .ensures) ∙ c .if1 .left)
+returns-2 c =
+    let end = c .before .before .before in
+    let s = entry end in
+    subst⁻¹ (λ (q : Progress). Closed (s .args .p) (now (s .args .text)) q (end .put-end .last .1 .0)) (c .at-stage .ensures) (closes end)
 
 pub close-spec : {M : Type 1} → statement M
 close-spec =
-    tie.close
-    (tie.spec is-closing-requires put-end-requires saying-requires same-length returns returns-2)
+    tie.close (tie.spec enum-told returns put-end-requires at-stage-requires same-length returns-2)

@@ -1,6 +1,6 @@
 -- `bench::run` meets its contract. The loop's invariant: the places are within their bounds, they are where answers lead to, one a turn, and the lent
 -- slices keep their lengths. The measure is the number of turns left.
-use mathlib.Core.Path.{_≡_, refl, sym, ap, subst, _∙_}
+use mathlib.Core.Path.{_≡_, refl, ap, _∙_}
 use mathlib.Core.List.{List, [], _∷_, _++_}
 use mathlib.Core.Logic.{inl, inr}
 use Prim.Native.Nat.{ℕ, _+_, _≤_, _<_}
@@ -9,7 +9,7 @@ use lib.ListN.{length, length-append}
 use borrow.Author.Needs.{needs}
 use Rattle.bench.specs.declared.progress.Progress.{Progress}
 use Rattle.turns.specs.Tallies.{largest}
-use Rattle.turns.specs.Run.{Reply, ran}
+use Rattle.turns.specs.Run.{Reply, isOver, ran}
 use Rattle.bench.specs.Progress.{fresh, Sound, view}
 use Rattle.turns.proofs.Turns.{ran-more}
 use Rattle.bench.proofs.run.Statement.{statement}
@@ -44,23 +44,20 @@ Inv-loop buffer₀ text₀ p₀ turns₀ buffer text p turns = Going buffer₀ t
 abbrev μ-loop : tie.MeasureT-loop
 μ-loop buffer₀ text₀ p₀ turns₀ buffer text p turns = turns
 
-begin-requires : tie.Need-begin-requires Inv-loop μ-loop
-begin-requires c κs = search needs
-
 loop-holds : tie.Need-loop-holds Inv-loop μ-loop
 loop-holds c =
-    let s = c .before .before .before in
+    let s = c .before .before in
     record {
-      sound = subst (λ (p : Progress). Sound p (s .args .buffer .now) (s .args .text .now)) (sym (c .begin .ensures)) (fresh-sound (s .args .buffer .now) (s .args .text .now) (s .pre .0) (s .pre .1));
+      sound = fresh-sound (s .args .buffer .now) (s .args .text .now) (s .pre .0) (s .pre .1);
       replies = [];
-      is = ap (λ (p : Progress). view p (s .args .buffer .now) (s .args .text .now)) (c .begin .ensures);
+      is = refl;
       count = refl;
       same-buffer = refl;
       same-text = refl;
     }
 
-is-over-requires : tie.Need-is-over-requires Inv-loop μ-loop
-is-over-requires c κs = search needs
+enum-told : tie.Need-enum-told Inv-loop μ-loop
+enum-told c = search needs
 
 same-length : tie.Need-same-length Inv-loop μ-loop
 same-length c = c .before .before .before .loop .inv .same-buffer
@@ -71,26 +68,35 @@ same-length-2 c = c .before .before .before .loop .inv .same-text
 returns : tie.Need-returns Inv-loop μ-loop
 returns c =
     let inv = c .before .before .before .loop .inv in
-    record { replies = inv .replies; is = inv .is; over = inl (sym (c .before .is-over .ensures) ∙ c .if1 .taken) }
+    record { replies = inv .replies; is = inv .is; over = inl (ap isOver (c .enum-told .given .1)) }
 
 turn-requires : tie.Need-turn-requires Inv-loop μ-loop
-turn-requires c κs = c .before .before .before .before .before .loop .inv .sound
+turn-requires c κs = c .before .before .before .before .loop .inv .sound
+
+-- from where the turn returned, back to where the loop is entered
+abbrev begun : tie.After-turn Inv-loop μ-loop → tie.In-loop Inv-loop μ-loop
+begun c = c .before .before .before .before
+
+-- from the end of the loop, back to where the turn returned
+abbrev returned : tie.After-slice-known4 Inv-loop μ-loop → tie.After-turn Inv-loop μ-loop
+returned c = c .before .before .before .before
 
 sub-turns : tie.Need-sub-turns Inv-loop μ-loop
-sub-turns c = omega (arith, c .before .before .before .before .before .before .before .before .before .loop-test .taken)
+sub-turns c = omega (arith, begun (returned c) .loop-test .taken)
 
 loop-less : tie.Need-loop-less Inv-loop μ-loop
-loop-less c = omega (arith, c .before .before .before .before .before .before .before .before .before .loop-test .taken)
+loop-less c = omega (arith, begun (returned c) .loop-test .taken)
 
 loop-again : tie.Need-loop-again Inv-loop μ-loop
 loop-again c =
-    let inv = c .before .before .before .before .before .before .before .before .before .before .loop .inv in
-    let turned = c .before .before .before .before .turn .ensures in
+    let began = begun (returned c) in
+    let inv = began .before .loop .inv in
+    let turned = returned c .turn .ensures in
     record {
       sound = turned .0;
       replies = inv .replies ++ turned .1 .reply ∷ [];
       is = ran-more _ _ (inv .replies) (inv .is) (turned .1);
-      count = omega (arith, inv .count, length-append (inv .replies) (turned .1 .reply ∷ []), c .before .before .before .before .before .before .before .before .before .loop-test .taken);
+      count = omega (arith, inv .count, length-append (inv .replies) (turned .1 .reply ∷ []), began .loop-test .taken);
       same-buffer = c .before .before .before .buffer .given ∙ inv .same-buffer;
       same-text = c .before .text .given ∙ inv .same-text;
     }
@@ -112,9 +118,8 @@ run-spec =
     (tie.spec
     Inv-loop
     μ-loop
-    begin-requires
     loop-holds
-    is-over-requires
+    enum-told
     same-length
     same-length-2
     returns

@@ -6,13 +6,13 @@ use Rattle.bench.proofs.turn.Statement.{statement}
 use Rattle.bench.proofs.turn.Tie as tie
 
 call-requires : tie.Need-call-requires
-call-requires c κs = search needs
+call-requires c κs = c .before .before .before .before .pre
 
 look-requires : tie.Need-look-requires
-look-requires c κs = search needs
+look-requires c κs = c .before .before .before .before .call .ensures .0
 
 close-requires : tie.Need-close-requires
-close-requires c κs = search needs
+close-requires c κs = let sound = c .before .before .before .look .ensures .0 in (sound .few, sound .long)
 
 same-length : tie.Need-same-length
 same-length c = search needs
@@ -20,17 +20,26 @@ same-length c = search needs
 same-length-2 : tie.Need-same-length-2
 same-length-2 c = search needs
 
+-- from where judging returned, back to where the call did
+abbrev called : tie.After-look → tie.After-call
+called c = c .before .before .before .before .before
+
+-- from where closing returned, back to where judging did
+abbrev looked : tie.After-close → tie.After-look
+looked c = c .before .before .before .before
+
 returns : tie.Need-returns
 unfolding turned
 returns c =
-    let called = c .before .before .before .before .before .before .before .before .before .before .before .call in
-    let looked = c .before .before .before .before .before .before .look in
-    let end = c .before .before .close .ensures in
-    let answer = called .ensures .1 in (
-      end .sound (called .last .0) (looked .ensures .0),
+    let closing = c .before .before in
+    let look = looked closing .look in
+    let call = called (looked closing) .call in
+    let end = closing .close .ensures in
+    let answer = call .ensures .1 in (
+      end .sound (call .last .0) (look .ensures .0),
       record {
         reply = answer .reply;
-        is = end .is (called .last .0) ∙ ap closed (looked .ensures .1) ∙ ap (λ (r : Standing). closed (judged r)) (answer .is);
+        is = end .is (call .last .0) ∙ ap closed (look .ensures .1) ∙ ap (λ (r : Standing). closed (judged r)) (answer .is);
       },
     )
 

@@ -1,6 +1,5 @@
 -- `gateway::kvistmaur_open` meets its contract.
 use mathlib.Core.Path.{ap, _∙_}
-use denote.Ref.{now}
 use borrow.Author.Needs.{needs}
 use Rattle.message.specs.Message.{OpenLeaves}
 use Rattle.message.proofs.Bounds.{open-rounds}
@@ -12,10 +11,7 @@ open-requires : tie.Need-open-requires
 open-requires c κs = search needs
 
 word-requires : tie.Need-word-requires
-word-requires c κs =
-    let a = c .before .before .before .before .before .before .before .before .before .before .args in
-    rw (ap (λ (s : OpenLeaves). s .outcome) (c .before .before .«open» .ensures))
-    (open-rounds (a .set) (now (a .key)) (now (a .nonce)) (now (a .ad)) (now (a .cipher)) (now (a .tag)) (now (a .out)))
+word-requires c κs = rw (ap (λ (s : OpenLeaves). s .outcome) (c .before .before .«open» .ensures)) (open-rounds _ _ _ _ _ _ _)
 
 same-length : tie.Need-same-length
 same-length c = search needs
@@ -23,7 +19,7 @@ same-length c = search needs
 returns : tie.Need-returns
 returns c =
     let e = c .before .before .before .«open» .ensures in
-    (c .word .ensures ∙ ap (λ (s : OpenLeaves). wordOf (s .outcome)) e, ap (λ (s : OpenLeaves). s .out) e)
+    (c .word .ensures ∙ (λ j. wordOf (e j .outcome)), λ j. e j .out)
 
 pub kvistmaur-open-spec : {M : Type 1} → statement M
 kvistmaur-open-spec = tie.close (tie.spec open-requires word-requires same-length returns)

@@ -1,6 +1,5 @@
 -- `gateway::kvistmaur_seal` meets its contract.
 use mathlib.Core.Path.{ap, _∙_}
-use denote.Ref.{now}
 use borrow.Author.Needs.{needs}
 use Rattle.message.specs.Message.{SealLeaves}
 use Rattle.message.proofs.Bounds.{seal-rounds}
@@ -12,10 +11,7 @@ seal-requires : tie.Need-seal-requires
 seal-requires c κs = search needs
 
 word-requires : tie.Need-word-requires
-word-requires c κs =
-    let a = c .before .before .before .before .before .before .before .before .before .before .before .before .before .args in
-    rw (ap (λ (s : SealLeaves). s .outcome) (c .before .before .before .before .seal .ensures))
-    (seal-rounds (a .set) (now (a .key)) (now (a .nonce)) (now (a .ad)) (now (a .text)) (now (a .out)) (now (a .tag)))
+word-requires c κs = rw (ap (λ (s : SealLeaves). s .outcome) (c .before .before .before .before .seal .ensures)) (seal-rounds _ _ _ _ _ _ _)
 
 same-length : tie.Need-same-length
 same-length c = search needs
@@ -26,7 +22,7 @@ same-length-2 c = search needs
 returns : tie.Need-returns
 returns c =
     let e = c .before .before .before .before .before .seal .ensures in
-    (c .word .ensures ∙ ap (λ (s : SealLeaves). wordOf (s .outcome)) e, (ap (λ (s : SealLeaves). s .out) e, ap (λ (s : SealLeaves). s .tag) e))
+    (c .word .ensures ∙ (λ j. wordOf (e j .outcome)), ((λ j. e j .out), λ j. e j .tag))
 
 pub kvistmaur-seal-spec : {M : Type 1} → statement M
 kvistmaur-seal-spec = tie.close (tie.spec seal-requires word-requires same-length same-length-2 returns)

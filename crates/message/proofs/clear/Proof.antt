@@ -7,7 +7,7 @@ use native.Mathlib.Omega.{arith}
 use denote.Ref.{now}
 use lib.ListN.{length, set, drop, length-set}
 use borrow.Author.Needs.{needs}
-use Rattle.ascon.specs.Mode.{zeros}
+use Rattle.permutation.specs.Strings.{zeros}
 use Rattle.message.proofs.clear.Statement.{statement}
 use Rattle.message.proofs.clear.Tie as tie
 
@@ -18,16 +18,16 @@ one-more (a ∷ x) zero h = refl
 one-more (a ∷ x) (suc i) h = ap (λ (y : List ℕ). 0 ∷ y) (one-more x i (omega arith))
 
 abbrev Inv-loop : tie.InvT-loop
-Inv-loop place₀ n i₀ place i = (i ≤ n) × (length place ≡ length place₀) × (place ≡ zeros i ++ drop i place₀)
+Inv-loop place₀ n i₀ out i = (i ≤ n) × (length out ≡ length place₀) × (out ≡ zeros i ++ drop i place₀)
 
 abbrev μ-loop : tie.MeasureT-loop
-μ-loop place₀ n i₀ place i = n - i
+μ-loop place₀ n i₀ out i = n - i
 
 loop-holds : tie.Need-loop-holds Inv-loop μ-loop
 loop-holds c = (search needs, refl, refl)
 
-slice-write-place : tie.Need-slice-write-place Inv-loop μ-loop
-slice-write-place c = omega arith
+slice-write-out : tie.Need-slice-write-out Inv-loop μ-loop
+slice-write-out c = omega arith
 
 add-i : tie.Need-add-i Inv-loop μ-loop
 add-i c = search needs
@@ -38,9 +38,9 @@ loop-less c = search needs
 loop-again : tie.Need-loop-again Inv-loop μ-loop
 loop-again c =
     let l = c .before .loop in
-    let x = now (c .before .before .args .place) in (
+    let x = now (c .before .before .args .out) in (
       search needs,
-      length-set (l .place) (l .i) 0 ∙ l .inv .1,
+      length-set (l .out) (l .i) 0 ∙ l .inv .1,
       ap (λ (y : List ℕ). set y (l .i) 0) (l .inv .2) ∙ one-more x (l .i) (omega arith) ∙ ap (λ (k : ℕ). zeros k ++ drop k x) (sym (add-one (l .i))),
     )
 
@@ -51,7 +51,7 @@ returns : tie.Need-returns Inv-loop μ-loop
 returns c =
     let l = c .before .loop in
     let end : l .i ≡ c .before .before .args .n = omega arith in
-    l .inv .2 ∙ ap (λ (k : ℕ). zeros k ++ drop k (now (c .before .before .args .place))) end
+    l .inv .2 ∙ ap (λ (k : ℕ). zeros k ++ drop k (now (c .before .before .args .out))) end
 
 pub clear-spec : {M : Type 1} → statement M
 clear-spec =
@@ -60,7 +60,7 @@ clear-spec =
     Inv-loop
     μ-loop
     loop-holds
-    slice-write-place
+    slice-write-out
     add-i
     loop-less
     loop-again

@@ -10,8 +10,8 @@ use Rattle.sets.proofs.Rows.{row-sizes}
 use Rattle.message.proofs.message_rounds.Statement.{statement}
 use Rattle.message.proofs.message_rounds.Tie as tie
 
-data-blocks-requires : tie.Need-data-blocks-requires
-data-blocks-requires c κs = search needs
+ad-blocks-requires : tie.Need-ad-blocks-requires
+ad-blocks-requires c κs = search needs
 
 block-length-requires : tie.Need-block-length-requires
 block-length-requires c κs = search needs
@@ -27,10 +27,10 @@ rounds-between-requires c κs = search needs
 
 -- the rounds between are few
 few : (c : tie.After-rounds-between) → let a = c .before .before .before .args in
-    c .rounds-between .result * (c .before .before .data-blocks .result + a .text / c .before .block-length .result) ≤ 8_912_904
+    c .rounds-between .result * (c .before .before .ad-blocks .result + a .text / c .before .block-length .result) ≤ 8_912_904
 few c =
     let a = c .before .before .before .args in
-    let blocks : ℕ = c .before .before .data-blocks .result + a .text / c .before .block-length .result in
+    let blocks : ℕ = c .before .before .ad-blocks .result + a .text / c .before .block-length .result in
     let bound : blocks ≤ 1_114_113 = omega (arith, div-le-self (a .text) (c .before .block-length .result)) in
     let most : c .rounds-between .result * blocks ≤ 8 * blocks =
     mul-le-mul-right blocks (rw (c .rounds-between .ensures) (row-sizes (a .set) .rounds)) in
@@ -46,17 +46,17 @@ returns : tie.Need-returns
 unfolding messageRounds textBlocks roundsOf constantsOf constants
 returns c =
     let a = c .before .before .before .args in
-    let d = c .before .before .data-blocks .result in
+    let d = c .before .before .ad-blocks .result in
     let q = a .text / c .before .block-length .result in
     let blocks : d + q ≡ d + (q + 1) - 1 = omega arith in
-    rw (row-sizes (a .set) .ends, ← c .rounds-between .ensures, ← c .before .before .data-blocks .ensures .0, ← c .before .block-length .ensures)
+    rw (row-sizes (a .set) .ends, ← c .rounds-between .ensures, ← c .before .before .ad-blocks .ensures .0, ← c .before .block-length .ensures)
     (ap (λ (n : ℕ). 24 + c .rounds-between .result * n) blocks)
 
 pub message-rounds-spec : {M : Type 1} → statement M
 message-rounds-spec =
     tie.close
     (tie.spec
-    data-blocks-requires
+    ad-blocks-requires
     block-length-requires
     div-blocks
     add-blocks

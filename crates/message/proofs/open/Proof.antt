@@ -11,7 +11,8 @@ use borrow.Author.Tests.{not-true, not-false}
 use Rattle.answers.specs.Numbers.{isDone}
 use Rattle.answers.specs.declared.Answer.the-variants.{Done, TagDiffers}
 use Rattle.ascon.specs.Sets.{rowOf}
-use Rattle.ascon.specs.Mode.{zeros, decrypted, opened, same, finalise}
+use Rattle.permutation.specs.Strings.{zeros, same}
+use Rattle.ascon.specs.Mode.{decrypted, opened, finalise}
 use Rattle.ascon.proofs.Sealing.{length-tag, length-decrypted}
 use Rattle.sets.proofs.Rows.{row-fits, row-sizes}
 use Rattle.message.specs.Message.{openLeaves, openCall}
@@ -29,8 +30,12 @@ returns : tie.Need-returns
 unfolding openCall
 returns c = rw (← c .before .before .message-test .ensures, sym (c .before .is-done .ensures) ∙ not-true _ (c .if1 .taken))
 
+-- the arguments, from behind the test
+abbrev args-of : tie.After-message-test → tie.Start
+args-of c = c .before .before .before .before .before .before .before
+
 -- what the passed tests say
-passed : (c : tie.Else1) → let a = c .before .before .before .before .before .before .before .before .before .args in
+passed : (c : tie.Else1) → let a = args-of (c .before .before) .args in
     MessagePassed (a .set) (length (now (a .key))) (length (now (a .nonce))) (length (now (a .tag))) (length (now (a .ad))) (length (now (a .cipher))) (length (now (a .out)))
 passed c =
     message-passed _ _ _ _ _ _ _ (ap isDone (sym (c .before .before .message-test .ensures)) ∙ sym (c .before .is-done .ensures) ∙ not-false _ (c .if1 .left))
@@ -44,8 +49,16 @@ message-rounds-requires c κs = let h = passed (c .before .before .before .befor
 key-length-requires : tie.Need-key-length-requires
 key-length-requires c κs = search needs
 
+-- behind the processed text, from behind the key's length
+abbrev processed : tie.After-key-length → tie.After-process
+processed c = c .before .before .before .before
+
+-- behind the passed tests, from there
+abbrev tested : tie.After-key-length → tie.Else1
+tested c = processed c .before .before
+
 array-share-prefix-ours : tie.Need-array-share-prefix-ours
-array-share-prefix-ours c = omega (arith, c .key-length .ensures, row-sizes (c .before .before .before .before .before .before .before .before .before .before .before .before .before .before .before .args .set) .key)
+array-share-prefix-ours c = omega (arith, c .key-length .ensures, row-sizes (args-of (tested c .before .before) .args .set) .key)
 
 slice-aggregate-same-tag : tie.Need-slice-aggregate-same-tag
 slice-aggregate-same-tag c = sym (length-take-le _ _ (array-share-prefix-ours (c .before)))
@@ -54,13 +67,13 @@ same-tag-requires : tie.Need-same-tag-requires
 same-tag-requires c κs = search needs
 
 -- the comparison is the published one
-compared : (c : tie.After-same-tag) → let e = c .before .before .before .before .before .before .before .before in
-    let a = e .before .before .before .before .before .before .before .before .before .args in
+compared : (c : tie.After-same-tag) → let a = args-of (tested (c .before .before) .before .before) .args in
     same (now (a .tag)) (finalise (rowOf (a .set)) (now (a .key)) (decrypted (rowOf (a .set)) (now (a .key)) (now (a .nonce)) (now (a .ad)) (now (a .cipher)) .state))
     ≡ c .same-tag .result
 compared c =
-    let e = c .before .before .before .before .before .before .before .before in
-    let a = e .before .before .before .before .before .before .before .before .before .args in
+    let k = c .before .before in
+    let e = tested k in
+    let a = args-of (e .before .before) .args in
     let row = rowOf (a .set) in
     let K = now (a .key) in
     let tag = now (a .tag) in
@@ -68,7 +81,7 @@ compared c =
     let whole = length-tag row (row-fits (a .set)) K (passed e .key-fits) state in
     ap (λ (t : List ℕ). same tag t)
     (sym (take-at (finalise row K state) (zeros (16 - row .key)) (row .key) whole)
-    ∙ ap₂ (λ (n : ℕ) (t : List ℕ). take n t) (sym (c .before .before .key-length .ensures)) (sym (c .before .before .before .before .before .before .process .ensures .0)))
+    ∙ ap₂ (λ (n : ℕ) (t : List ℕ). take n t) (sym (k .key-length .ensures)) (sym (processed k .process .ensures .0)))
     ∙ sym (c .same-tag .ensures)
 
 same-length : tie.Need-same-length
@@ -77,18 +90,20 @@ same-length c = search needs
 returns-2 : tie.Need-returns-2
 unfolding openCall opened
 returns-2 c =
-    let e = c .before .before .before .before .before .before .before .before .before in
+    let k = c .before .before .before in
+    let e = tested k in
     rw (
       ← e .before .before .message-test .ensures,
       sym (e .before .is-done .ensures) ∙ not-false _ (e .if1 .left),
       compared (c .before) ∙ c .if2 .taken,
     )
-    (λ j. openLeaves (record { answer = Done; rounds = c .before .before .before .before .message-rounds .ensures j }) (c .before .before .before .before .before .before .before .process .ensures .1 j))
+    (λ j. openLeaves (record { answer = Done; rounds = k .before .message-rounds .ensures j }) (processed k .process .ensures .1 j))
 
 clear-requires : tie.Need-clear-requires
 clear-requires c κs =
-    let h = passed (c .before .before .before .before .before .before .before .before .before .before) in
-    omega (arith, h .room, c .before .before .before .before .before .before .before .out .given)
+    let k = c .before .before .before .before in
+    let h = passed (tested k) in
+    omega (arith, h .room, k .before .before .before .out .given)
 
 same-length-2 : tie.Need-same-length-2
 same-length-2 c = search needs
@@ -96,21 +111,22 @@ same-length-2 c = search needs
 returns-3 : tie.Need-returns-3
 unfolding openCall opened
 returns-3 c =
-    let e = c .before .before .before .before .before .before .before .before .before .before .before .before .before in
-    let a = e .before .before .before .before .before .before .before .before .before .args in
+    let k = c .before .before .before .before .before .before .before in
+    let e = tested k in
+    let a = args-of (e .before .before) .args in
     let h = passed e in
     let n = length (now (a .cipher)) in
     let text = decrypted (rowOf (a .set)) (now (a .key)) (now (a .nonce)) (now (a .ad)) (now (a .cipher)) .out in
     let size : length text ≡ n = length-decrypted (rowOf (a .set)) (row-fits (a .set)) (now (a .key)) (h .key-fits) (now (a .nonce)) (now (a .ad)) (now (a .cipher)) in
     let rest =
-    ap (λ (x : List ℕ). drop n x) (c .before .before .before .before .before .before .before .before .before .before .before .process .ensures .1)
+    ap (λ (x : List ℕ). drop n x) (processed k .process .ensures .1)
     ∙ drop-at text (drop n (now (a .out))) n size in
     rw (
       ← e .before .before .message-test .ensures,
       sym (e .before .is-done .ensures) ∙ not-false _ (e .if1 .left),
       compared (c .before .before .before .before .before) ∙ c .before .before .before .before .if2 .left,
     )
-    (λ j. openLeaves (record { answer = TagDiffers; rounds = c .before .before .before .before .before .before .before .before .message-rounds .ensures j })
+    (λ j. openLeaves (record { answer = TagDiffers; rounds = k .before .message-rounds .ensures j })
     ((c .before .before .clear .ensures ∙ ap (λ (x : List ℕ). zeros n ++ x) rest) j))
 
 pub open-spec : {M : Type 1} → statement M

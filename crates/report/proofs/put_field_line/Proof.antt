@@ -1,12 +1,17 @@
 -- `report::put_field_line` meets its contract.
-use mathlib.Core.Path.{sym, ap, _∙_}
+use mathlib.Core.Path.{_≡_, sym, ap, _∙_}
 use denote.Ref.{now}
 use borrow.Author.Needs.{needs}
-use Rattle.digits.specs.Room.{put}
+use Rattle.digits.specs.Room.{Laid, put}
 use Rattle.report.specs.declared.Verdict.{Verdict}
 use Rattle.report.specs.Reports.{fieldLine}
 use Rattle.report.proofs.put_field_line.Statement.{statement}
 use Rattle.report.proofs.put_field_line.Tie as tie
+
+-- what was put, where the verdict is this
+by-verdict : (s : tie.Start) {v : Verdict} {r : Laid} → r ≡ put (fieldLine v) (now (s .args .out)) → s .args .verdict ≡ v
+    → r ≡ put (fieldLine (s .args .verdict)) (now (s .args .out))
+by-verdict s e f = e ∙ ap (λ (v : Verdict). put (fieldLine v) (now (s .args .out))) (sym f)
 
 enum-told : tie.Need-enum-told
 enum-told c = search needs
@@ -70,35 +75,45 @@ same-length c = search needs
 
 returns : tie.Need-returns
 unfolding fieldLine
-returns c = c .before .before .put-line .ensures ∙ ap (λ (v : Verdict). put (fieldLine v) (now (c .before .before .before .before .before .before .before .before .before .args .place))) (sym (c .before .before .before .before .before .before .enum-told .given .1))
+returns c =
+    let told = c .before .before .before .before .before .before in
+    by-verdict (told .before .before .before) (c .before .before .put-line .ensures) (told .enum-told .given .1)
 
 same-length-2 : tie.Need-same-length-2
 same-length-2 c = search needs
 
 returns-2 : tie.Need-returns-2
 unfolding fieldLine
-returns-2 c = c .before .before .put-line2 .ensures ∙ ap (λ (v : Verdict). put (fieldLine v) (now (c .before .before .before .before .before .before .before .before .before .args .place))) (sym (c .before .before .before .before .before .before .enum-told2 .given .1))
+returns-2 c =
+    let told = c .before .before .before .before .before .before in
+    by-verdict (told .before .before .before) (c .before .before .put-line2 .ensures) (told .enum-told2 .given .1)
 
 same-length-3 : tie.Need-same-length-3
 same-length-3 c = search needs
 
 returns-3 : tie.Need-returns-3
 unfolding fieldLine
-returns-3 c = c .before .before .put-line3 .ensures ∙ ap (λ (v : Verdict). put (fieldLine v) (now (c .before .before .before .before .before .before .before .before .before .args .place))) (sym (c .before .before .before .before .before .before .enum-told3 .given .1))
+returns-3 c =
+    let told = c .before .before .before .before .before .before in
+    by-verdict (told .before .before .before) (c .before .before .put-line3 .ensures) (told .enum-told3 .given .1)
 
 same-length-4 : tie.Need-same-length-4
 same-length-4 c = search needs
 
 returns-4 : tie.Need-returns-4
 unfolding fieldLine
-returns-4 c = c .before .before .put-line4 .ensures ∙ ap (λ (v : Verdict). put (fieldLine v) (now (c .before .before .before .before .before .before .before .before .before .args .place))) (sym (c .before .before .before .before .before .before .enum-told4 .given .1))
+returns-4 c =
+    let told = c .before .before .before .before .before .before in
+    by-verdict (told .before .before .before) (c .before .before .put-line4 .ensures) (told .enum-told4 .given .1)
 
 same-length-5 : tie.Need-same-length-5
 same-length-5 c = search needs
 
 returns-5 : tie.Need-returns-5
 unfolding fieldLine
-returns-5 c = c .before .before .put-number-line .ensures ∙ ap (λ (v : Verdict). put (fieldLine v) (now (c .before .before .before .before .before .before .before .before .before .args .place))) (sym (c .before .before .before .before .before .before .verdict .given .1))
+returns-5 c =
+    let told = c .before .before .before .before .before .before in
+    by-verdict (told .before .before .before) (c .before .before .put-number-line .ensures) (told .verdict .given .1)
 
 pub put-field-line-spec : {M : Type 1} → statement M
 put-field-line-spec =

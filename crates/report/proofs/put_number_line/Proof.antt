@@ -19,6 +19,18 @@ slice-aggregate-put-number c = search needs
 put-number-requires : tie.Need-put-number-requires
 put-number-requires c κs = search needs
 
+-- from where the number was put, back to where the function begins
+abbrev entry : tie.After-put-number → tie.Start
+entry c = c .before .before .before .before
+
+-- the digits of the number
+digits : (c : tie.After-put-number) → take (c .put-number .result) (c .put-number .last .1 .0) ≡ numeral (entry c .args .n)
+digits c =
+    let s = entry c in
+    let n = c .put-number in
+    let whole = put-count (numeral (s .args .n)) _ (n .last .1 .0) (n .result) (n .ensures) (numeral-most (s .args .n) (s .fits .n .fits)) in
+    ap₂ take (whole .0) (whole .1) ∙ take-append-seam (numeral (s .args .n)) _
+
 array-share-prefix-text : tie.Need-array-share-prefix-text
 array-share-prefix-text c = put-inside _ _ _ _ (c .before .put-number .ensures) .0
 
@@ -34,12 +46,9 @@ same-length c = search needs
 
 returns : tie.Need-returns
 returns c =
-    let s = c .before .before .before .before .before .before .before .before .before .before in
-    let a = s .args in
-    let n = c .before .before .before .before .before .before .put-number in
-    let whole = put-count (numeral (a .n)) _ (n .last .1 .0) (n .result) (n .ensures) (numeral-most (a .n) (s .fits .n .fits)) in
-    let digits : take (n .result) (n .last .1 .0) ≡ numeral (a .n) = ap₂ take (whole .0) (whole .1) ∙ take-append-seam (numeral (a .n)) _ in
-    c .before .before .put-line .ensures ∙ ap (λ (x : List ℕ). put (lineOf (now (a .name)) x) (now (a .place))) digits
+    let number = c .before .before .before .before .before .before in
+    let a = entry number .args in
+    c .before .before .put-line .ensures ∙ ap (λ (x : List ℕ). put (lineOf (now (a .name)) x) (now (a .out))) (digits number)
 
 pub put-number-line-spec : {M : Type 1} → statement M
 put-number-line-spec =

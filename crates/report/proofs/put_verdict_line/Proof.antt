@@ -1,12 +1,33 @@
 -- `report::put_verdict_line` meets its contract.
-use mathlib.Core.Path.{sym, ap, _∙_}
+use mathlib.Core.Path.{_≡_, refl, sym, ap, _∙_}
+use mathlib.Core.List.{List, [], _∷_}
+use Prim.Native.Nat.{ℕ}
+use denote.Enum.Declared.{tagOf}
 use denote.Ref.{now}
+use types.Run.{OneOf, miss}
 use borrow.Author.Needs.{needs}
-use Rattle.digits.specs.Room.{put}
+use Rattle.digits.specs.Ascii.{ascii}
+use Rattle.digits.specs.Room.{lineOf, Laid, put}
 use Rattle.report.specs.declared.Verdict.{Verdict}
+use Rattle.report.specs.declared.Verdict.the-variants.{Equal, Rounds, Cipher, Tag, Unread}
 use Rattle.report.specs.Reports.{verdictLine}
+use Rattle.report.proofs.Verdict.{the-type}
 use Rattle.report.proofs.put_verdict_line.Statement.{statement}
 use Rattle.report.proofs.put_verdict_line.Tie as tie
+
+-- the line of a verdict that names a field
+differs : (v : Verdict) → OneOf (1 ∷ 2 ∷ 3 ∷ []) (tagOf the-type v) → verdictLine v ≡ lineOf (ascii "verdict=") (ascii "differs")
+unfolding verdictLine
+differs Equal k = absurd (miss (1 ∷ 2 ∷ 3 ∷ []) 0 tt k)
+differs Rounds k = refl
+differs Cipher k = refl
+differs Tag k = refl
+differs (Unread line) k = absurd (miss (1 ∷ 2 ∷ 3 ∷ []) 4 tt k)
+
+-- what was put, where the verdict's line is this
+by-line : (s : tie.Start) {line : List ℕ} {r : Laid} → r ≡ put line (now (s .args .out)) → verdictLine (s .args .verdict) ≡ line
+    → r ≡ put (verdictLine (s .args .verdict)) (now (s .args .out))
+by-line s e f = e ∙ ap (λ (x : List ℕ). put x (now (s .args .out))) (sym f)
 
 enum-told : tie.Need-enum-told
 enum-told c = search needs
@@ -20,9 +41,6 @@ slice-aggregate-put-line-2 c = search needs
 put-line-requires : tie.Need-put-line-requires
 put-line-requires c κs = search needs
 
-enum-told-2 : tie.Need-enum-told-2
-enum-told-2 c = search needs
-
 slice-aggregate-put-line-3 : tie.Need-slice-aggregate-put-line-3
 slice-aggregate-put-line-3 c = search needs
 
@@ -32,8 +50,8 @@ slice-aggregate-put-line-4 c = search needs
 put-line-requires-2 : tie.Need-put-line-requires-2
 put-line-requires-2 c κs = search needs
 
-enum-told-3 : tie.Need-enum-told-3
-enum-told-3 c = search needs
+enum-told-2 : tie.Need-enum-told-2
+enum-told-2 c = search needs
 
 slice-aggregate-put-line-5 : tie.Need-slice-aggregate-put-line-5
 slice-aggregate-put-line-5 c = search needs
@@ -44,64 +62,32 @@ slice-aggregate-put-line-6 c = search needs
 put-line-requires-3 : tie.Need-put-line-requires-3
 put-line-requires-3 c κs = search needs
 
-enum-told-4 : tie.Need-enum-told-4
-enum-told-4 c = search needs
-
-slice-aggregate-put-line-7 : tie.Need-slice-aggregate-put-line-7
-slice-aggregate-put-line-7 c = search needs
-
-slice-aggregate-put-line-8 : tie.Need-slice-aggregate-put-line-8
-slice-aggregate-put-line-8 c = search needs
-
-put-line-requires-4 : tie.Need-put-line-requires-4
-put-line-requires-4 c κs = search needs
-
-enum-told-5 : tie.Need-enum-told-5
-enum-told-5 c = search needs
-
-slice-aggregate-put-line-9 : tie.Need-slice-aggregate-put-line-9
-slice-aggregate-put-line-9 c = search needs
-
-slice-aggregate-put-line-10 : tie.Need-slice-aggregate-put-line-10
-slice-aggregate-put-line-10 c = search needs
-
-put-line-requires-5 : tie.Need-put-line-requires-5
-put-line-requires-5 c κs = search needs
-
 same-length : tie.Need-same-length
 same-length c = search needs
 
 returns : tie.Need-returns
 unfolding verdictLine
-returns c = c .before .before .put-line .ensures ∙ ap (λ (v : Verdict). put (verdictLine v) (now (c .before .before .before .before .before .before .before .before .before .args .place))) (sym (c .before .before .before .before .before .before .enum-told .given .1))
+returns c =
+    let told = c .before .before .before .before .before .before in
+    by-line (told .before .before .before) (c .before .before .put-line .ensures) (ap verdictLine (told .enum-told .given .1))
 
 same-length-2 : tie.Need-same-length-2
 same-length-2 c = search needs
 
 returns-2 : tie.Need-returns-2
-unfolding verdictLine
-returns-2 c = c .before .before .put-line2 .ensures ∙ ap (λ (v : Verdict). put (verdictLine v) (now (c .before .before .before .before .before .before .before .before .before .args .place))) (sym (c .before .before .before .before .before .before .enum-told2 .given .1))
+returns-2 c =
+    let named = c .before .before .before .before .before .before in
+    let s = named .before .before in
+    by-line s (c .before .before .put-line2 .ensures) (differs (s .args .verdict) (named .match .keys2))
 
 same-length-3 : tie.Need-same-length-3
 same-length-3 c = search needs
 
 returns-3 : tie.Need-returns-3
 unfolding verdictLine
-returns-3 c = c .before .before .put-line3 .ensures ∙ ap (λ (v : Verdict). put (verdictLine v) (now (c .before .before .before .before .before .before .before .before .before .args .place))) (sym (c .before .before .before .before .before .before .enum-told3 .given .1))
-
-same-length-4 : tie.Need-same-length-4
-same-length-4 c = search needs
-
-returns-4 : tie.Need-returns-4
-unfolding verdictLine
-returns-4 c = c .before .before .put-line4 .ensures ∙ ap (λ (v : Verdict). put (verdictLine v) (now (c .before .before .before .before .before .before .before .before .before .args .place))) (sym (c .before .before .before .before .before .before .enum-told4 .given .1))
-
-same-length-5 : tie.Need-same-length-5
-same-length-5 c = search needs
-
-returns-5 : tie.Need-returns-5
-unfolding verdictLine
-returns-5 c = c .before .before .put-line5 .ensures ∙ ap (λ (v : Verdict). put (verdictLine v) (now (c .before .before .before .before .before .before .before .before .before .args .place))) (sym (c .before .before .before .before .before .before .enum-told5 .given .1))
+returns-3 c =
+    let told = c .before .before .before .before .before .before in
+    by-line (told .before .before .before) (c .before .before .put-line3 .ensures) (ap verdictLine (told .enum-told2 .given .1))
 
 pub put-verdict-line-spec : {M : Type 1} → statement M
 put-verdict-line-spec =
@@ -111,29 +97,16 @@ put-verdict-line-spec =
     slice-aggregate-put-line
     slice-aggregate-put-line-2
     put-line-requires
-    enum-told-2
     slice-aggregate-put-line-3
     slice-aggregate-put-line-4
     put-line-requires-2
-    enum-told-3
+    enum-told-2
     slice-aggregate-put-line-5
     slice-aggregate-put-line-6
     put-line-requires-3
-    enum-told-4
-    slice-aggregate-put-line-7
-    slice-aggregate-put-line-8
-    put-line-requires-4
-    enum-told-5
-    slice-aggregate-put-line-9
-    slice-aggregate-put-line-10
-    put-line-requires-5
     same-length
     returns
     same-length-2
     returns-2
     same-length-3
-    returns-3
-    same-length-4
-    returns-4
-    same-length-5
-    returns-5)
+    returns-3)

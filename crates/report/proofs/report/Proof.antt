@@ -18,10 +18,10 @@ returns : tie.Need-returns
 unfolding reportCall
 returns c =
     let a = c .before .before .before .args in
-    rw (lt-leb (length (reportText (a .number) (a .verdict))) (length (now (a .place))) (omega (arith, c .before .report-length .ensures, c .if1 .taken)))
+    rw (lt-leb (length (reportText (a .number) (a .verdict))) (length (now (a .out))) (omega (arith, c .before .report-length .ensures, c .if1 .taken)))
 
 -- the report has room
-room : (c : tie.Else1) → let a = c .before .before .before .args in length (reportText (a .number) (a .verdict)) ≤ length (now (a .place))
+room : (c : tie.Else1) → let a = c .before .before .before .args in length (reportText (a .number) (a .verdict)) ≤ length (now (a .out))
 room c = omega (arith, c .before .report-length .ensures, c .if1 .left)
 
 put-lines-requires : tie.Need-put-lines-requires
@@ -36,8 +36,8 @@ returns-2 c =
     let a = c .before .before .before .before .before .before .before .args in
     let lines = c .before .before .put-lines in
     let h = room (c .before .before .before .before) in
-    let whole = put-count (reportText (a .number) (a .verdict)) (now (a .place)) _ (lines .result) (lines .ensures) h in
-    rw (le-leb (length (reportText (a .number) (a .verdict))) (length (now (a .place))) h)
+    let whole = put-count (reportText (a .number) (a .verdict)) (now (a .out)) _ (lines .result) (lines .ensures) h in
+    rw (le-leb (length (reportText (a .number) (a .verdict))) (length (now (a .out))) h)
     (λ j. reportLeaves (record { answer = Done; written = whole .0 j }) (whole .1 j))
 
 pub report-spec : {M : Type 1} → statement M

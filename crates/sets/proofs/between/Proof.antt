@@ -1,13 +1,15 @@
 -- `sets::between` meets its contract.
-use Rattle.sets.proofs.Rows.{row-two, row-other}
+use mathlib.Core.Path.{ap}
+use borrow.Author.Needs.{needs}
+use Rattle.sets.specs.declared.Row.{Row}
 use Rattle.sets.proofs.between.Statement.{statement}
 use Rattle.sets.proofs.between.Tie as tie
 
-returns : tie.Need-returns
-returns c = rw (row-two _ (c .if1 .taken))
+row-of-requires : tie.Need-row-of-requires
+row-of-requires c κs = search needs
 
-returns-2 : tie.Need-returns-2
-returns-2 c = rw (row-other _ (c .if1 .left))
+returns : tie.Need-returns
+returns c = ap (λ (row : Row). row .between) (c .row-of .ensures)
 
 pub between-spec : {M : Type 1} → statement M
-between-spec = tie.close (tie.spec returns returns-2)
+between-spec = tie.close (tie.spec row-of-requires returns)

@@ -10,19 +10,21 @@ use lib.Seq.{drop-length}
 use mir.Syntax.{w64}
 use borrow.Author.Needs.{needs, elem-fits}
 use borrow.Author.Tests.{lt-leb, le-leb}
+use Rattle.permutation.specs.declared.Run.{Run}
 use Rattle.permutation.specs.Strings.{stringOfWords, wordsOfString}
 use Rattle.ascon.specs.Sets.{rowOf}
 use Rattle.ascon.specs.Mode.{p}
 use Rattle.ascon.specs.Bytewise.{At, at, steps}
 use Rattle.ascon.proofs.Bytewise.{steps-left, outLeft, out-left}
 use Rattle.sponge.specs.Sponge.{keepOf, absorbed, given, crypted, cryptedOf}
+use Rattle.sponge.specs.Words.{stepped}
 use Rattle.sets.proofs.Rows.{row-sizes}
 use Rattle.sponge.proofs.Words.{Five, words-view, gone-view, turn}
 use Rattle.sponge.proofs.crypt.Statement.{statement}
 use Rattle.sponge.proofs.crypt.Tie as tie
 
 abbrev Inv-loop : tie.InvT-loop
-Inv-loop set way count piece out₀ w₀ place₀ i₀ out w place i =
+Inv-loop set way count piece out₀ block run w₀ place₀ i₀ out w place i =
     (i ≤ length piece)
     × (place < rowOf set .block)
     × Five w
@@ -33,7 +35,7 @@ Inv-loop set way count piece out₀ w₀ place₀ i₀ out w place i =
     ≡ outLeft (rowOf set .block) (p (rowOf set .between)) (keepOf way) (at (stringOfWords w₀) place₀) 0 piece out₀)
 
 abbrev μ-loop : tie.MeasureT-loop
-μ-loop set way count piece out₀ w₀ place₀ i₀ out w place i = length piece - i
+μ-loop set way count piece out₀ block run w₀ place₀ i₀ out w place i = length piece - i
 
 -- the words that came are five
 five : (c : tie.Start Inv-loop μ-loop) → Five (c .args .words)
@@ -44,19 +46,26 @@ five c =
 block-length-requires : tie.Need-block-length-requires Inv-loop μ-loop
 block-length-requires c κs = search needs
 
+-- the arguments, from before the loop
+abbrev started : tie.After-between Inv-loop μ-loop → tie.Start Inv-loop μ-loop
+started c = c .before .before .before .before .before
+
+between-requires : tie.Need-between-requires Inv-loop μ-loop
+between-requires c κs = search needs
+
 rem-place : tie.Need-rem-place Inv-loop μ-loop
-rem-place c = rw (c .block-length .ensures) (row-sizes (c .before .before .before .before .args .set) .some-block)
+rem-place c = rw (c .before .block-length .ensures) (row-sizes (started c .args .set) .some-block)
 
 loop-holds : tie.Need-loop-holds Inv-loop μ-loop
 loop-holds c =
-    let s = c .before .before .before .before in
-    (search needs, rw (c .block-length .ensures) (mod-lt (s .args .count) (row-sizes (s .args .set) .some-block)), five s, refl, refl, refl)
+    let s = started c in
+    (search needs, rw (c .before .block-length .ensures) (mod-lt (s .args .count) (row-sizes (s .args .set) .some-block)), five s, refl, refl, refl)
 
 shared-slice-read-step : tie.Need-shared-slice-read-step Inv-loop μ-loop
 shared-slice-read-step c = search needs
 
 step-requires : tie.Need-step-requires Inv-loop μ-loop
-step-requires c κs = omega (arith, row-sizes (c .before .before .before .before .before .before .before .before .args .set) .block)
+step-requires c κs = omega (arith, row-sizes (started (c .before .before .before .before) .args .set) .block)
 
 slice-write-out : tie.Need-slice-write-out Inv-loop μ-loop
 slice-write-out c = omega arith
@@ -69,15 +78,16 @@ loop-less c = search needs
 
 loop-again : tie.Need-loop-again Inv-loop μ-loop
 loop-again c =
-    let a = c .before .before .before .before .before .before .before .before .before .args in
     let l = c .before .before .before .before .loop in
+    let b = c .before .before .before .before .before in
+    let a = started b .args in
     let row = rowOf (a .set) in
     let piece = now (a .piece) in
     let here = at (stringOfWords (l .w)) (l .place) in
     let x = getD piece (l .i) 0 in
     let h : l .i < length piece = omega arith in
     let k : length piece ≤ length (l .out) = omega arith in
-    let v = turn row (a .way) (at (l .w) (l .place)) _ x (l .inv .2) (l .inv .1) (omega (arith, c .before .shared-slice-known2 .given (l .i))) (c .step .ensures .1) in (
+    let v = turn row (a .way) (at (l .w) (l .place)) _ x (l .inv .2) (l .inv .1) (omega (arith, c .before .shared-slice-known2 .given (l .i))) (c .step .ensures .1 ∙ ap₂ (λ (n : ℕ) (run : Run). stepped n run (a .way) (at (l .w) (l .place)) x) (b .before .block-length .ensures) (b .between .ensures)) in (
       search needs,
       v .place,
       v .five,
@@ -101,14 +111,15 @@ returns c = rw (lt-leb _ _ (c .if1 .taken))
 returns-2 : tie.Need-returns-2 Inv-loop μ-loop
 unfolding cryptedOf absorbed given
 returns-2 c =
-    let a = c .before .before .before .before .before .before .args in
+    let b = c .before .before in
+    let a = started b .args in
     let l = c .before .loop in
     let row = rowOf (a .set) in
     let piece = now (a .piece) in
     let end : l .i ≡ length piece = omega arith in
     let words = rw (end, drop-length piece) at (l .inv .3) in
     let out = rw (end, drop-length piece, take-append-drop) at (l .inv .5) in
-    rw (le-leb _ _ (c .before .before .before .if1 .left), ← c .before .before .block-length .ensures)
+    rw (le-leb _ _ (b .before .before .if1 .left), ← b .before .block-length .ensures)
     (λ j. crypted ((sym (words-view (l .w) (l .inv .2)) ∙ ap (λ (s : At). wordsOfString (s .state)) words) j) (out j))
 
 pub crypt-spec : {M : Type 1} → statement M
@@ -119,6 +130,7 @@ crypt-spec =
     μ-loop
     returns
     block-length-requires
+    between-requires
     rem-place
     loop-holds
     shared-slice-read-step

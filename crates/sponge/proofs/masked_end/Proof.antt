@@ -9,8 +9,8 @@ use lib.ListN.{length, getD, set, take, drop, length-drop}
 use lib.Seq.{length-take-le, take-all}
 use mir.Syntax.{w64}
 use borrow.Author.Needs.{needs, elem-fits}
-use Rattle.permutation.specs.Strings.{stringOfWords}
-use Rattle.ascon.specs.Mode.{_⊕_, zeros}
+use Rattle.permutation.specs.Strings.{stringOfWords, zeros}
+use Rattle.ascon.specs.Mode.{_⊕_}
 use Rattle.ascon.proofs.Strings.{length-xor}
 use Rattle.sponge.proofs.Words.{Five, length-five}
 use Rattle.sponge.proofs.Ends.{end-byte, laid-next}

@@ -8,8 +8,8 @@ use denote.Ref.{now}
 use lib.Dec.{eqb}
 use lib.ListN.{length, getD, drop, drop-of-length-le}
 use borrow.Author.Needs.{needs}
-use Rattle.ascon.specs.Mode.{same}
-use Rattle.ascon.proofs.Strings.{same-left}
+use Rattle.permutation.specs.Strings.{same}
+use Rattle.permutation.proofs.Strings.{same-left}
 use Rattle.tags.proofs.Compared.{and-assoc, and-true, same-lengths}
 use Rattle.tags.proofs.same_tag.Statement.{statement}
 use Rattle.tags.proofs.same_tag.Tie as tie
@@ -21,19 +21,16 @@ abbrev μ-loop : tie.MeasureT-loop
 μ-loop ours theirs equal₀ i₀ equal i = length theirs - i
 
 returns : tie.Need-returns Inv-loop μ-loop
-returns c = let a = c .before .before .before .args in sym (same-lengths (now (a .theirs)) (now (a .ours)) (search needs))
+returns c = let a = c .before .args in sym (same-lengths (now (a .theirs)) (now (a .ours)) (search needs))
 
 loop-holds : tie.Need-loop-holds Inv-loop μ-loop
 loop-holds c = (search needs, refl)
 
-shared-slice-read-both : tie.Need-shared-slice-read-both Inv-loop μ-loop
-shared-slice-read-both c = search needs
+shared-slice-read-equal : tie.Need-shared-slice-read-equal Inv-loop μ-loop
+shared-slice-read-equal c = search needs
 
-shared-slice-read-both-2 : tie.Need-shared-slice-read-both-2 Inv-loop μ-loop
-shared-slice-read-both-2 c = search needs
-
-both-requires : tie.Need-both-requires Inv-loop μ-loop
-both-requires c κs = search needs
+shared-slice-read-equal-2 : tie.Need-shared-slice-read-equal-2 Inv-loop μ-loop
+shared-slice-read-equal-2 c = search needs
 
 add-i : tie.Need-add-i Inv-loop μ-loop
 add-i c = search needs
@@ -43,23 +40,22 @@ loop-less c = search needs
 
 loop-again : tie.Need-loop-again Inv-loop μ-loop
 loop-again c =
-    let s = c .before .before .before .before .before .before .before .before in
-    let l = c .before .before .before .before .loop in
+    let s = c .before .before .before .before .before in
+    let l = c .before .before .before .loop in
     let theirs = now (s .args .theirs) in
     let ours = now (s .args .ours) in
     let h : l .i < length theirs = omega arith in
     let k : l .i < length ours = search needs in
     let rest = same (drop (l .i + 1) theirs) (drop (l .i + 1) ours) in (
       search needs,
-      ap (λ (b : Bool). b && rest) (c .both .ensures)
-          ∙ and-assoc (l .equal) (eqb (getD theirs (l .i) 0) (getD ours (l .i) 0)) rest
+      and-assoc (l .equal) (eqb (getD theirs (l .i) 0) (getD ours (l .i) 0)) rest
           ∙ ap (λ (b : Bool). l .equal && b) (sym (same-left theirs ours (l .i) h k))
           ∙ l .inv .1,
     )
 
 returns-2 : tie.Need-returns-2 Inv-loop μ-loop
 returns-2 c =
-    let s = c .before .before .before .before .before in
+    let s = c .before .before .before in
     let l = c .before .loop in
     let theirs = now (s .args .theirs) in
     let ours = now (s .args .ours) in
@@ -76,9 +72,8 @@ same-tag-spec =
     μ-loop
     returns
     loop-holds
-    shared-slice-read-both
-    shared-slice-read-both-2
-    both-requires
+    shared-slice-read-equal
+    shared-slice-read-equal-2
     add-i
     loop-less
     loop-again

@@ -8,7 +8,7 @@ use lib.Seq.{take-length}
 use borrow.Author.Needs.{needs}
 use borrow.Author.Tests.{lt-leb, le-leb}
 use Rattle.tags.specs.Tags.{sixteenOf}
-use Rattle.ascon.proofs.Strings.{drop-zeros}
+use Rattle.permutation.proofs.Strings.{drop-zeros}
 use Rattle.tags.proofs.sixteen.Statement.{statement}
 use Rattle.tags.proofs.sixteen.Tie as tie
 

@@ -3,15 +3,17 @@ use mathlib.Core.Path.{sym, ap, _∙_}
 use native.Mathlib.Omega.{arith}
 use borrow.Author.Needs.{needs}
 use Rattle.bench.specs.Progress.{readMore, movedBy}
-use borrow.Author.Needs.{needs}
 use Rattle.bench.proofs.progress.after_read.Statement.{statement}
 use Rattle.bench.proofs.progress.after_read.Tie as tie
 
 enum-known-heard : tie.Need-enum-known-heard
 enum-known-heard c = search needs
 
-add-t6 : tie.Need-add-t6
-add-t6 c = record { fits = omega (arith, ap movedBy (c .before .before .before .heard .given .1), c .before .before .before .before .before .pre) }
+add-p : tie.Need-add-p
+add-p c = let heard = c .before .before in record { fits = omega (arith, ap movedBy (heard .heard .given .1), heard .before .before .pre) }
+
+at-stage-requires : tie.Need-at-stage-requires
+at-stage-requires c κs = search needs
 
 enum-told : tie.Need-enum-told
 enum-told c = search needs
@@ -23,7 +25,9 @@ fail-requires : tie.Need-fail-requires
 fail-requires c κs = search needs
 
 returns : tie.Need-returns
-returns c = ap (readMore (c .before .before .before .before .before .args .p)) (sym (c .before .before .before .heard .given .1))
+returns c =
+    let heard = c .before .before .before in
+    c .at-stage .ensures ∙ ap (readMore (heard .before .before .args .p)) (sym (heard .heard .given .1))
 
 returns-2 : tie.Need-returns-2
 returns-2 c = search needs
@@ -36,7 +40,8 @@ after-read-spec =
     tie.close
     (tie.spec
     enum-known-heard
-    add-t6
+    add-p
+    at-stage-requires
     enum-told
     enum-told-2
     fail-requires

@@ -61,33 +61,48 @@ together : (t : Tally) → fourth t ++ ascii " unread\n" ≡ endLine t
 unfolding first second third fourth endLine
 together t = simp append-assoc
 
+-- from where the first piece was put, back to where the function begins
+abbrev entry : tie.After-put-numbered → tie.Start
+entry c = c .before .before .before .before .before
+
+-- from where the second piece was put, back to the first
+abbrev piece1 : tie.After-put-numbered2 → tie.After-put-numbered
+piece1 c = c .before .before .before .before .before
+
+-- from where the third piece was put, back to the second
+abbrev piece2 : tie.After-put-numbered3 → tie.After-put-numbered2
+piece2 c = c .before .before .before .before .before
+
+-- from where the fourth piece was put, back to the third
+abbrev piece3 : tie.After-put-numbered4 → tie.After-put-numbered3
+piece3 c = c .before .before .before .before .before
+
 -- what stands in the place after each call
-one : (c : tie.After-put-numbered) → let s = c .before .before .before .before .before in
-    Follows 0 (first (s .args .tally)) (c .put-numbered .result) (now (s .args .place)) (c .put-numbered .last .1 .1 .1 .0)
+one : (c : tie.After-put-numbered) → let a = entry c .args in
+    Follows 0 (first (a .tally)) (c .put-numbered .result) (now (a .out)) (c .put-numbered .last .1 .1 .1 .0)
 unfolding first
 one c = rw (c .before .before .records .ensures) at (c .put-numbered .ensures)
 
-two : (c : tie.After-put-numbered2) → let s = c .before .before .before .before .before .before .before .before .before .before in
-    Follows 0 (second (s .args .tally)) (c .put-numbered2 .result) (now (s .args .place)) (c .put-numbered2 .last .1 .1 .1 .0)
+two : (c : tie.After-put-numbered2) → let a = entry (piece1 c) .args in
+    Follows 0 (second (a .tally)) (c .put-numbered2 .result) (now (a .out)) (c .put-numbered2 .last .1 .1 .1 .0)
 unfolding second
-two c = follows-more (one (c .before .before .before .before .before)) (c .put-numbered2 .ensures)
+two c = follows-more (one (piece1 c)) (c .put-numbered2 .ensures)
 
-three : (c : tie.After-put-numbered3) → let s = c .before .before .before .before .before .before .before .before .before .before .before .before .before .before .before in
-    Follows 0 (third (s .args .tally)) (c .put-numbered3 .result) (now (s .args .place)) (c .put-numbered3 .last .1 .1 .1 .0)
+three : (c : tie.After-put-numbered3) → let a = entry (piece1 (piece2 c)) .args in
+    Follows 0 (third (a .tally)) (c .put-numbered3 .result) (now (a .out)) (c .put-numbered3 .last .1 .1 .1 .0)
 unfolding third
-three c = follows-more (two (c .before .before .before .before .before)) (c .put-numbered3 .ensures)
+three c = follows-more (two (piece2 c)) (c .put-numbered3 .ensures)
 
-four : (c : tie.After-put-numbered4) → let s = c .before .before .before .before .before .before .before .before .before .before .before .before .before .before .before .before .before .before .before .before in
-    Follows 0 (fourth (s .args .tally)) (c .put-numbered4 .result) (now (s .args .place)) (c .put-numbered4 .last .1 .1 .1 .0)
+four : (c : tie.After-put-numbered4) → let a = entry (piece1 (piece2 (piece3 c))) .args in
+    Follows 0 (fourth (a .tally)) (c .put-numbered4 .result) (now (a .out)) (c .put-numbered4 .last .1 .1 .1 .0)
 unfolding fourth
-four c = follows-more (three (c .before .before .before .before .before)) (c .put-numbered4 .ensures)
+four c = follows-more (three (piece3 c)) (c .put-numbered4 .ensures)
 
 put-numbered-requires-2 : tie.Need-put-numbered-requires-2
 put-numbered-requires-2 c κs =
     let m = c .before .before .before .before in
-    let s = m .before .before .before .before .before in
-    let f = one m in
-    omega (arith, f .ends, f .same-length, first-most (s .args .tally) (s .pre .0), s .pre .1)
+    let s = entry m in
+    omega (arith, one m .ends, one m .same-length, first-most (s .args .tally) (s .pre .0), s .pre .1)
 
 slice-aggregate-put-numbered-3 : tie.Need-slice-aggregate-put-numbered-3
 slice-aggregate-put-numbered-3 c = search needs
@@ -95,9 +110,8 @@ slice-aggregate-put-numbered-3 c = search needs
 put-numbered-requires-3 : tie.Need-put-numbered-requires-3
 put-numbered-requires-3 c κs =
     let m = c .before .before .before .before in
-    let s = m .before .before .before .before .before .before .before .before .before .before in
-    let f = two m in
-    omega (arith, f .ends, f .same-length, second-most (s .args .tally) (s .pre .0), s .pre .1)
+    let s = entry (piece1 m) in
+    omega (arith, two m .ends, two m .same-length, second-most (s .args .tally) (s .pre .0), s .pre .1)
 
 slice-aggregate-put-numbered-4 : tie.Need-slice-aggregate-put-numbered-4
 slice-aggregate-put-numbered-4 c = search needs
@@ -105,9 +119,8 @@ slice-aggregate-put-numbered-4 c = search needs
 put-numbered-requires-4 : tie.Need-put-numbered-requires-4
 put-numbered-requires-4 c κs =
     let m = c .before .before .before .before in
-    let s = m .before .before .before .before .before .before .before .before .before .before .before .before .before .before .before in
-    let f = three m in
-    omega (arith, f .ends, f .same-length, third-most (s .args .tally) (s .pre .0), s .pre .1)
+    let s = entry (piece1 (piece2 m)) in
+    omega (arith, three m .ends, three m .same-length, third-most (s .args .tally) (s .pre .0), s .pre .1)
 
 slice-aggregate-put-piece : tie.Need-slice-aggregate-put-piece
 slice-aggregate-put-piece c = search needs
@@ -115,9 +128,8 @@ slice-aggregate-put-piece c = search needs
 put-piece-requires : tie.Need-put-piece-requires
 put-piece-requires c κs =
     let m = c .before .before .before .before in
-    let s = m .before .before .before .before .before .before .before .before .before .before .before .before .before .before .before .before .before .before .before .before in
-    let f = four m in
-    omega (arith, f .ends, f .same-length, fourth-most (s .args .tally) (s .pre .0), s .pre .1)
+    let s = entry (piece1 (piece2 (piece3 m))) in
+    omega (arith, four m .ends, four m .same-length, fourth-most (s .args .tally) (s .pre .0), s .pre .1)
 
 same-length : tie.Need-same-length
 same-length c = search needs
@@ -126,7 +138,7 @@ returns : tie.Need-returns
 unfolding endLine
 returns c =
     let m = c .before .before .before .before .before .before .before in
-    rw (together (m .before .before .before .before .before .before .before .before .before .before .before .before .before .before .before .before .before .before .before .before .args .tally)) at (follows-more (four m) (c .before .before .put-piece .ensures))
+    rw (together (entry (piece1 (piece2 (piece3 m))) .args .tally)) at (follows-more (four m) (c .before .before .put-piece .ensures))
 
 pub put-end-spec : {M : Type 1} → statement M
 put-end-spec =

@@ -21,7 +21,7 @@ put-text-requires c κs = search needs
 add-result : tie.Need-add-result
 add-result c =
     let s = c .before .before .before .before .before .before in
-    let f = follows-put (s .args .at) (now (s .args .piece)) (now (s .args .place)) _ _ (s .pre) (c .before .before .put-text .ensures) in
+    let f = follows-put (s .args .at) (now (s .args .piece)) (now (s .args .out)) _ _ (s .pre) (c .before .before .put-text .ensures) in
     record { fits = omega (arith, f .ends, s .pre, s .good .1 .1 .0 .0) }
 
 same-length : tie.Need-same-length
@@ -30,7 +30,7 @@ same-length c = search needs
 returns : tie.Need-returns
 returns c =
     let s = c .before .before .before .before .before .before in
-    follows-put (s .args .at) (now (s .args .piece)) (now (s .args .place)) _ _ (s .pre) (c .before .before .put-text .ensures)
+    follows-put (s .args .at) (now (s .args .piece)) (now (s .args .out)) _ _ (s .pre) (c .before .before .put-text .ensures)
 
 pub put-piece-spec : {M : Type 1} → statement M
 put-piece-spec =

@@ -17,7 +17,7 @@ use Rattle.digits.proofs.hex.put_bytes.Tie as tie
 
 -- a place with the digits of the first i bytes put
 abbrev spelt : List ℕ → List ℕ → ℕ → List ℕ
-spelt x place i = hexOf (take i x) ++ drop (2 * i) place
+spelt x out i = hexOf (take i x) ++ drop (2 * i) out
 
 -- two places more
 two-more : (i : ℕ) → 2 * suc i ≡ suc (suc (2 * i))
@@ -28,25 +28,33 @@ suc-one : (i : ℕ) → suc (suc i) + 1 ≡ suc (suc (i + 1))
 suc-one i = omega arith
 
 -- one byte more
-one-more : (x place : List ℕ) (i : ℕ) → i < length x → 2 * length x ≤ length place
-    → set (set (spelt x place i) (2 * i) (hexDigit (getD x i 0 / 16))) (2 * i + 1) (hexDigit (getD x i 0 % 16)) ≡ spelt x place (suc i)
-one-more [] place i h room = absurd (omega arith)
+one-more : (x out : List ℕ) (i : ℕ) → i < length x → 2 * length x ≤ length out
+    → set (set (spelt x out i) (2 * i) (hexDigit (getD x i 0 / 16))) (2 * i + 1) (hexDigit (getD x i 0 % 16)) ≡ spelt x out (suc i)
+one-more [] out i h room = absurd (omega arith)
 one-more (b ∷ x) [] i h room = absurd (omega arith)
 one-more (b ∷ x) (p ∷ []) i h room = absurd (omega arith)
-one-more (b ∷ x) (p ∷ q ∷ place) zero h room = refl
-one-more (b ∷ x) (p ∷ q ∷ place) (suc i) h room =
-    rw (two-more i, two-more (suc i), suc-one (2 * i)) (ap (λ (y : List ℕ). hexDigit (b / 16) ∷ hexDigit (b % 16) ∷ y) (one-more x place i (omega arith) (omega arith)))
+one-more (b ∷ x) (p ∷ q ∷ out) zero h room = refl
+one-more (b ∷ x) (p ∷ q ∷ out) (suc i) h room =
+    rw (two-more i, two-more (suc i), suc-one (2 * i)) (ap (λ (y : List ℕ). hexDigit (b / 16) ∷ hexDigit (b % 16) ∷ y) (one-more x out i (omega arith) (omega arith)))
 
 abbrev Inv-loop : tie.InvT-loop
-Inv-loop bytes place₀ i₀ place i = (i ≤ length bytes) × (length place ≡ length place₀) × (place ≡ spelt bytes place₀ i)
+Inv-loop bytes out₀ i₀ out i = (i ≤ length bytes) × (length out ≡ length out₀) × (out ≡ spelt bytes out₀ i)
 
 abbrev μ-loop : tie.MeasureT-loop
-μ-loop bytes place₀ i₀ place i = length bytes - i
+μ-loop bytes out₀ i₀ out i = length bytes - i
+
+-- the entry, seen from a turn
+abbrev entry : tie.At-loop Inv-loop μ-loop → tie.Start Inv-loop μ-loop
+entry c = c .before .before .before .before
+
+-- a turn, seen from its end
+abbrev turn : tie.After-spelled2 Inv-loop μ-loop → tie.At-loop Inv-loop μ-loop
+turn c = c .before .before .before .before .before
 
 returns : tie.Need-returns Inv-loop μ-loop
 returns c =
     let a = c .before .before .before .args in
-    put-short (hexOf (now (a .bytes))) (now (a .place)) (omega (arith, length-hex (now (a .bytes)), c .if1 .taken))
+    put-short (hexOf (now (a .bytes))) (now (a .out)) (omega (arith, length-hex (now (a .bytes)), c .if1 .taken))
 
 loop-holds : tie.Need-loop-holds Inv-loop μ-loop
 loop-holds c = (search needs, refl, refl)
@@ -57,11 +65,11 @@ shared-slice-read-spelled c = search needs
 spelled-requires : tie.Need-spelled-requires Inv-loop μ-loop
 spelled-requires c κs = omega (arith, c .shared-slice-known2 .given (c .before .before .loop .i))
 
-mul-place : tie.Need-mul-place Inv-loop μ-loop
-mul-place c = search needs
+mul-out : tie.Need-mul-out Inv-loop μ-loop
+mul-out c = search needs
 
-slice-write-place : tie.Need-slice-write-place Inv-loop μ-loop
-slice-write-place c = omega arith
+slice-write-out : tie.Need-slice-write-out Inv-loop μ-loop
+slice-write-out c = omega arith
 
 shared-slice-read-spelled-2 : tie.Need-shared-slice-read-spelled-2 Inv-loop μ-loop
 shared-slice-read-spelled-2 c = search needs
@@ -69,14 +77,14 @@ shared-slice-read-spelled-2 c = search needs
 spelled-requires-2 : tie.Need-spelled-requires-2 Inv-loop μ-loop
 spelled-requires-2 c κs = omega arith
 
-mul-place-2 : tie.Need-mul-place-2 Inv-loop μ-loop
-mul-place-2 c = search needs
+mul-out-2 : tie.Need-mul-out-2 Inv-loop μ-loop
+mul-out-2 c = search needs
 
-add-place : tie.Need-add-place Inv-loop μ-loop
-add-place c = search needs
+add-out : tie.Need-add-out Inv-loop μ-loop
+add-out c = search needs
 
-slice-write-place-2 : tie.Need-slice-write-place-2 Inv-loop μ-loop
-slice-write-place-2 c = let l = c .before .before .before .before .before .loop in omega (arith, length-set (l .place) (2 * l .i) (c .before .before .spelled .result))
+slice-write-out-2 : tie.Need-slice-write-out-2 Inv-loop μ-loop
+slice-write-out-2 c = let l = turn c .loop in omega (arith, length-set (l .out) (2 * l .i) (c .before .before .spelled .result))
 
 add-i : tie.Need-add-i Inv-loop μ-loop
 add-i c = search needs
@@ -86,17 +94,17 @@ loop-less c = search needs
 
 loop-again : tie.Need-loop-again Inv-loop μ-loop
 loop-again c =
-    let l = c .before .before .before .before .before .loop in
-    let a = c .before .before .before .before .before .before .before .before .before .args in
+    let l = turn c .loop in
+    let a = entry (turn c) .args in
     let x = now (a .bytes) in
     let high = c .before .before .spelled in
     let inside : l .i < length x = omega arith in
-    let room : 2 * length x ≤ length (now (a .place)) = omega arith in (
+    let room : 2 * length x ≤ length (now (a .out)) = omega arith in (
       omega arith,
-      length-set (set (l .place) (2 * l .i) (high .result)) (2 * l .i + 1) (c .spelled2 .result) ∙ length-set (l .place) (2 * l .i) (high .result) ∙ l .inv .1,
+      length-set (set (l .out) (2 * l .i) (high .result)) (2 * l .i + 1) (c .spelled2 .result) ∙ length-set (l .out) (2 * l .i) (high .result) ∙ l .inv .1,
       (λ j. set (set (l .inv .2 j) (2 * l .i) (high .ensures j)) (2 * l .i + 1) (c .spelled2 .ensures j))
-          ∙ one-more x (now (a .place)) (l .i) inside room
-          ∙ ap (spelt x (now (a .place))) (sym (add-one (l .i))),
+          ∙ one-more x (now (a .out)) (l .i) inside room
+          ∙ ap (spelt x (now (a .out))) (sym (add-one (l .i))),
     )
 
 mul-result : tie.Need-mul-result Inv-loop μ-loop
@@ -108,11 +116,11 @@ same-length c = c .before .loop .inv .1
 returns-2 : tie.Need-returns-2 Inv-loop μ-loop
 returns-2 c =
     let l = c .before .loop in
-    let a = c .before .before .before .before .before .args in
+    let a = entry (c .before) .args in
     let x = now (a .bytes) in
     let end : l .i ≡ length x = omega arith in
-    put-is (hexOf x) (now (a .place)) (l .place) (2 * length x) (sym (length-hex x)) (omega arith)
-    (l .inv .2 ∙ ap (spelt x (now (a .place))) end ∙ ap (λ (y : List ℕ). hexOf y ++ drop (2 * length x) (now (a .place))) (take-length x))
+    put-is (hexOf x) (now (a .out)) (l .out) (2 * length x) (sym (length-hex x)) (omega arith)
+    (l .inv .2 ∙ ap (spelt x (now (a .out))) end ∙ ap (λ (y : List ℕ). hexOf y ++ drop (2 * length x) (now (a .out))) (take-length x))
 
 pub put-bytes-spec : {M : Type 1} → statement M
 put-bytes-spec =
@@ -124,13 +132,13 @@ put-bytes-spec =
     loop-holds
     shared-slice-read-spelled
     spelled-requires
-    mul-place
-    slice-write-place
+    mul-out
+    slice-write-out
     shared-slice-read-spelled-2
     spelled-requires-2
-    mul-place-2
-    add-place
-    slice-write-place-2
+    mul-out-2
+    add-out
+    slice-write-out-2
     add-i
     loop-less
     loop-again

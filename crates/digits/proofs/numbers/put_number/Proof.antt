@@ -21,20 +21,20 @@ drop-set (b ∷ x) zero a h = refl
 drop-set (b ∷ x) (suc i) a h = drop-set x i a (omega arith)
 
 -- one digit stored
-one-less : (i rest : ℕ) (place : List ℕ) → 0 < i → i ≤ length place
-    → decimals (i - 1) (rest / 10) ++ drop (i - 1) (set place (i - 1) (0x30 + rest % 10)) ≡ decimals i rest ++ drop i place
-one-less zero rest place h k = absurd (omega arith)
-one-less (suc i) rest place h k =
+one-less : (i rest : ℕ) (out : List ℕ) → 0 < i → i ≤ length out
+    → decimals (i - 1) (rest / 10) ++ drop (i - 1) (set out (i - 1) (0x30 + rest % 10)) ≡ decimals i rest ++ drop i out
+one-less zero rest out h k = absurd (omega arith)
+one-less (suc i) rest out h k =
     simp unary-clauses
-    (ap (λ (x : List ℕ). decimals i (rest / 10) ++ x) (drop-set place i (0x30 + rest % 10) (omega arith))
-    ∙ sym (append-assoc (decimals i (rest / 10)) ((0x30 + rest % 10) ∷ []) (drop (suc i) place)))
+    (ap (λ (x : List ℕ). decimals i (rest / 10) ++ x) (drop-set out i (0x30 + rest % 10) (omega arith))
+    ∙ sym (append-assoc (decimals i (rest / 10)) ((0x30 + rest % 10) ∷ []) (drop (suc i) out)))
 
 abbrev Inv-loop : tie.InvT-loop
-Inv-loop n place₀ count i₀ rest₀ place i rest =
-    (i ≤ count) × (length place ≡ length place₀) × (decimals i rest ++ drop i place ≡ decimals count n ++ drop count place₀)
+Inv-loop n out₀ count i₀ rest₀ out i rest =
+    (i ≤ count) × (length out ≡ length out₀) × (decimals i rest ++ drop i out ≡ decimals count n ++ drop count out₀)
 
 abbrev μ-loop : tie.MeasureT-loop
-μ-loop n place₀ count i₀ rest₀ place i rest = i
+μ-loop n out₀ count i₀ rest₀ out i rest = i
 
 number-length-requires : tie.Need-number-length-requires Inv-loop μ-loop
 number-length-requires c κs = search needs
@@ -42,7 +42,7 @@ number-length-requires c κs = search needs
 returns : tie.Need-returns Inv-loop μ-loop
 returns c =
     let a = c .before .before .before .args in
-    put-short (numeral (a .n)) (now (a .place)) (omega (arith, length-numeral (a .n), c .before .number-length .ensures))
+    put-short (numeral (a .n)) (now (a .out)) (omega (arith, length-numeral (a .n), c .before .number-length .ensures))
 
 loop-holds : tie.Need-loop-holds Inv-loop μ-loop
 loop-holds c = (omega arith, refl, refl)
@@ -50,14 +50,14 @@ loop-holds c = (omega arith, refl, refl)
 sub-i : tie.Need-sub-i Inv-loop μ-loop
 sub-i c = search needs
 
-cast-place : tie.Need-cast-place Inv-loop μ-loop
-cast-place c = search needs
+cast-out : tie.Need-cast-out Inv-loop μ-loop
+cast-out c = search needs
 
-add-place : tie.Need-add-place Inv-loop μ-loop
-add-place c = search needs
+add-out : tie.Need-add-out Inv-loop μ-loop
+add-out c = search needs
 
-slice-write-place : tie.Need-slice-write-place Inv-loop μ-loop
-slice-write-place c = omega arith
+slice-write-out : tie.Need-slice-write-out Inv-loop μ-loop
+slice-write-out c = omega arith
 
 loop-less : tie.Need-loop-less Inv-loop μ-loop
 loop-less c = omega arith
@@ -65,10 +65,10 @@ loop-less c = omega arith
 loop-again : tie.Need-loop-again Inv-loop μ-loop
 loop-again c =
     let l = c .before .loop in
-    let inside : l .i ≤ length (l .place) = omega arith in (
+    let inside : l .i ≤ length (l .out) = omega arith in (
       omega arith,
-      length-set (l .place) (l .i - 1) (0x30 + l .rest % 10) ∙ l .inv .1,
-      one-less (l .i) (l .rest) (l .place) (c .loop-test .taken) inside ∙ l .inv .2,
+      length-set (l .out) (l .i - 1) (0x30 + l .rest % 10) ∙ l .inv .1,
+      one-less (l .i) (l .rest) (l .out) (c .loop-test .taken) inside ∙ l .inv .2,
     )
 
 same-length : tie.Need-same-length Inv-loop μ-loop
@@ -82,10 +82,10 @@ returns-2 c =
     let count = c .before .before .before .number-length .result in
     let counted : count ≡ places (a .n) = c .before .before .before .number-length .ensures in
     let none : l .i ≡ 0 = omega arith in
-    put-is (numeral (a .n)) (now (a .place)) (l .place) count (counted ∙ sym (length-numeral (a .n))) (c .before .before .if1 .left)
-    (ap (λ (i : ℕ). decimals i (l .rest) ++ drop i (l .place)) (sym none)
+    put-is (numeral (a .n)) (now (a .out)) (l .out) count (counted ∙ sym (length-numeral (a .n))) (c .before .before .if1 .left)
+    (ap (λ (i : ℕ). decimals i (l .rest) ++ drop i (l .out)) (sym none)
     ∙ l .inv .2
-    ∙ ap (λ (k : ℕ). decimals k (a .n) ++ drop count (now (a .place))) counted)
+    ∙ ap (λ (k : ℕ). decimals k (a .n) ++ drop count (now (a .out))) counted)
 
 pub put-number-spec : {M : Type 1} → statement M
 put-number-spec =
@@ -97,9 +97,9 @@ put-number-spec =
     returns
     loop-holds
     sub-i
-    cast-place
-    add-place
-    slice-write-place
+    cast-out
+    add-out
+    slice-write-out
     loop-less
     loop-again
     same-length

@@ -13,7 +13,7 @@ use lib.Seq.{drop-cons, drop-length}
 use borrow.Author.Needs.{needs}
 use borrow.Author.Tests.{le-leb, lt-leb}
 use Rattle.digits.specs.Hex.{within}
-use Rattle.digits.specs.Numbers.{allDecimal, needlessZero, isNumeral, valueFrom, numberOf}
+use Rattle.digits.specs.Numbers.{allDecimal, needlessZero, isNumeral, valueFrom, decimalOf}
 use Rattle.digits.specs.declared.numbers.Numeral.the-variants.{Number, NoNumber}
 use Rattle.digits.proofs.numbers.read_number.Statement.{statement}
 use Rattle.digits.proofs.numbers.read_number.Tie as tie
@@ -46,8 +46,8 @@ one-more text value i h low high left = record {
 }
 
 -- a text that is no numeral
-no-number : (text : List ℕ) → isNumeral text ≡ false → NoNumber ≡ numberOf text
-unfolding numberOf
+no-number : (text : List ℕ) → isNumeral text ≡ false → NoNumber ≡ decimalOf text
+unfolding decimalOf
 no-number text e = rw e
 
 -- what the tests before the digits leave to them
@@ -86,34 +86,40 @@ loop-holds c = record { inside = omega arith; small = omega arith; rest = refl; 
 shared-slice-read-character : tie.Need-shared-slice-read-character Inv-loop μ-loop
 shared-slice-read-character c = search needs
 
+-- the entry, seen from where the tests are passed
+abbrev entry : tie.Else3 Inv-loop μ-loop → tie.Start Inv-loop μ-loop
+entry c = c .before .before .before .before .before
+
+-- a turn, seen from where its character is known
+abbrev turn : tie.After-shared-slice-known2 Inv-loop μ-loop → tie.At-loop Inv-loop μ-loop
+turn c = c .before .before
+
 -- what the passed tests say
-tested : (c : tie.Else3 Inv-loop μ-loop) → let text = now (c .before .before .before .before .before .args .text) in isNumeral text ≡ allDecimal text
+tested : (c : tie.Else3 Inv-loop μ-loop) → let text = now (entry c .args .text) in isNumeral text ≡ allDecimal text
 tested c =
     by-digits _ (omega arith) (c .before .before .if2 .left) (sym (c .before .needless-zero .ensures) ∙ c .if3 .left)
 
 returns-4 : tie.Need-returns-4 Inv-loop μ-loop
 returns-4 c =
-    let l = c .before .before .before .loop in
+    let t = turn (c .before) in
     no-number _
-    (tested (c .before .before .before .before)
-    ∙ sym (l .inv .rest)
-    ∙ at _ (l .i) (c .before .before .loop-test .taken) .0
-    ∙ rw (lt-leb 0x30 _ (c .if4 .taken)))
+    (tested (t .before) ∙ sym (t .loop .inv .rest) ∙ at _ (t .loop .i) (c .before .before .loop-test .taken) .0 ∙ rw (lt-leb 0x30 _ (c .if4 .taken)))
 
 returns-5 : tie.Need-returns-5 Inv-loop μ-loop
 returns-5 c =
-    let l = c .before .before .before .before .loop in
+    let k = c .before .before in
+    let t = turn k in
     no-number _
-    (tested (c .before .before .before .before .before)
-    ∙ sym (l .inv .rest)
-    ∙ at _ (l .i) (c .before .before .before .loop-test .taken) .0
+    (tested (t .before)
+    ∙ sym (t .loop .inv .rest)
+    ∙ at _ (t .loop .i) (k .before .loop-test .taken) .0
     ∙ rw (le-leb 0x30 _ (c .before .if4 .left), lt-leb _ 0x39 (c .if5 .taken)))
 
 -- the digits read so far are at most seven
-small : (c : tie.After-shared-slice-known2 Inv-loop μ-loop) → c .before .before .loop .value < 10_000_000
+small : (c : tie.After-shared-slice-known2 Inv-loop μ-loop) → turn c .loop .value < 10_000_000
 small c =
-    let l = c .before .before .loop in
-    seven (l .value) (l .i) (omega (arith, l .inv .inside, c .before .before .before .before .before .if2 .left)) (l .inv .small)
+    let t = turn c in
+    seven (t .loop .value) (t .loop .i) (omega (arith, t .loop .inv .inside, t .before .before .before .if2 .left)) (t .loop .inv .small)
 
 mul-value : tie.Need-mul-value Inv-loop μ-loop
 mul-value c = record { fits = omega (arith, small (c .before .before)) }
@@ -131,14 +137,13 @@ loop-less : tie.Need-loop-less Inv-loop μ-loop
 loop-less c = omega arith
 
 loop-again : tie.Need-loop-again Inv-loop μ-loop
-loop-again c =
-    one-more _ _ _ (c .before .before .before .loop-test .taken) (c .before .if4 .left) (c .if5 .left) (c .before .before .before .before .loop .inv)
+loop-again c = let k = c .before .before in one-more _ _ _ (k .before .loop-test .taken) (c .before .if4 .left) (c .if5 .left) (turn k .loop .inv)
 
 returns-6 : tie.Need-returns-6 Inv-loop μ-loop
-unfolding numberOf
+unfolding decimalOf
 returns-6 c =
     let l = c .before .loop in
-    let text = now (c .before .before .before .before .before .before .before .args .text) in
+    let text = now (entry (c .before .before) .args .text) in
     let end : l .i ≡ length text = omega (arith, l .inv .inside) in
     let left : drop (l .i) text ≡ [] = ap (λ (i : ℕ). drop i text) end ∙ drop-length text in
     rw (tested (c .before .before) ∙ sym (l .inv .rest) ∙ ap allDecimal left) (ap Number (sym (ap (valueFrom (l .value)) left) ∙ l .inv .says))

@@ -14,22 +14,22 @@ use Rattle.record.proofs.Fields.{held-field}
 use Rattle.record.proofs.InForm.{in-form}
 use Rattle.judge.specs.declared.verdict.Ours.{Ours}
 use Rattle.judge.specs.Tail.{agree}
-use Rattle.judge.specs.Verdicts.{sealing, rounds, verdictOn, oursBy, oursOf}
+use Rattle.judge.specs.Verdicts.{ourSealing, ourRounds, verdictOn, oursBy, oursOf}
 use Rattle.judge.proofs.verdict.judge.Statement.{statement}
 use Rattle.judge.proofs.verdict.judge.Tie as tie
 
 -- our own sealing, in its parts
 record Parts (r : Record) (ours : Ours) : Type 0 where
-  same-rounds : ours .rounds ≡ rounds r
-  same-cipher : held (ours .cipher) ≡ sealing r .cipher
-  same-tag : held (ours .tag) ≡ sealing r .tag
+  same-rounds : ours .rounds ≡ ourRounds r
+  same-cipher : held (ours .cipher) ≡ ourSealing r .cipher
+  same-tag : held (ours .tag) ≡ ourSealing r .tag
 
 parts-of : (r : Record) (ours : Ours) → ours ≡ oursOf r → Parts r ours
-unfolding oursOf oursBy sealing rounds
+unfolding oursOf oursBy ourSealing ourRounds
 parts-of r ours e = record {
   same-rounds = ap (λ (o : Ours). o .rounds) e;
-  same-cipher = ap (λ (o : Ours). held (o .cipher)) e ∙ held-field (sealing r .cipher);
-  same-tag = ap (λ (o : Ours). held (o .tag)) e ∙ held-field (sealing r .tag);
+  same-cipher = ap (λ (o : Ours). held (o .cipher)) e ∙ held-field (ourSealing r .cipher);
+  same-tag = ap (λ (o : Ours). held (o .tag)) e ∙ held-field (ourSealing r .tag);
 }
 
 first-broken-requires : tie.Need-first-broken-requires
@@ -42,71 +42,84 @@ returns c =
     let r = c .before .before .args .entry in
     rw (ne-eqb (broken r) 0 (λ e. c .if1 .taken (bad ∙ e)), ← bad)
 
-seal-record-requires : tie.Need-seal-record-requires
-seal-record-requires c κs = sym (c .before .first-broken .ensures) ∙ c .if1 .left
-
 -- the record is in form
 sound : (c : tie.Else1) → broken (c .before .before .args .entry) ≡ 0
 sound c = sym (c .before .first-broken .ensures) ∙ c .if1 .left
 
+seal-record-requires : tie.Need-seal-record-requires
+seal-record-requires c κs = sound c
+
+-- the record, where our own sealing of it was made
+abbrev found : tie.After-seal-record → Record
+found c = c .before .before .before .args .entry
+
 -- our own sealing of it
-ours : (c : tie.After-seal-record) → Parts (c .before .before .before .args .entry) (c .seal-record .result)
+ours : (c : tie.After-seal-record) → Parts (found c) (c .seal-record .result)
 ours c = parts-of _ _ (c .seal-record .ensures .0)
 
 returns-2 : tie.Need-returns-2
 unfolding verdictOn
 returns-2 c =
-    let o = ours (c .before .before .before) in
-    let r = c .before .before .before .before .before .before .args .entry in
-    rw (sound (c .before .before .before .before), ne-eqb (r .rounds) (rounds r) (λ e. c .if2 .taken (e ∙ sym (o .same-rounds))))
+    let o = c .before .before .before in
+    rw (sound (o .before), ne-eqb (found o .rounds) (ourRounds (found o)) (λ e. c .if2 .taken (e ∙ sym (ours o .same-rounds))))
+
+-- from where the rounds are the same, back to where the sealing was made
+abbrev sealed : tie.Else2 → tie.After-seal-record
+sealed c = c .before .before .before
+
+-- from where the ciphers were compared, back to where the rounds are the same
+abbrev rounded : tie.After-same-field → tie.Else2
+rounded c = c .before .before .before
+
+-- from where the tags were compared, back to where the ciphers were
+abbrev ciphered : tie.After-same-field2 → tie.After-same-field
+ciphered c = c .before .before .before .before
 
 same-field-requires : tie.Need-same-field-requires
-same-field-requires c κs = (c .before .before .before .before .before .seal-record .ensures .1 .0, in-form _ (sound (c .before .before .before .before .before .before)) .cipher)
+same-field-requires c κs = let o = sealed (c .before .before) in (o .seal-record .ensures .1 .0, in-form _ (sound (o .before)) .cipher)
 
 -- the rounds are the same
-rounds-same : (c : tie.Else2) → let r = c .before .before .before .before .before .before .args .entry in eqb (r .rounds) (rounds r) ≡ true
-rounds-same c = eq-eqb _ _ (c .if2 .left ∙ ours (c .before .before .before) .same-rounds)
+rounds-same : (c : tie.Else2) → let r = found (sealed c) in eqb (r .rounds) (ourRounds r) ≡ true
+rounds-same c = eq-eqb _ _ (c .if2 .left ∙ ours (sealed c) .same-rounds)
 
 -- the cipher is compared with ours
-cipher-is : (c : tie.After-same-field) → let r = c .before .before .before .before .before .before .before .before .before .args .entry in agree (sealing r .cipher) (held (r .cipher)) ≡ c .same-field .result
+cipher-is : (c : tie.After-same-field) → let r = found (sealed (rounded c)) in agree (ourSealing r .cipher) (held (r .cipher)) ≡ c .same-field .result
 cipher-is c =
-    let r = c .before .before .before .before .before .before .before .before .before .args .entry in
-    sym (c .same-field .ensures ∙ ap (λ (x : List ℕ). agree x (held (r .cipher))) (ours (c .before .before .before .before .before .before) .same-cipher))
+    let o = sealed (rounded c) in
+    sym (c .same-field .ensures ∙ ap (λ (x : List ℕ). agree x (held (found o .cipher))) (ours o .same-cipher))
 
 returns-3 : tie.Need-returns-3
 unfolding verdictOn
-returns-3 c = rw (sound (c .before .before .before .before .before .before .before .before), rounds-same (c .before .before .before .before), cipher-is (c .before) ∙ not-true _ (c .if3 .taken))
+returns-3 c =
+    let equal = rounded (c .before) in
+    rw (sound (sealed equal .before), rounds-same equal, cipher-is (c .before) ∙ not-true _ (c .if3 .taken))
 
 same-field-requires-2 : tie.Need-same-field-requires-2
 same-field-requires-2 c κs =
-    let f = in-form _ (sound (c .before .before .before .before .before .before .before .before .before .before)) in
-    (c .before .before .before .before .before .before .before .before .before .seal-record .ensures .1 .1, omega (arith, f .tag, row-sizes (c .before .before .before .before .before .before .before .before .before .before .before .before .args .entry .set) .key))
+    let o = sealed (rounded (c .before .before .before)) in
+    (o .seal-record .ensures .1 .1, omega (arith, in-form _ (sound (o .before)) .tag, row-sizes (found o .set) .key))
 
 -- so is the tag
-tag-is : (c : tie.After-same-field2) → let r = c .before .before .before .before .before .before .before .before .before .before .before .before .before .args .entry in agree (sealing r .tag) (held (r .tag)) ≡ c .same-field2 .result
+tag-is : (c : tie.After-same-field2) → let r = found (sealed (rounded (ciphered c))) in agree (ourSealing r .tag) (held (r .tag)) ≡ c .same-field2 .result
 tag-is c =
-    let r = c .before .before .before .before .before .before .before .before .before .before .before .before .before .args .entry in
-    sym (c .same-field2 .ensures ∙ ap (λ (x : List ℕ). agree x (held (r .tag))) (ours (c .before .before .before .before .before .before .before .before .before .before) .same-tag))
+    let o = sealed (rounded (ciphered c)) in
+    sym (c .same-field2 .ensures ∙ ap (λ (x : List ℕ). agree x (held (found o .tag))) (ours o .same-tag))
+
+-- the ciphers agree
+cipher-same : (c : tie.After-same-field2) → let r = found (sealed (rounded (ciphered c))) in agree (ourSealing r .cipher) (held (r .cipher)) ≡ true
+cipher-same c = cipher-is (ciphered c) ∙ not-false _ (c .before .before .before .if3 .left)
 
 returns-4 : tie.Need-returns-4
 unfolding verdictOn
 returns-4 c =
-    rw (
-      sound (c .before .before .before .before .before .before .before .before .before .before .before .before),
-      rounds-same (c .before .before .before .before .before .before .before .before),
-      cipher-is (c .before .before .before .before .before) ∙ not-false _ (c .before .before .before .before .if3 .left),
-      tag-is (c .before) ∙ not-true _ (c .if4 .taken),
-    )
+    let equal = rounded (ciphered (c .before)) in
+    rw (sound (sealed equal .before), rounds-same equal, cipher-same (c .before), tag-is (c .before) ∙ not-true _ (c .if4 .taken))
 
 returns-5 : tie.Need-returns-5
 unfolding verdictOn
 returns-5 c =
-    rw (
-      sound (c .before .before .before .before .before .before .before .before .before .before .before .before),
-      rounds-same (c .before .before .before .before .before .before .before .before),
-      cipher-is (c .before .before .before .before .before) ∙ not-false _ (c .before .before .before .before .if3 .left),
-      tag-is (c .before) ∙ not-false _ (c .if4 .left),
-    )
+    let equal = rounded (ciphered (c .before)) in
+    rw (sound (sealed equal .before), rounds-same equal, cipher-same (c .before), tag-is (c .before) ∙ not-false _ (c .if4 .left))
 
 pub judge-spec : {M : Type 1} → statement M
 judge-spec =

@@ -8,8 +8,9 @@ use lib.ListN.{length, take, drop, length-map}
 use lib.Seq.{length-take-le}
 use borrow.Author.Needs.{needs}
 use Rattle.ascon.specs.Sets.{isSet, rowOf}
-use Rattle.ascon.specs.Mode.{zeros, sealed}
-use Rattle.ascon.proofs.Strings.{drop-zeros}
+use Rattle.permutation.specs.Strings.{zeros}
+use Rattle.ascon.specs.Mode.{sealed}
+use Rattle.permutation.proofs.Strings.{drop-zeros}
 use Rattle.sets.proofs.Rows.{row-sizes}
 use Rattle.message.specs.declared.Outcome.{Outcome}
 use Rattle.message.specs.Message.{SealLeaves, sealLeaves, sealCall}
@@ -76,55 +77,64 @@ ours-are set K N A P out tag o key text known k n e t a m promised =
       tag = record { bytes = in-tag j; size = (e ∙ sym tagged) j };
     }
 
+-- from where the four arrays were copied, back to where the function begins
+abbrev entry : tie.After-t → tie.Start
+entry c = c .before .before .before .before
+
 array-share-prefix-k : tie.Need-array-share-prefix-k
-array-share-prefix-k c = sized (c .before .before .before .before) .key-inside
+array-share-prefix-k c = sized (entry c) .key-inside
 
 slice-aggregate-seal : tie.Need-slice-aggregate-seal
-slice-aggregate-seal c = let s = c .before .before .before .before .before in sym (length-take-le (s .args .key .size) (s .args .key .bytes) (sized s .key-inside))
+slice-aggregate-seal c = let s = entry (c .before) in sym (length-take-le (s .args .key .size) (s .args .key .bytes) (sized s .key-inside))
 
 array-share-prefix-n : tie.Need-array-share-prefix-n
-array-share-prefix-n c = sized (c .before .before .before .before .before) .nonce-inside
+array-share-prefix-n c = sized (entry (c .before)) .nonce-inside
 
 slice-aggregate-seal-2 : tie.Need-slice-aggregate-seal-2
-slice-aggregate-seal-2 c = let s = c .before .before .before .before .before .before in sym (length-take-le (s .args .nonce .size) (s .args .nonce .bytes) (sized s .nonce-inside))
+slice-aggregate-seal-2 c = let s = entry (c .before .before) in sym (length-take-le (s .args .nonce .size) (s .args .nonce .bytes) (sized s .nonce-inside))
 
 array-share-prefix-a : tie.Need-array-share-prefix-a
-array-share-prefix-a c = sized (c .before .before .before .before .before .before) .ad-inside
+array-share-prefix-a c = sized (entry (c .before .before)) .ad-inside
 
 slice-aggregate-seal-3 : tie.Need-slice-aggregate-seal-3
-slice-aggregate-seal-3 c = let s = c .before .before .before .before .before .before .before in sym (length-take-le (s .args .ad .size) (s .args .ad .bytes) (sized s .ad-inside))
+slice-aggregate-seal-3 c = let s = entry (c .before .before .before) in sym (length-take-le (s .args .ad .size) (s .args .ad .bytes) (sized s .ad-inside))
 
 array-share-prefix-t : tie.Need-array-share-prefix-t
-array-share-prefix-t c = sized (c .before .before .before .before .before .before .before) .text-inside
+array-share-prefix-t c = sized (entry (c .before .before .before)) .text-inside
+
+-- from where all four are lent, back to where they were copied
+abbrev copied : tie.After-t2 → tie.After-t
+copied c = c .before .before .before .before
 
 slice-aggregate-seal-4 : tie.Need-slice-aggregate-seal-4
-slice-aggregate-seal-4 c = let s = c .before .before .before .before .before .before .before .before in sym (length-take-le (s .args .text .size) (s .args .text .bytes) (sized s .text-inside))
+slice-aggregate-seal-4 c = let s = entry (copied c) in sym (length-take-le (s .args .text .size) (s .args .text .bytes) (sized s .text-inside))
 
 slice-aggregate-seal-5 : tie.Need-slice-aggregate-seal-5
 slice-aggregate-seal-5 c = search needs
 
 array-borrow-prefix-tag : tie.Need-array-borrow-prefix-tag
-array-borrow-prefix-tag c = omega (arith, sized (c .before .before .before .before .before .before .before .before .before) .key-short)
+array-borrow-prefix-tag c = omega (arith, sized (entry (copied (c .before))) .key-short)
 
 slice-aggregate-seal-6 : tie.Need-slice-aggregate-seal-6
-slice-aggregate-seal-6 c = let s = c .before .before .before .before .before .before .before .before .before .before in sym (length-take-le (s .args .key .size) (zeros 256) (omega (arith, sized s .key-short)))
+slice-aggregate-seal-6 c = let s = entry (copied (c .before .before)) in sym (length-take-le (s .args .key .size) (zeros 256) (omega (arith, sized s .key-short)))
 
 seal-requires : tie.Need-seal-requires
 seal-requires c κs = search needs
 
 returns : tie.Need-returns
 returns c =
-    let s = c .before .before .before .before .before .before .before .before .before .before .before .before .before in
+    let sealed = c .before .before in
+    let s = entry (copied (sealed .before .before .before)) in
     let a = s .args in
     let z = sized s in
-    let seal = c .before .before .seal in
-    let sized-data = length-take-le (a .ad .size) (a .ad .bytes) (z .ad-inside) in (
+    let seal = sealed .seal in
+    let sized-ad = length-take-le (a .ad .size) (a .ad .bytes) (z .ad-inside) in (
       ours-are (a .set) (held (a .key)) (held (a .nonce)) (held (a .ad)) (held (a .text)) _ _ (seal .result) (a .key .size) (a .text .size) (s .pre .0)
           (length-take-le (a .key .size) (a .key .bytes) (z .key-inside))
           (length-take-le (a .nonce .size) (a .nonce .bytes) (z .nonce-inside) ∙ s .pre .1 .1 .0 ∙ sym (s .pre .1 .0))
           (s .pre .1 .0)
           (length-take-le (a .text .size) (a .text .bytes) (z .text-inside))
-          (omega (arith, sized-data, s .pre .1 .1 .1 .0))
+          (omega (arith, sized-ad, s .pre .1 .1 .1 .0))
           (s .pre .1 .1 .1 .1)
           (seal .ensures),
       (s .pre .1 .1 .1 .1, omega (arith, z .key-short)),

@@ -8,8 +8,8 @@ use lib.Dec.{eqb}
 use lib.ListN.{length, getD, drop, drop-of-length-le, length-map, length-replicate, getD-replicate}
 use borrow.Author.Needs.{needs}
 use borrow.Author.Tests.{le-leb, lt-leb, eq-eqb, ne-eqb}
-use Rattle.ascon.specs.Mode.{zeros, same}
-use Rattle.ascon.proofs.Strings.{drop-zeros, same-left}
+use Rattle.permutation.specs.Strings.{zeros, same}
+use Rattle.permutation.proofs.Strings.{drop-zeros, same-left}
 use Rattle.record.specs.Form.{isField}
 use Rattle.record.proofs.field.is_field.Statement.{statement}
 use Rattle.record.proofs.field.is_field.Tie as tie
@@ -32,6 +32,16 @@ abbrev μ-loop : tie.MeasureT-loop
 size : (c : tie.Start Inv-loop μ-loop) → length (c .args .field .bytes) ≡ 256
 size c = sym (length-map (c .args .field .bytes) (λ (v : ℕ). v)) ∙ c .good .0 .1 .1 .0 .1 .0 .1
 
+-- the entry, seen from a turn
+abbrev entry : tie.At-loop Inv-loop μ-loop → tie.Start Inv-loop μ-loop
+entry c = c .before .before .before
+
+-- the place of a turn, and the rest, decide
+turn-decides : (c : tie.In-loop Inv-loop μ-loop) → let i = c .before .loop .i in
+    let field = entry (c .before) .args .field in
+    (eqb (getD (field .bytes) i 0) 0 && same (drop (i + 1) (field .bytes)) (zeros (256 - (i + 1)))) ≡ same (drop (field .size) (field .bytes)) (zeros (256 - field .size))
+turn-decides c = sym (left _ _ (size (entry (c .before))) (c .loop-test .taken)) ∙ c .before .loop .inv .1
+
 returns : tie.Need-returns Inv-loop μ-loop
 unfolding isField
 returns c = rw (lt-leb (c .before .before .args .field .size) 256 (c .if1 .taken))
@@ -45,10 +55,8 @@ array-read-if2 c = search needs
 returns-2 : tie.Need-returns-2 Inv-loop μ-loop
 unfolding isField
 returns-2 c =
-    let s = c .before .before .before .before .before in
-    let l = c .before .before .loop in
-    rw (le-leb (s .args .field .size) 256 (c .before .before .before .if1 .left))
-    (sym (sym (l .inv .1) ∙ left (s .args .field .bytes) (l .i) (size s) (c .before .loop-test .taken) ∙ rw (ne-eqb _ 0 (c .if2 .taken))))
+    let t = c .before .before in
+    rw (le-leb (entry t .args .field .size) 256 (t .before .if1 .left)) (rw (ne-eqb _ 0 (c .if2 .taken)) at (turn-decides (c .before)))
 
 add-i : tie.Need-add-i Inv-loop μ-loop
 add-i c = search needs
@@ -57,17 +65,12 @@ loop-less : tie.Need-loop-less Inv-loop μ-loop
 loop-less c = search needs
 
 loop-again : tie.Need-loop-again Inv-loop μ-loop
-loop-again c =
-    let s = c .before .before .before .before .before in
-    let l = c .before .before .loop in (
-      omega arith,
-      sym (left (s .args .field .bytes) (l .i) (size s) (c .before .loop-test .taken) ∙ rw (eq-eqb _ 0 (c .if2 .left))) ∙ l .inv .1,
-    )
+loop-again c = (omega arith, rw (eq-eqb _ 0 (c .if2 .left)) at (turn-decides (c .before)))
 
 returns-3 : tie.Need-returns-3 Inv-loop μ-loop
 unfolding isField
 returns-3 c =
-    let s = c .before .before .before .before in
+    let s = entry (c .before) in
     let l = c .before .loop in
     let bytes = s .args .field .bytes in
     let end : l .i ≡ 256 = omega arith in

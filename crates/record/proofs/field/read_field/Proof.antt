@@ -14,8 +14,8 @@ use borrow.Author.Needs.{needs}
 use borrow.Author.Tests.{le-leb, lt-leb}
 use Rattle.digits.specs.declared.hex.Pair.{Pair}
 use Rattle.digits.specs.declared.hex.Pair.the-variants.{Byte, NoByte}
-use Rattle.digits.specs.Hex.{digitOf, pairOf, andThen, bytesOf}
-use Rattle.ascon.specs.Mode.{zeros}
+use Rattle.digits.specs.Hex.{digitOf, pairOf, andThen, fromHex}
+use Rattle.permutation.specs.Strings.{zeros}
 use Rattle.record.specs.Form.{fieldOf}
 use Rattle.record.specs.Calls.{fitted, spelledAs}
 use Rattle.record.proofs.field.read_field.Statement.{statement}
@@ -34,13 +34,13 @@ record Left (text bytes : List ℕ) (size at : ℕ) : Type 0 where
   twice : at ≡ 2 * size
   inside : at ≤ length text
   holds : bytes ≡ done ++ zeros (256 - size)
-  rest : bytesOf text ≡ behind done (bytesOf (drop at text))
+  rest : fromHex text ≡ behind done (fromHex (drop at text))
 
 -- 256 bytes, and digits of more
-too-many : (done text : List ℕ) → length done ≡ 256 → 0 < length text → none ≡ fitted (behind done (bytesOf text))
+too-many : (done text : List ℕ) → length done ≡ 256 → 0 < length text → none ≡ fitted (behind done (fromHex text))
 too-many done [] h k = absurd (omega arith)
 too-many done (one ∷ []) h k = refl
-too-many done (high ∷ low ∷ text) h k = go (pairOf (digitOf high) (digitOf low)) (bytesOf text)
+too-many done (high ∷ low ∷ text) h k = go (pairOf (digitOf high) (digitOf low)) (fromHex text)
   where
     go : (p : Pair) (r : Option (List ℕ)) → none ≡ fitted (behind done (andThen p r))
     go (Byte b) (some y) = rw (lt-leb (length (done ++ b ∷ y)) 256 (omega (arith, length-append done (b ∷ y))))
@@ -48,12 +48,12 @@ too-many done (high ∷ low ∷ text) h k = go (pairOf (digitOf high) (digitOf l
     go NoByte r = refl
 
 -- a digit alone
-alone : (text : List ℕ) (at : ℕ) → at < length text → length text - at ≡ 1 → bytesOf (drop at text) ≡ none
+alone : (text : List ℕ) (at : ℕ) → at < length text → length text - at ≡ 1 → fromHex (drop at text) ≡ none
 alone text at h e = rw (drop-cons text at 0 h, drop-of-length-le text {i = suc at} (omega arith))
 
 -- two digits, and the rest
 two : (text : List ℕ) (at : ℕ) → at + 1 < length text
-    → bytesOf (drop at text) ≡ andThen (pairOf (digitOf (getD text at 0)) (digitOf (getD text (at + 1) 0))) (bytesOf (drop (at + 2) text))
+    → fromHex (drop at text) ≡ andThen (pairOf (digitOf (getD text at 0)) (digitOf (getD text (at + 1) 0))) (fromHex (drop (at + 2) text))
 two text at h =
     let e : at + 2 ≡ suc (suc at) = omega arith in
     rw (e, add-one at, drop-cons text at 0 (omega arith), drop-cons text (suc at) 0 (omega arith))
@@ -84,8 +84,8 @@ one-more text bytes size at b h k e left = record {
   holds = ap (λ (y : List ℕ). set y size b) (left .holds) ∙ stored (left .done) size b (left .sized) k;
   rest =
       left .rest
-      ∙ ap (behind (left .done)) (two text at h ∙ ap (λ (p : Pair). andThen p (bytesOf (drop (at + 2) text))) e)
-      ∙ more (left .done) b (bytesOf (drop (at + 2) text));
+      ∙ ap (behind (left .done)) (two text at h ∙ ap (λ (p : Pair). andThen p (fromHex (drop (at + 2) text))) e)
+      ∙ more (left .done) b (fromHex (drop (at + 2) text));
 }
 
 abbrev Inv-loop : tie.InvT-loop
@@ -94,8 +94,24 @@ Inv-loop text bytes₀ size₀ at₀ bytes size at = Left text bytes size at
 abbrev μ-loop : tie.MeasureT-loop
 μ-loop text bytes₀ size₀ at₀ bytes size at = length text - at
 
+-- the text, seen from a turn
+abbrev content : tie.At-loop Inv-loop μ-loop → List ℕ
+content c = now (c .before .before .args .text)
+
+-- a turn, seen from where two digits are left
+abbrev turn : tie.Else2 Inv-loop μ-loop → tie.At-loop Inv-loop μ-loop
+turn c = c .before .before .before
+
+-- where two digits are left, seen from their reading
+abbrev left-two : tie.After-read-pair Inv-loop μ-loop → tie.Else2 Inv-loop μ-loop
+left-two c = c .before .before .before
+
+-- the reading of two digits, seen from their byte
+abbrev reading : tie.After-known-told Inv-loop μ-loop → tie.After-read-pair Inv-loop μ-loop
+reading c = c .before .before .before
+
 loop-holds : tie.Need-loop-holds Inv-loop μ-loop
-loop-holds c = record { done = []; sized = refl; small = omega arith; twice = refl; inside = omega arith; holds = refl; rest = start (bytesOf (now (c .before .args .text))) }
+loop-holds c = record { done = []; sized = refl; small = omega arith; twice = refl; inside = omega arith; holds = refl; rest = start (fromHex (now (c .before .args .text))) }
   where
     start : (r : Option (List ℕ)) → r ≡ behind [] r
     start (some y) = refl
@@ -106,11 +122,11 @@ no-spelling-requires c κs = search needs
 
 returns : tie.Need-returns Inv-loop μ-loop
 returns c =
-    let l = c .before .before .before .loop in
-    let text = now (c .before .before .before .before .before .args .text) in
+    let t = c .before .before .before in
+    let l = t .loop in
     c .no-spelling .ensures
     ∙ ap spelledAs
-    (too-many (l .inv .done) (drop (l .at) text) (l .inv .sized ∙ c .before .if1 .taken) (omega (arith, length-drop (l .at) text))
+    (too-many (l .inv .done) (drop (l .at) (content t)) (l .inv .sized ∙ c .before .if1 .taken) (omega (arith, length-drop (l .at) (content t)))
     ∙ ap fitted (sym (l .inv .rest)))
 
 sub-if2 : tie.Need-sub-if2 Inv-loop μ-loop
@@ -121,11 +137,11 @@ no-spelling-requires-2 c κs = search needs
 
 returns-2 : tie.Need-returns-2 Inv-loop μ-loop
 returns-2 c =
-    let l = c .before .before .before .before .loop in
-    let text = now (c .before .before .before .before .before .before .args .text) in
+    let i = c .before .before .before in
+    let l = i .before .loop in
     c .no-spelling2 .ensures
     ∙ ap (λ (r : Option (List ℕ)). spelledAs (fitted r))
-    (sym (l .inv .rest ∙ ap (behind (l .inv .done)) (alone text (l .at) (c .before .before .before .loop-test .taken) (c .before .if2 .taken))))
+    (sym (l .inv .rest ∙ ap (behind (l .inv .done)) (alone (content (i .before)) (l .at) (i .loop-test .taken) (c .before .if2 .taken))))
 
 shared-slice-read-read-pair : tie.Need-shared-slice-read-read-pair Inv-loop μ-loop
 shared-slice-read-read-pair c = search needs
@@ -149,55 +165,52 @@ no-spelling-requires-3 : tie.Need-no-spelling-requires-3 Inv-loop μ-loop
 no-spelling-requires-3 c κs = search needs
 
 -- two digits are left
-pair-left : (c : tie.Else2 Inv-loop μ-loop) → c .before .before .before .loop .at + 1 < length (now (c .before .before .before .before .before .args .text))
+pair-left : (c : tie.Else2 Inv-loop μ-loop) → turn c .loop .at + 1 < length (content (turn c))
 pair-left c = omega arith
 
 -- and room for their byte
-room-left : (c : tie.Else2 Inv-loop μ-loop) → c .before .before .before .loop .size < 256
-room-left c = omega (arith, c .before .if1 .left, c .before .before .before .loop .inv .small)
+room-left : (c : tie.Else2 Inv-loop μ-loop) → turn c .loop .size < 256
+room-left c = omega (arith, c .before .if1 .left, turn c .loop .inv .small)
 
 returns-3 : tie.Need-returns-3 Inv-loop μ-loop
 returns-3 c =
     let e = c .before .before .before in
-    let t = e .before .before .before in
-    let l = t .before .before .before .loop in
-    let text = now (t .before .before .before .before .before .args .text) in
+    let t = turn (left-two e) in
+    let l = t .loop in
     c .no-spelling3 .ensures
     ∙ ap (λ (r : Option (List ℕ)). spelledAs (fitted r))
     (sym
     (l .inv .rest
     ∙ ap (behind (l .inv .done))
-    (two text (l .at) (pair-left t)
-    ∙ ap (λ (p : Pair). andThen p (bytesOf (drop (l .at + 2) text))) (sym (e .read-pair .ensures) ∙ c .before .enum-told .given .1))))
+    (two (content t) (l .at) (pair-left (left-two e))
+    ∙ ap (λ (p : Pair). andThen p (fromHex (drop (l .at + 2) (content t)))) (sym (e .read-pair .ensures) ∙ c .before .enum-told .given .1))))
 
 array-write-bytes : tie.Need-array-write-bytes Inv-loop μ-loop
-array-write-bytes c = room-left (c .before .before .before .before .before .before)
+array-write-bytes c = room-left (left-two (reading c))
 
 add-size : tie.Need-add-size Inv-loop μ-loop
-add-size c = record { fits = omega (arith, room-left (c .before .before .before .before .before .before)) }
+add-size c = record { fits = omega (arith, room-left (left-two (reading c))) }
 
 add-at : tie.Need-add-at Inv-loop μ-loop
-add-at c = record { fits = omega (arith, room-left (c .before .before .before .before .before .before), c .before .before .before .before .before .before .before .before .before .loop .inv .twice) }
+add-at c = let e = left-two (reading c) in record { fits = omega (arith, room-left e, turn e .loop .inv .twice) }
 
 loop-less : tie.Need-loop-less Inv-loop μ-loop
-loop-less c = omega (arith, pair-left (c .before .before .before .before .before .before))
+loop-less c = omega (arith, pair-left (left-two (reading c)))
 
 loop-again : tie.Need-loop-again Inv-loop μ-loop
 loop-again c =
-    let e = c .before .before .before in
-    let t = e .before .before .before in
-    let l = t .before .before .before .loop in
-    one-more _ _ _ _ _ (pair-left t) (room-left t) (sym (e .read-pair .ensures) ∙ c .before .pair .given .1) (l .inv)
+    let e = left-two (reading c) in
+    one-more _ _ _ _ _ (pair-left e) (room-left e) (sym (reading c .read-pair .ensures) ∙ c .before .pair .given .1) (turn e .loop .inv)
 
 returns-4 : tie.Need-returns-4 Inv-loop μ-loop
 unfolding fieldOf
 returns-4 c =
     let l = c .before .loop in
-    let text = now (c .before .before .before .args .text) in
+    let text = content (c .before) in
     let end : l .at ≡ length text = omega (arith, l .inv .inside) in
-    let all : bytesOf text ≡ some (l .inv .done) =
-    l .inv .rest ∙ ap (λ (i : ℕ). behind (l .inv .done) (bytesOf (drop i text))) end
-    ∙ ap (λ (y : List ℕ). behind (l .inv .done) (bytesOf y)) (drop-length text)
+    let all : fromHex text ≡ some (l .inv .done) =
+    l .inv .rest ∙ ap (λ (i : ℕ). behind (l .inv .done) (fromHex (drop i text))) end
+    ∙ ap (λ (y : List ℕ). behind (l .inv .done) (fromHex y)) (drop-length text)
     ∙ ap some (append-nil (l .inv .done)) in
     let size = l .inv .sized in
     let fits = le-leb (length (l .inv .done)) 256 (omega (arith, size, l .inv .small)) in

@@ -27,11 +27,14 @@ loop-holds c = (omega arith, refl)
 keeps-rule-requires : tie.Need-keeps-rule-requires Inv-loop μ-loop
 keeps-rule-requires c κs = search needs
 
+-- the line of a turn, and those behind it, decide
+turn-decides : (c : tie.After-keeps-rule Inv-loop μ-loop) → let line = c .before .before .loop .line in
+    let r = c .before .before .before .args .entry in
+    cond (c .keeps-rule .result) (brokenFrom (9 - (line + 1)) (line + 1) r) line ≡ broken r
+turn-decides c = rw (c .keeps-rule .ensures) (sym (one-line _ _ (c .before .loop-test .taken)) ∙ c .before .before .loop .inv .1)
+
 returns : tie.Need-returns Inv-loop μ-loop
-returns c =
-    let l = c .before .before .before .loop in
-    let r = c .before .before .before .before .args .entry in
-    sym (rw (sym (c .before .keeps-rule .ensures) ∙ not-true _ (c .if1 .taken)) at (one-line r (l .line) (c .before .before .loop-test .taken))) ∙ l .inv .1
+returns c = rw (not-true (c .before .keeps-rule .result) (c .if1 .taken)) at (turn-decides (c .before))
 
 add-line : tie.Need-add-line Inv-loop μ-loop
 add-line c = search needs
@@ -40,12 +43,7 @@ loop-less : tie.Need-loop-less Inv-loop μ-loop
 loop-less c = omega arith
 
 loop-again : tie.Need-loop-again Inv-loop μ-loop
-loop-again c =
-    let l = c .before .before .before .loop in
-    let r = c .before .before .before .before .args .entry in (
-      omega arith,
-      sym (rw (sym (c .before .keeps-rule .ensures) ∙ not-false _ (c .if1 .left)) at (one-line r (l .line) (c .before .before .loop-test .taken))) ∙ l .inv .1,
-    )
+loop-again c = (omega arith, rw (not-false (c .before .keeps-rule .result) (c .if1 .left)) at (turn-decides (c .before)))
 
 returns-2 : tie.Need-returns-2 Inv-loop μ-loop
 returns-2 c =

@@ -1,9 +1,10 @@
 -- `record::lines::keeps_rule` meets its contract.
-use mathlib.Core.Path.{sym, ap, _∙_}
+use mathlib.Core.Path.{_≡_, sym, ap, _∙_}
+use mathlib.Core.Bool.{false}
 use lib.Dec.{eqb}
 use borrow.Author.Needs.{needs}
 use borrow.Author.Tests.{ne-eqb, not-true, not-false}
-use Rattle.record.specs.Form.{isField, keeps}
+use Rattle.record.specs.Form.{fieldAt, isField, keeps}
 use Rattle.record.proofs.lines.keeps_rule.Statement.{statement}
 use Rattle.record.proofs.lines.keeps_rule.Tie as tie
 
@@ -24,15 +25,19 @@ field-at-requires c κs = search needs
 is-field-requires : tie.Need-is-field-requires
 is-field-requires c κs = search needs
 
+-- a line of bytes
+bytes-line : (c : tie.Else2) → (eqb (c .before .before .args .line) 1 ≡ false) × (eqb (c .before .before .args .line) 8 ≡ false)
+bytes-line c = (ne-eqb _ 1 (c .before .if1 .left), ne-eqb _ 8 (c .if2 .left))
+
+-- whether its field is one
+tested : (c : tie.After-is-field) → let a = c .before .before .before .before .args in isField (fieldAt (a .line) (a .entry)) ≡ c .is-field .result
+tested c = ap isField (sym (c .before .field-at .ensures .0)) ∙ sym (c .is-field .ensures)
+
 returns-3 : tie.Need-returns-3
 unfolding keeps
 returns-3 c =
-    let e = c .before .before .before in
-    rw (
-      ne-eqb _ 1 (e .before .if1 .left),
-      ne-eqb _ 8 (e .if2 .left),
-      ap isField (sym (c .before .before .field-at .ensures .0)) ∙ sym (c .before .is-field .ensures) ∙ not-true _ (c .if3 .taken),
-    )
+    let b = bytes-line (c .before .before .before) in
+    rw (b .0, b .1, tested (c .before) ∙ not-true _ (c .if3 .taken))
 
 is-keyed-requires : tie.Need-is-keyed-requires
 is-keyed-requires c κs = search needs
@@ -40,13 +45,9 @@ is-keyed-requires c κs = search needs
 returns-4 : tie.Need-returns-4
 unfolding keeps
 returns-4 c =
-    let e = c .before .before .before .before .before in
-    rw (
-      ne-eqb _ 1 (e .before .if1 .left),
-      ne-eqb _ 8 (e .if2 .left),
-      ap isField (sym (c .before .before .before .before .field-at .ensures .0)) ∙ sym (c .before .before .before .is-field .ensures) ∙ not-false _ (c .before .before .if3 .left),
-      sym (c .before .is-keyed .ensures) ∙ not-true _ (c .if4 .taken),
-    )
+    let k = c .before .before in
+    let b = bytes-line (k .before .before .before) in
+    rw (b .0, b .1, tested (k .before) ∙ not-false _ (k .if3 .left), sym (c .before .is-keyed .ensures) ∙ not-true _ (c .if4 .taken))
 
 key-length-requires : tie.Need-key-length-requires
 key-length-requires c κs = search needs
@@ -54,14 +55,10 @@ key-length-requires c κs = search needs
 returns-5 : tie.Need-returns-5
 unfolding keeps
 returns-5 c =
-    let k = c .before .before .before .before in
-    let e = k .before .before .before in
-    rw (
-      ne-eqb _ 1 (e .before .if1 .left),
-      ne-eqb _ 8 (e .if2 .left),
-      ap isField (sym (k .before .before .field-at .ensures .0)) ∙ sym (k .before .is-field .ensures) ∙ not-false _ (k .if3 .left),
-      sym (c .before .before .before .is-keyed .ensures) ∙ not-false _ (c .before .before .if4 .left),
-    )
+    let e = c .before .before in
+    let k = e .before .before in
+    let b = bytes-line (k .before .before .before) in
+    rw (b .0, b .1, tested (k .before) ∙ not-false _ (k .if3 .left), sym (e .before .is-keyed .ensures) ∙ not-false _ (e .if4 .left))
     (λ j. eqb (k .before .before .field-at .ensures .0 j .size) (c .before .key-length .ensures j))
 
 pub keeps-rule-spec : {M : Type 1} → statement M

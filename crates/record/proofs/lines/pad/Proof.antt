@@ -1,13 +1,12 @@
 -- `record::lines::pad` meets its contract.
 use mathlib.Core.Path.{_∙_}
 use mathlib.Core.List.{_++_}
-use Prim.Native.Nat.{_-_}
 use denote.Ref.{now}
 use lib.ListN.{length}
 use lib.Seq.{take-length}
 use borrow.Author.Needs.{needs}
 use borrow.Author.Tests.{le-leb, lt-leb}
-use Rattle.ascon.proofs.Strings.{drop-zeros}
+use Rattle.permutation.proofs.Strings.{drop-zeros}
 use Rattle.record.specs.Calls.{padded}
 use Rattle.record.proofs.lines.pad.Statement.{statement}
 use Rattle.record.proofs.lines.pad.Tie as tie

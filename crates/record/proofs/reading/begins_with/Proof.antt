@@ -10,8 +10,8 @@ use lib.ListN.{length, getD, take, drop, length-take}
 use lib.Seq.{getD-take, drop-length, length-take-le}
 use borrow.Author.Needs.{needs}
 use borrow.Author.Tests.{eq-eqb, ne-eqb}
-use Rattle.ascon.specs.Mode.{same}
-use Rattle.ascon.proofs.Strings.{same-eq, same-left}
+use Rattle.permutation.specs.Strings.{same}
+use Rattle.permutation.proofs.Strings.{same-eq, same-left}
 use Rattle.record.specs.Calls.{begins}
 use Rattle.record.proofs.reading.begins_with.Statement.{statement}
 use Rattle.record.proofs.reading.begins_with.Tie as tie
@@ -51,14 +51,15 @@ shared-slice-read-if2 c = search needs
 shared-slice-read-if2-2 : tie.Need-shared-slice-read-if2-2 Inv-loop μ-loop
 shared-slice-read-if2-2 c = omega arith
 
+-- the bytes of a turn, and the rest, decide
+turn-decides : (c : tie.In-loop Inv-loop μ-loop) → let i = c .before .loop .i in
+    let start = now (c .before .before .before .args .start) in
+    let text = now (c .before .before .before .args .text) in
+    (eqb (getD start i 0) (getD text i 0) && same (drop (i + 1) start) (drop (i + 1) (take (length start) text))) ≡ begins start text
+turn-decides c = sym (left _ _ _ (c .loop-test .taken) (c .before .before .if1 .left)) ∙ c .before .loop .inv .1
+
 returns-2 : tie.Need-returns-2 Inv-loop μ-loop
-returns-2 c =
-    let l = c .before .before .before .before .loop in
-    let a = c .before .before .before .before .before .before .args in
-    sym
-    (sym (l .inv .1)
-    ∙ left (now (a .start)) (now (a .text)) (l .i) (c .before .before .before .loop-test .taken) (c .before .before .before .before .before .if1 .left)
-    ∙ rw (ne-eqb (getD (now (a .start)) (l .i) 0) (getD (now (a .text)) (l .i) 0) (c .if2 .taken)))
+returns-2 c = rw (ne-eqb _ _ (c .if2 .taken)) at (turn-decides (c .before .before .before))
 
 add-i : tie.Need-add-i Inv-loop μ-loop
 add-i c = search needs
@@ -67,15 +68,7 @@ loop-less : tie.Need-loop-less Inv-loop μ-loop
 loop-less c = search needs
 
 loop-again : tie.Need-loop-again Inv-loop μ-loop
-loop-again c =
-    let l = c .before .before .before .before .loop in
-    let a = c .before .before .before .before .before .before .args in (
-      omega arith,
-      sym
-          (left (now (a .start)) (now (a .text)) (l .i) (c .before .before .before .loop-test .taken) (c .before .before .before .before .before .if1 .left)
-          ∙ rw (eq-eqb (getD (now (a .start)) (l .i) 0) (getD (now (a .text)) (l .i) 0) (c .if2 .left)))
-          ∙ l .inv .1,
-    )
+loop-again c = (omega arith, rw (eq-eqb _ _ (c .if2 .left)) at (turn-decides (c .before .before .before)))
 
 returns-3 : tie.Need-returns-3 Inv-loop μ-loop
 returns-3 c =

@@ -65,6 +65,38 @@ Inv-loop text entry₀ at₀ line₀ entry at line = Left text entry at line
 abbrev μ-loop : tie.MeasureT-loop
 μ-loop text entry₀ at₀ line₀ entry at line = 9 - line
 
+-- the text, seen from a line begun
+abbrev content : tie.At-loop Inv-digits μ-digits Inv-loop μ-loop → List ℕ
+content c = now (c .before .before .before .args .text)
+
+-- the line begun, seen from its name
+abbrev begun : tie.After-take-name Inv-digits μ-digits Inv-loop μ-loop → tie.At-loop Inv-digits μ-digits Inv-loop μ-loop
+begun c = c .before .before .before
+
+-- where its digits begin
+abbrev from : tie.After-take-name Inv-digits μ-digits Inv-loop μ-loop → ℕ
+from c = begun c .loop .at + c .take-name .result
+
+-- the name, seen from the walk over the digits
+abbrev name : tie.At-digits Inv-digits μ-digits Inv-loop μ-loop → tie.After-take-name Inv-digits μ-digits Inv-loop μ-loop
+name c = c .before .before
+
+-- the walk, seen from its turn's end
+abbrev walking : tie.Else3 Inv-digits μ-digits Inv-loop μ-loop → tie.At-digits Inv-digits μ-digits Inv-loop μ-loop
+walking c = c .before .before .before .before
+
+-- the walk, seen from the look for a line feed
+abbrev walk : tie.After-feed-at Inv-digits μ-digits Inv-loop μ-loop → tie.At-digits Inv-digits μ-digits Inv-loop μ-loop
+walk c = c .before .before
+
+-- that look, seen from the value
+abbrev look : tie.After-read-line Inv-digits μ-digits Inv-loop μ-loop → tie.After-feed-at Inv-digits μ-digits Inv-loop μ-loop
+look c = c .before .before .before
+
+-- the value, seen from the record that has it
+abbrev value : tie.After-entry Inv-digits μ-digits Inv-loop μ-loop → tie.After-read-line Inv-digits μ-digits Inv-loop μ-loop
+value c = c .before .before .before
+
 no-record-requires : tie.Need-no-record-requires Inv-digits μ-digits Inv-loop μ-loop
 no-record-requires c κs = search needs
 
@@ -90,19 +122,18 @@ take-name-requires : tie.Need-take-name-requires Inv-digits μ-digits Inv-loop �
 take-name-requires c κs = search needs
 
 -- the name that was taken
-name-there : (c : tie.After-take-name Inv-digits μ-digits Inv-loop μ-loop) → let l = c .before .before .before .loop in
-    nameTaken (l .line) (drop (l .at) (now (c .before .before .before .before .before .before .args .text))) ≡ c .take-name .result
+name-there : (c : tie.After-take-name Inv-digits μ-digits Inv-loop μ-loop) →
+    nameTaken (begun c .loop .line) (drop (begun c .loop .at) (content (begun c))) ≡ c .take-name .result
 name-there c =
-    let l = c .before .before .before .loop in
-    let text = now (c .before .before .before .before .before .before .args .text) in
+    let l = begun c .loop in
+    let text = content (begun c) in
     sym (c .take-name .ensures ∙ ap (nameTaken (l .line)) (take-all (length text - l .at) (drop (l .at) text) (omega (arith, length-drop (l .at) text))))
 
 -- is in the text
-name-ends : (c : tie.After-take-name Inv-digits μ-digits Inv-loop μ-loop) →
-    c .before .before .before .loop .at + c .take-name .result ≤ length (now (c .before .before .before .before .before .before .args .text))
+name-ends : (c : tie.After-take-name Inv-digits μ-digits Inv-loop μ-loop) → from c ≤ length (content (begun c))
 name-ends c =
-    let l = c .before .before .before .loop in
-    let text = now (c .before .before .before .before .before .before .args .text) in
+    let l = begun c .loop in
+    let text = content (begun c) in
     omega (arith, name-there c, name-inside (l .line) (drop (l .at) text), length-drop (l .at) text, l .inv .inside)
 
 add-from : tie.Need-add-from Inv-digits μ-digits Inv-loop μ-loop
@@ -126,18 +157,16 @@ digits-less c = omega arith
 
 digits-again : tie.Need-digits-again Inv-digits μ-digits Inv-loop μ-loop
 digits-again c =
-    let d = c .before .before .before .before .digits in
-    let text = now (c .before .before .before .before .before .before .before .before .before .before .before .before .args .text) in
-    let e = run-digit text (d .end) (c .before .before .before .digits-test .taken) (sym (c .before .is-digit .ensures) ∙ not-false _ (c .if3 .left)) in
+    let d = walking c .digits in
+    let e = run-digit (content (begun (name (walking c)))) (d .end) (c .before .before .before .digits-test .taken) (sym (c .before .is-digit .ensures) ∙ not-false _ (c .if3 .left)) in
     record { begun = omega (arith, d .inv .begun); inside = omega arith; rest = omega (arith, d .inv .rest, e) }
 
 -- where the walk ended
-walked : (c : tie.Left-digits Inv-digits μ-digits Inv-loop μ-loop) → let t = c .before .before .before in
-    let from = t .before .before .before .loop .at + t .take-name .result in
-    c .before .digits .end ≡ from + length (run (drop from (now (t .before .before .before .before .before .before .args .text))))
+walked : (c : tie.Left-digits Inv-digits μ-digits Inv-loop μ-loop) → let t = name (c .before) in
+    c .before .digits .end ≡ from t + length (run (drop (from t) (content (begun t))))
 walked c =
     let d = c .before .digits in
-    let text = now (c .before .before .before .before .before .before .before .before .before .args .text) in
+    let text = content (begun (name (c .before))) in
     ⊎-elim
     (λ w. omega (arith, d .inv .rest, ap (λ (x : List ℕ). length (run x)) (drop-of-length-le text {i = d .end} (w .left))))
     (λ w. omega (arith, d .inv .rest, run-other text (d .end) (w .0 .taken) (sym (w .2 .ensures) ∙ not-true _ (w .3 .taken))))
@@ -155,83 +184,73 @@ part-read-line-start c = search needs
 part-read-line-end : tie.Need-part-read-line-end Inv-digits μ-digits Inv-loop μ-loop
 part-read-line-end c = search needs
 
+-- what the digits are as the line's value
+abbrev valued : tie.After-take-name Inv-digits μ-digits Inv-loop μ-loop → Option Record
+valued c = let l = begun c .loop in valueRead (l .line) (l .entry) (run (drop (from c) (content (begun c))))
+
 -- the line by its line feed
-line-is : (c : tie.After-feed-at Inv-digits μ-digits Inv-loop μ-loop) → (c .before .before .before .before .take-name .result ≡ 0 → ⊥)
-    → let t = c .before .before .before .before in
-    let l = t .before .before .before .loop in
-    let text = now (t .before .before .before .before .before .before .args .text) in
-    lineRead (l .line) (l .entry) (drop (l .at) text)
-    ≡ cond (c .feed-at .result)
-    (sized (c .before .before .digits .end + 1 - l .at) (valueRead (l .line) (l .entry) (run (drop (l .at + t .take-name .result) text)))) none
+line-is : (c : tie.After-feed-at Inv-digits μ-digits Inv-loop μ-loop) → let t = name (walk c) in
+    let l = begun t .loop in
+    (t .take-name .result ≡ 0 → ⊥) → lineRead (l .line) (l .entry) (drop (l .at) (content (begun t)))
+    ≡ cond (c .feed-at .result) (sized (walk c .digits .end + 1 - l .at) (valued t)) none
 line-is c h =
-    let t = c .before .before .before .before in
-    let l = t .before .before .before .loop in
-    let text = now (t .before .before .before .before .before .before .args .text) in
-    named (l .line) (l .at) (t .take-name .result) (c .before .before .digits .end) (l .entry) text (name-there t) h (walked (c .before))
-    ∙ ap
-    (λ (b : Bool). cond b (sized (c .before .before .digits .end + 1 - l .at) (valueRead (l .line) (l .entry) (run (drop (l .at + t .take-name .result) text)))) none)
-    (sym (c .feed-at .ensures))
+    let t = name (walk c) in
+    let l = begun t .loop in
+    let end = walk c .digits .end in
+    named (l .line) (l .at) (t .take-name .result) end (l .entry) (content (begun t)) (name-there t) h (walked (c .before))
+    ∙ ap (λ (b : Bool). cond b (sized (end + 1 - l .at) (valued t)) none) (sym (c .feed-at .ensures))
 
 -- the digits that were read
-value-is : (c : tie.After-read-line Inv-digits μ-digits Inv-loop μ-loop) → let f = c .before .before .before in
-    let t = f .before .before .before .before in
-    let l = t .before .before .before .loop in
-    c .read-line .result
-    ≡ takenAs (valueRead (l .line) (l .entry) (run (drop (l .at + t .take-name .result) (now (t .before .before .before .before .before .before .args .text)))))
+value-is : (c : tie.After-read-line Inv-digits μ-digits Inv-loop μ-loop) → c .read-line .result ≡ takenAs (valued (name (walk (look c))))
 value-is c =
-    let f = c .before .before .before in
-    let t = f .before .before .before .before in
-    let l = t .before .before .before .loop in
-    let d = f .before .before .digits in
-    let text = now (t .before .before .before .before .before .before .args .text) in
-    let from = l .at + t .take-name .result in
-    let size : d .end - from ≡ length (run (drop from text)) = omega (arith, walked (f .before)) in
+    let d = walk (look c) in
+    let t = name d in
+    let l = begun t .loop in
+    let rest = drop (from t) (content (begun t)) in
+    let size : d .digits .end - from t ≡ length (run rest) = omega (arith, walked (look c .before)) in
     c .read-line .ensures
-    ∙ ap (λ (x : List ℕ). takenAs (valueRead (l .line) (l .entry) x)) (ap (λ (n : ℕ). take n (drop from text)) size ∙ take-run (drop from text))
+    ∙ ap (λ (x : List ℕ). takenAs (valueRead (l .line) (l .entry) x)) (ap (λ (n : ℕ). take n rest) size ∙ take-run rest)
 
 read-line-requires : tie.Need-read-line-requires Inv-digits μ-digits Inv-loop μ-loop
 read-line-requires c κs = search needs
 
 -- the line feed is in the text
-feed-stands : (c : tie.Else4 Inv-digits μ-digits Inv-loop μ-loop) →
-    c .before .before .before .digits .end < length (now (c .before .before .before .before .before .before .before .before .before .before .before .args .text))
-feed-stands c =
-    feed-inside (now (c .before .before .before .before .before .before .before .before .before .before .before .args .text)) (c .before .before .before .digits .end)
-    (sym (c .before .feed-at .ensures) ∙ not-false _ (c .if4 .left))
+feed-stands : (c : tie.Else4 Inv-digits μ-digits Inv-loop μ-loop) → let d = walk (c .before) in d .digits .end < length (content (begun (name d)))
+feed-stands c = feed-inside (content (begun (name (walk (c .before))))) _ (sym (c .before .feed-at .ensures) ∙ not-false _ (c .if4 .left))
 
 add-at : tie.Need-add-at Inv-digits μ-digits Inv-loop μ-loop
 add-at c =
-    record { fits = omega (arith, feed-stands (c .before .before .before .before .before), c .before .before .before .before .before .before .before .before .before .before .before .before .before .before .before .before .good .0 .0) }
+    let v = value c in
+    record { fits = omega (arith, feed-stands (v .before .before), begun (name (walk (look v))) .before .before .before .good .0 .0) }
 
 add-line : tie.Need-add-line Inv-digits μ-digits Inv-loop μ-loop
 add-line c = search needs
 
 loop-less : tie.Need-loop-less Inv-digits μ-digits Inv-loop μ-loop
-loop-less c = omega (arith, c .before .before .before .before .before .before .before .before .before .before .before .before .before .loop .inv .last)
+loop-less c = omega (arith, begun (name (walk (look (value c)))) .loop .inv .last)
 
 loop-again : tie.Need-loop-again Inv-digits μ-digits Inv-loop μ-loop
 loop-again c =
-    let v = c .before .before .before in
+    let v = value c in
     let e = v .before .before in
-    let f = e .before in
-    let t = f .before .before .before .before in
-    let l = t .before .before .before .loop in
-    let text = now (t .before .before .before .before .before .before .args .text) in
-    let x = valueRead (l .line) (l .entry) (run (drop (l .at + t .take-name .result) text)) in
-    let given : x ≡ some (v .read-line .result .content) = taken-is x (v .read-line .result) (value-is v) (not-false _ (c .before .if5 .left)) in
-    read-on text (l .entry) (v .read-line .result .content) (l .at) (l .line) (f .before .before .digits .end) (l .inv) (t .before .before .if1 .left)
-    (omega (arith, f .before .before .digits .inv .begun)) (feed-stands e)
-    (line-is f (f .before .before .before .if2 .left) ∙ rw (not-false (f .feed-at .result) (e .if4 .left), given))
+    let f = look v in
+    let d = walk f in
+    let t = name d in
+    let l = begun t .loop in
+    let given : valued t ≡ some (v .read-line .result .content) = taken-is (valued t) (v .read-line .result) (value-is v) (not-false _ (c .before .if5 .left)) in
+    read-on (content (begun t)) (l .entry) (v .read-line .result .content) (l .at) (l .line) (d .digits .end) (l .inv) (t .before .before .if1 .left)
+    (omega (arith, d .digits .inv .begun)) (feed-stands e)
+    (line-is f (d .before .if2 .left) ∙ (λ j. cond (not-false (f .feed-at .result) (e .if4 .left) j) (sized (d .digits .end + 1 - l .at) (given j)) none))
 
 refusal-requires : tie.Need-refusal-requires Inv-digits μ-digits Inv-loop μ-loop
 refusal-requires c κs = search needs
 
 -- how the loop ended: after the last line, or at a line that refuses
 ended : (c : tie.Joined1 Inv-digits μ-digits Inv-loop μ-loop) → let l = c .before .loop in
-    ((c .if1 .bad ≡ 0) × (l .line ≡ 9)) ⊎ ((c .if1 .bad ≡ l .line) × (refusedAt (l .line) ≡ readCall (now (c .before .before .before .before .args .text))))
+    ((c .if1 .bad ≡ 0) × (l .line ≡ 9)) ⊎ ((c .if1 .bad ≡ l .line) × (refusedAt (l .line) ≡ readCall (content (c .before))))
 ended c =
     let l = c .before .loop in
-    let text = now (c .before .before .before .before .args .text) in
+    let text = content (c .before) in
     ⊎-elim (λ w. inl (w .1, w .0 .taken))
     (⊎-elim
     (λ w.
@@ -240,46 +259,19 @@ ended c =
     inr (w .4, refused text (l .entry) (l .at) (l .line) (l .inv) (w .0 .left) (no-name (l .line) (l .at) (l .entry) text (name-there t ∙ w .3 .taken))))
     (⊎-elim
     (λ w.
+    let t : tie.After-take-name Inv-digits μ-digits Inv-loop μ-loop =
+    record { before = record { before = record { before = c .before; if1 = w .0 }; take-name-arg = w .1 }; take-name = w .2 } in
     let f : tie.After-feed-at Inv-digits μ-digits Inv-loop μ-loop =
-    record {
-      before =
-          record {
-            before =
-                record {
-                  before =
-                      record {
-                        before = record { before = record { before = record { before = c .before; if1 = w .0 }; take-name-arg = w .1 }; take-name = w .2 };
-                        if2 = w .3;
-                      };
-                  digits = w .4;
-                };
-            digits-test = w .5;
-          };
-      feed-at = w .6;
-    } in
+    record { before = record { before = record { before = record { before = t; if2 = w .3 }; digits = w .4 }; digits-test = w .5 }; feed-at = w .6 } in
     inr (w .8, refused text (l .entry) (l .at) (l .line) (l .inv) (w .0 .left) (line-is f (w .3 .left) ∙ rw (not-true (w .6 .result) (w .7 .taken)))))
     (λ w.
+    let t : tie.After-take-name Inv-digits μ-digits Inv-loop μ-loop =
+    record { before = record { before = record { before = c .before; if1 = w .0 }; take-name-arg = w .1 }; take-name = w .2 } in
     let f : tie.After-feed-at Inv-digits μ-digits Inv-loop μ-loop =
-    record {
-      before =
-          record {
-            before =
-                record {
-                  before =
-                      record {
-                        before = record { before = record { before = record { before = c .before; if1 = w .0 }; take-name-arg = w .1 }; take-name = w .2 };
-                        if2 = w .3;
-                      };
-                  digits = w .4;
-                };
-            digits-test = w .5;
-          };
-      feed-at = w .6;
-    } in
+    record { before = record { before = record { before = record { before = t; if2 = w .3 }; digits = w .4 }; digits-test = w .5 }; feed-at = w .6 } in
     let v : tie.After-read-line Inv-digits μ-digits Inv-loop μ-loop =
     record { before = record { before = record { before = f; if4 = w .7 }; read-line-arg = w .8 }; read-line = w .9 } in
-    let x = valueRead (l .line) (l .entry) (run (drop (l .at + w .2 .result) text)) in
-    let missing : x ≡ none = not-taken-is x (w .9 .result) (value-is v) (not-true _ (w .11 .taken)) in
+    let missing : valued t ≡ none = not-taken-is (valued t) (w .9 .result) (value-is v) (not-true _ (w .11 .taken)) in
     inr (w .12, refused text (l .entry) (l .at) (l .line) (l .inv) (w .0 .left) (line-is f (w .3 .left) ∙ rw (not-false (w .6 .result) (w .7 .left), missing))))))
     (c .if1 .came)
 
@@ -293,7 +285,7 @@ returns-2 : tie.Need-returns-2 Inv-digits μ-digits Inv-loop μ-loop
 returns-2 c =
     let j = c .before in
     let l = j .before .loop in
-    let text = now (j .before .before .before .before .args .text) in
+    let text = content (j .before) in
     ⊎-elim (λ w. ap (λ (line : ℕ). readFrom (9 - line) line (l .at) (l .entry) text) (sym (w .1)) ∙ l .inv .rest)
     (λ w. absurd (omega (arith, w .0, c .if6 .left, l .inv .first)))
     (ended j)

@@ -5,7 +5,7 @@ use mathlib.Core.Option.{Option, some, none}
 use denote.Ref.{now}
 use borrow.Author.Needs.{needs}
 use borrow.Author.Tests.{not-true, not-false}
-use Rattle.digits.specs.Hex.{bytesOf}
+use Rattle.digits.specs.Hex.{fromHex}
 use Rattle.record.specs.declared.field.Field.{Field}
 use Rattle.record.specs.declared.field.Spelled.{Spelled}
 use Rattle.record.specs.declared.lines.Record.{Record}
@@ -31,7 +31,7 @@ not-taken-requires c κs = search needs
 returns : tie.Need-returns
 returns c =
     let e = c .before .before .before in
-    rw (none-is (fitted (bytesOf (now (e .before .before .args .text)))) (e .read-field .result) (e .read-field .ensures) (not-true _ (c .before .if1 .taken))) (c .not-taken .ensures)
+    rw (none-is (fitted (fromHex (now (e .before .before .args .text)))) (e .read-field .result) (e .read-field .ensures) (not-true _ (c .before .if1 .taken))) (c .not-taken .ensures)
 
 with-field-requires : tie.Need-with-field-requires
 with-field-requires c κs = search needs
@@ -43,7 +43,7 @@ returns-2 : tie.Need-returns-2
 returns-2 c =
     let e = c .before .before .before .before .before in
     let line = e .before .before .args .line in
-    rw (some-is (fitted (bytesOf (now (e .before .before .args .text)))) (e .read-field .result) (e .read-field .ensures) (not-false _ (c .before .before .before .if1 .left)))
+    rw (some-is (fitted (fromHex (now (e .before .before .args .text)))) (e .read-field .result) (e .read-field .ensures) (not-false _ (c .before .before .before .if1 .left)))
     (c .keep .ensures ∙ ap (λ (r : Record). takenAs (kept line (some r))) (c .before .with-field .ensures))
 
 pub take-field-spec : {M : Type 1} → statement M

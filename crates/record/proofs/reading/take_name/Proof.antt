@@ -24,17 +24,21 @@ slice-aggregate-begins-with c =
 begins-with-requires : tie.Need-begins-with-requires
 begins-with-requires c κs = search needs
 
+-- the name, seen from the test
+abbrev named : tie.After-begins-with → tie.After-name-of
+named c = c .before .before .before
+
 -- the test is the definition's
-tested : (c : tie.After-begins-with) → let a = c .before .before .before .before .before .args in c .begins-with .result ≡ begins (name (a .line)) (now (a .text))
+tested : (c : tie.After-begins-with) → let a = named c .before .before .args in c .begins-with .result ≡ begins (name (a .line)) (now (a .text))
 tested c =
-    let a = c .before .before .before .before .before .args in
-    let n = c .before .before .before .name-of in
+    let a = named c .before .before .args in
+    let n = named c .name-of in
     c .begins-with .ensures ∙ ap (λ (x : List ℕ). begins x (now (a .text))) (name-of-padded (a .line) (n .result) (n .ensures) .1)
 
 returns : tie.Need-returns
 unfolding nameTaken
 returns c =
-    let n = c .before .before .before .before .name-of in
+    let n = named (c .before) .name-of in
     rw (sym (tested (c .before)) ∙ c .if1 .taken) (name-of-padded _ (n .result) (n .ensures) .0)
 
 returns-2 : tie.Need-returns-2

@@ -1,9 +1,9 @@
 -- `record::writing::put_line` meets its contract.
 use mathlib.Core.Path.{_≡_, sym, ap₂, _∙_}
 use mathlib.Core.List.{List}
-use Prim.Native.Nat.{ℕ, _≤_}
+use Prim.Native.Nat.{ℕ}
 use denote.Ref.{now}
-use lib.ListN.{length, take}
+use lib.ListN.{take}
 use lib.Seq.{length-take-le, take-append-seam}
 use borrow.Author.Needs.{needs}
 use Rattle.digits.specs.Room.{lineOf, put}
@@ -13,6 +13,18 @@ use Rattle.record.proofs.Names.{name-in-places, name-of-padded}
 use Rattle.record.proofs.Bounds.{value-most}
 use Rattle.record.proofs.writing.put_line.Statement.{statement}
 use Rattle.record.proofs.writing.put_line.Tie as tie
+
+-- the entry, seen from the name
+abbrev entry : tie.After-name-of → tie.Start
+entry c = c .before .before
+
+-- the name, seen from the value put
+abbrev named : tie.After-put-value → tie.After-name-of
+named c = c .before .before .before
+
+-- the value put, seen from the line put
+abbrev valued : tie.After-put-line → tie.After-put-value
+valued c = c .before .before .before .before .before
 
 name-of-requires : tie.Need-name-of-requires
 name-of-requires c κs = search needs
@@ -24,11 +36,11 @@ put-value-requires : tie.Need-put-value-requires
 put-value-requires c κs = search needs
 
 array-share-prefix-bytes : tie.Need-array-share-prefix-bytes
-array-share-prefix-bytes c = name-in-places _ _ (c .before .before .before .before .name-of .ensures)
+array-share-prefix-bytes c = name-in-places _ _ (named (c .before) .name-of .ensures)
 
 slice-aggregate-put-line : tie.Need-slice-aggregate-put-line
 slice-aggregate-put-line c =
-    let n = c .before .before .before .before .before .name-of in sym (length-take-le (n .result .size) (n .result .bytes) (name-in-places _ _ (n .ensures)))
+    let n = named (c .before .before) .name-of in sym (length-take-le (n .result .size) (n .result .bytes) (name-in-places _ _ (n .ensures)))
 
 array-share-prefix-value : tie.Need-array-share-prefix-value
 array-share-prefix-value c = put-inside _ _ _ _ (c .before .before .put-value .ensures) .0
@@ -43,19 +55,22 @@ put-line-requires c κs = search needs
 same-length : tie.Need-same-length
 same-length c = search needs
 
+-- the value put is the line's
+value-put : (c : tie.After-put-value) → let a = entry (named c) .args in take (c .put-value .result) (c .put-value .last .1 .1 .0) ≡ valueText (a .line) (a .entry)
+value-put c =
+    let s = entry (named c) in
+    let value = valueText (s .args .line) (s .args .entry) in
+    let whole = put-count value _ _ _ (c .put-value .ensures) (value-most (s .args .line) (s .pre .1 .0) (s .pre .1 .1) (s .args .entry) (s .pre .0)) in
+    ap₂ take (whole .0) (whole .1) ∙ take-append-seam value _
+
 returns : tie.Need-returns
 unfolding lineText
 returns c =
-    let s = c .before .before .before .before .before .before .before .before .before .before .before .before in
-    let a = s .args in
-    let n = c .before .before .before .before .before .before .before .before .before .before .name-of in
-    let v = c .before .before .before .before .before .before .before .put-value in
-    let value = valueText (a .line) (a .entry) in
-    let most : length value ≤ 512 = value-most (a .line) (s .pre .1 .0) (s .pre .1 .1) (a .entry) (s .pre .0) in
-    let put-whole = put-count value _ (v .last .1 .1 .0) (v .result) (v .ensures) most in
-    let digits : take (v .result) (v .last .1 .1 .0) ≡ value = ap₂ take (put-whole .0) (put-whole .1) ∙ take-append-seam value _ in
-    c .before .before .put-line .ensures
-    ∙ ap₂ (λ (x y : List ℕ). put (lineOf x y) (now (a .place))) (name-of-padded (a .line) (n .result) (n .ensures) .1) digits
+    let p = c .before .before in
+    let n = named (valued p) in
+    let a = entry n .args in
+    p .put-line .ensures
+    ∙ ap₂ (λ (x y : List ℕ). put (lineOf x y) (now (a .out))) (name-of-padded (a .line) (n .name-of .result) (n .name-of .ensures) .1) (value-put (valued p))
 
 pub put-line-spec : {M : Type 1} → statement M
 put-line-spec =

@@ -8,16 +8,17 @@ use lib.ListN.{length}
 use borrow.Author.Tests.{not-true, not-false}
 use Rattle.answers.specs.Numbers.{isDone}
 use Rattle.answers.specs.declared.Answer.the-variants.{Done}
+use Rattle.ascon.specs.Sets.{adLimit}
 use Rattle.sets.proofs.Rows.{row-sizes}
-use Rattle.stream.specs.State.{isData}
-use Rattle.stream.specs.Calls.{pieceTest, dataCall}
+use Rattle.stream.specs.State.{isAd}
+use Rattle.stream.specs.Calls.{pieceTest, adCall}
 use Rattle.stream.proofs.Tests.{PiecePassed, piece-passed}
 use borrow.Author.Needs.{needs}
 use Rattle.stream.proofs.Stream.ad.Statement.{statement}
 use Rattle.stream.proofs.Stream.ad.Tie as tie
 
-is-data-requires : tie.Need-is-data-requires
-is-data-requires c κs = search needs
+is-ad-requires : tie.Need-is-ad-requires
+is-ad-requires c κs = search needs
 
 piece-test-requires : tie.Need-piece-test-requires
 piece-test-requires c κs = search needs
@@ -30,23 +31,23 @@ refusal-requires c κs = search needs
 
 -- the tests, by their definition
 tested : (c : tie.After-piece-test) → let a = c .before .before .before .args in
-    c .piece-test .result ≡ pieceTest (a .self) (isData (a .self .phase)) (a .self .ad) (length (now (a .piece))) 65_536
+    c .piece-test .result ≡ pieceTest (a .self) (isAd (a .self .phase)) (a .self .ad) (length (now (a .piece))) adLimit
 tested c =
     let a = c .before .before .before .args in
-    c .piece-test .ensures ∙ ap (λ (fits : Bool). pieceTest (a .self) fits (a .self .ad) (length (now (a .piece))) 65_536) (c .before .is-data .ensures)
+    c .piece-test .ensures ∙ ap (λ (fits : Bool). pieceTest (a .self) fits (a .self .ad) (length (now (a .piece))) adLimit) (c .before .is-ad .ensures)
 
 returns : tie.Need-returns
-unfolding dataCall
+unfolding adCall
 returns c =
     let b = c .before .before in
     c .refusal .ensures ∙ rw (← tested (b .before), sym (b .is-done .ensures) ∙ not-true _ (c .before .if1 .taken))
 
 -- what the passed tests say
 passed : (c : tie.Else1) → let s = c .before .before .before .before .before in
-    PiecePassed (s .args .self) (isData (s .args .self .phase)) (s .args .self .ad) (length (now (s .args .piece))) 65_536
+    PiecePassed (s .args .self) (isAd (s .args .self .phase)) (s .args .self .ad) (length (now (s .args .piece))) adLimit
 passed c =
     let s = c .before .before .before .before .before in
-    piece-passed (s .args .self) (isData (s .args .self .phase)) (s .args .self .ad) (length (now (s .args .piece))) 65_536
+    piece-passed (s .args .self) (isAd (s .args .self .phase)) (s .args .self .ad) (length (now (s .args .piece))) adLimit
     (ap isDone (sym (tested (c .before .before))) ∙ sym (c .before .is-done .ensures) ∙ not-false _ (c .if1 .left))
 
 absorb-requires : tie.Need-absorb-requires
@@ -65,7 +66,7 @@ rem-place : tie.Need-rem-place
 rem-place c = rw (c .block-length .ensures) (row-sizes _ .some-block)
 
 returns-2 : tie.Need-returns-2
-unfolding dataCall
+unfolding adCall
 returns-2 c =
     let e = c .before .before .before .before .before in
     let s = e .before .before .before .before .before in
@@ -91,7 +92,7 @@ pub ad-spec : {M : Type 1} → statement M
 ad-spec =
     tie.close
     (tie.spec
-    is-data-requires
+    is-ad-requires
     piece-test-requires
     is-done-requires
     refusal-requires

@@ -6,17 +6,17 @@ use Rattle.stream.specs.Calls.{closingRounds}
 use Rattle.stream.proofs.Stream.closing_rounds.Statement.{statement}
 use Rattle.stream.proofs.Stream.closing_rounds.Tie as tie
 
-is-data-requires : tie.Need-is-data-requires
-is-data-requires c κs = search needs
+is-ad-requires : tie.Need-is-ad-requires
+is-ad-requires c κs = search needs
 
 returns : tie.Need-returns
 unfolding closingRounds
-returns c = rw (sym (c .before .is-data .ensures) ∙ not-true _ (c .if1 .taken))
+returns c = rw (sym (c .before .is-ad .ensures) ∙ not-true _ (c .if1 .taken))
 
 returns-2 : tie.Need-returns-2
 unfolding closingRounds
 returns-2 c =
-    rw (sym (c .before .before .before .is-data .ensures) ∙ not-false _ (c .before .before .if1 .left), eq-eqb _ 0 (c .if2 .taken))
+    rw (sym (c .before .before .before .is-ad .ensures) ∙ not-false _ (c .before .before .if1 .left), eq-eqb _ 0 (c .if2 .taken))
 
 rounds-between-requires : tie.Need-rounds-between-requires
 rounds-between-requires c κs = search needs
@@ -24,8 +24,8 @@ rounds-between-requires c κs = search needs
 returns-3 : tie.Need-returns-3
 unfolding closingRounds
 returns-3 c =
-    rw (sym (c .before .before .before .before .is-data .ensures) ∙ not-false _ (c .before .before .before .if1 .left), ne-eqb _ 0 (c .before .if2 .left))
+    rw (sym (c .before .before .before .before .is-ad .ensures) ∙ not-false _ (c .before .before .before .if1 .left), ne-eqb _ 0 (c .before .if2 .left))
     (c .rounds-between .ensures)
 
 pub closing-rounds-spec : {M : Type 1} → statement M
-closing-rounds-spec = tie.close (tie.spec is-data-requires returns returns-2 rounds-between-requires returns-3)
+closing-rounds-spec = tie.close (tie.spec is-ad-requires returns returns-2 rounds-between-requires returns-3)

@@ -10,15 +10,15 @@ use borrow.Author.Needs.{needs}
 use borrow.Author.Tests.{not-true, not-false}
 use Rattle.answers.specs.declared.Answer.the-variants.{Done}
 use Rattle.answers.specs.Numbers.{isDone}
-use Rattle.permutation.specs.Strings.{wordsOfString}
+use Rattle.permutation.specs.Strings.{wordsOfString, zeros}
 use Rattle.ascon.specs.Sets.{rowOf}
-use Rattle.ascon.specs.Mode.{zeros, initialise}
+use Rattle.ascon.specs.Mode.{initialise}
 use Rattle.sponge.specs.Sponge.{started}
 use Rattle.tags.proofs.Compared.{sixteen-is}
 use Rattle.sets.proofs.Rows.{row-sizes}
-use Rattle.stream.specs.declared.Phase.the-variants.{Data}
+use Rattle.stream.specs.declared.Phase.the-variants.{Ad}
 use Rattle.stream.specs.Calls.{refused, startCall}
-use Rattle.stream.proofs.Tests.{StartPassed, start-passed}
+use Rattle.sets.proofs.Start.{StartPassed, start-passed}
 use Rattle.stream.proofs.Stream.start.Statement.{statement}
 use Rattle.stream.proofs.Stream.start.Tie as tie
 
@@ -81,7 +81,7 @@ returns-2 c =
     (λ j. record {
       answer = Done;
       rounds = 12;
-      next = record { words = words j; set = a .set; direction = a .direction; phase = Data; key = k j; ad = 0; text = 0; place = 0 };
+      next = record { words = words j; set = a .set; direction = a .direction; phase = Ad; key = k j; ad = 0; text = 0; place = 0 };
     })
 
 pub start-spec : {M : Type 1} → statement M

@@ -6,7 +6,7 @@ use lib.ListN.{take}
 use lib.Seq.{take-at}
 use borrow.Author.Needs.{needs}
 use Rattle.ascon.specs.Sets.{rowOf}
-use Rattle.ascon.specs.Mode.{zeros}
+use Rattle.permutation.specs.Strings.{zeros}
 use Rattle.sponge.specs.Sponge.{tagOf}
 use Rattle.stream.proofs.Stream.tag16.Statement.{statement}
 use Rattle.stream.proofs.Stream.tag16.Tie as tie

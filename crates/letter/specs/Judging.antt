@@ -1,0 +1,98 @@
+-- The verdict on a record, its report and the step of the bench: all that is said of their calls.
+use mathlib.Core.Path.{_≡_}
+use mathlib.Core.Bool.{Bool}
+use mathlib.Core.List.{List, _++_}
+use mathlib.Core.Logic.{_⊎_}
+use Prim.Native.Nat.{ℕ, _+_, _-_}
+use lib.ListN.{length, drop}
+use Rattle.answers.specs.declared.Answer.the-variants.{Done}
+use Rattle.answers.specs.Order.{first}
+use Rattle.record.specs.declared.lines.Record.{Record}
+use Rattle.record.specs.declared.reading.Reading.{Reading}
+use Rattle.report.specs.declared.Verdict.{Verdict}
+use Rattle.report.specs.declared.Verdict.the-variants.{Equal}
+use Rattle.report.specs.Reports.{reportText, ReportLeaves, reportLeaves, reportFaults, reportCall}
+use Rattle.judge.specs.declared.stepping.Step.the-variants.{Judged, Wait, End, Short}
+use Rattle.judge.specs.Tail.{tailOf}
+use Rattle.judge.specs.Verdicts.{verdictOn, differences}
+use Rattle.judge.specs.Steps.{verdictRead, StepLeaves, stepLeaves, stepChoices, stepCall}
+use Rattle.report.proofs as report-crate
+use Rattle.judge.proofs as judge-crate
+use Rattle.letter.specs.Calls.{Answered, Lent, holding, Leaves, Gives, Refused}
+
+-- a part of a text: its bytes, and where it begins in memory
+pub record Part : Type 0 where
+  pub bytes : List ℕ
+  pub block : ℕ
+  pub offset : ℕ
+
+-- of a slice
+abbrev pub partOf : Lent → Part
+partOf x = record { bytes = x .now; block = x .ptr .0; offset = x .ptr .1 }
+
+-- the difference tail, at the end of the found text itself
+abbrev pub tailPart : Lent → Lent → Part
+tailPart wanted found =
+    let tail = tailOf (wanted .now) (found .now) in
+    record { bytes = tail; block = found .ptr .0; offset = found .ptr .1 + length (found .now) - length tail }
+
+-- ---- the calls
+
+-- what each answers, and what it leaves in a lent place, on any input
+pub record Model : Type 0 where
+  pub judge : Record → Verdict
+  pub report : ℕ → Verdict → List ℕ → ReportLeaves
+  pub step : List ℕ → Bool → ℕ → List ℕ → StepLeaves
+
+-- our own, by the definitions that the contracts cite
+abbrev pub ours : Model
+ours = record { judge = verdictOn; report = reportCall; step = stepCall }
+
+-- each gives what the contract of the code allows
+pub record Keeps (m : Model) : Type 0 where
+  pub judge : (entry : Record) → Gives judge-crate.judge.Reads.Learnt (entry, tt) (m .judge entry)
+  pub report : (number : ℕ) (verdict : Verdict) (out : Lent) → let leaves = m .report number verdict (out .now) in
+      Leaves report-crate.report.Reads.Learnt (number, (verdict, (out, tt))) (leaves .outcome) (number, (verdict, (holding out (leaves .out), tt)))
+  pub step : (window : Lent) (over : Bool) (number : ℕ) (out : Lent) → let leaves = m .step (window .now) over number (out .now) in
+      Leaves judge-crate.judge_window.Reads.Learnt (window, (over, (number, (out, tt)))) (leaves .step) (window, (over, (number, (holding out (leaves .out), tt))))
+
+-- each public call, and its one outcome
+pub record EveryCall : Type 2 where
+  pub report-report : Answered report-crate.report.Statement.statement report-crate.report.Reads.Asked report-crate.report.Reads.Learnt
+      (λ r (number, (verdict, (out, _))). reportLeaves r (out .now)) (λ (number, (verdict, (out, _))). reportCall number verdict (out .now))
+  pub judge-difference-tail : Answered judge-crate.difference_tail.Statement.statement judge-crate.difference_tail.Reads.Asked judge-crate.difference_tail.Reads.Learnt
+      (λ r e. partOf r) (λ (wanted, (found, _)). tailPart wanted found)
+  pub judge-judge : Answered judge-crate.judge.Statement.statement judge-crate.judge.Reads.Asked judge-crate.judge.Reads.Learnt (λ r e. r) (λ (entry, _). verdictOn entry)
+  pub judge-judge-window : Answered judge-crate.judge_window.Statement.statement judge-crate.judge_window.Reads.Asked judge-crate.judge_window.Reads.Learnt
+      (λ r (window, (over, (number, (out, _)))). stepLeaves r (out .now)) (λ (window, (over, (number, (out, _)))). stepCall (window .now) over number (out .now))
+
+-- ---- what they answer
+
+-- each answer is the first whose condition holds, by what is read
+pub record Listed (read : List ℕ → Reading) (m : Model) : Type 0 where
+  pub judge : (r : Record) → m .judge r ≡ first Equal (differences r)
+  pub report : (number : ℕ) (verdict : Verdict) (out : List ℕ)
+      → m .report number verdict out .outcome .answer ≡ first Done (reportFaults number verdict (length out))
+  pub step : (window : List ℕ) (over : Bool) (number : ℕ) (out : List ℕ) → let reading = read window in
+      let size = length (reportText number (verdictRead reading)) in
+      m .step window over number out .step
+      ≡ first (Judged (verdictRead reading) (reading .taken) size) (stepChoices reading (length window) over number (length out))
+
+-- ---- what they leave
+
+-- a refusal changes no lent byte, nor does a step without a report
+pub record Unchanged (m : Model) : Type 0 where
+  pub report : (number : ℕ) (verdict : Verdict) (out : List ℕ) → let leaves = m .report number verdict out in
+      Refused (leaves .outcome .answer) → (leaves .out ≡ out) × (leaves .outcome .written ≡ 0)
+  pub step : (window : List ℕ) (over : Bool) (number : ℕ) (out : List ℕ) → let leaves = m .step window over number out in
+      (leaves .step ≡ End) ⊎ ((leaves .step ≡ Wait) ⊎ (leaves .step ≡ Short)) → leaves .out ≡ out
+
+-- done: a report that is written stands at the beginning of its place, the bytes beyond it stay, and its length is told
+pub record Reported (read : List ℕ → Reading) (m : Model) : Type 0 where
+  pub report : (number : ℕ) (verdict : Verdict) (out : List ℕ) → let leaves = m .report number verdict out in
+      let text = reportText number verdict in
+      leaves .outcome .answer ≡ Done → (leaves .outcome .written ≡ length text) × (leaves .out ≡ text ++ drop (length text) out)
+  -- so does the report of a step that has one; its length is in `Listed`
+  pub step : (window : List ℕ) (over : Bool) (number : ℕ) (out : List ℕ) → let leaves = m .step window over number out in
+      let text = reportText number (verdictRead (read window)) in
+      ((leaves .step ≡ End) ⊎ ((leaves .step ≡ Wait) ⊎ (leaves .step ≡ Short)) → ⊥) → leaves .out ≡ text ++ drop (length text) out
