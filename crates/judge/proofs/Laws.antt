@@ -1,7 +1,7 @@
 -- What the verdicts and the steps promise.
 use Rattle.judge.specs.Laws.{Judges}
-use Rattle.judge.proofs.Tails.{tail-begins}
-use Rattle.judge.proofs.Verdicts.{equal-agrees, agrees-equal, read-verdict, unread-verdict, report-short}
+use Rattle.judge.proofs.Differences.{tells, behind-common}
+use Rattle.judge.proofs.Verdicts.{equal-agrees, agrees-equal, other-cipher, read-verdict, unread-verdict, report-short}
 use Rattle.judge.proofs.Windows.{final-window, final-step}
 use Rattle.judge.proofs.Sizes.{step-inside, step-waits}
 use Rattle.judge.proofs.Outputs.{no-output, goes-on, stops}
@@ -11,7 +11,9 @@ pub judges : Judges
 judges =
     record {
       equal = λ r. (equal-agrees r, agrees-equal r);
-      tail = tail-begins;
+      cipher = other-cipher;
+      difference = tells;
+      behind = behind-common;
       window = final-window;
       step = final-step;
       inside = step-inside;

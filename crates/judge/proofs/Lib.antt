@@ -1,5 +1,6 @@
 -- Laws of judging.
-pub mod Tails
+pub mod Differences
+pub mod Before
 pub mod Verdicts
 pub mod Windows
 pub mod Sizes

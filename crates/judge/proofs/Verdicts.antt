@@ -1,5 +1,5 @@
--- The verdict is equal exactly where rounds, cipher and tag agree, and unread exactly where a text can not be read.
-use mathlib.Core.Path.{_≡_, refl, ap}
+-- The verdict is equal exactly where rounds, cipher and tag are ours, and unread exactly where a text can not be read.
+use mathlib.Core.Path.{_≡_, refl, sym, ap}
 use mathlib.Core.Bool.{Bool, true, false, not}
 use mathlib.Core.List.{List, [], _∷_}
 use mathlib.Core.Logic.{_⊎_, inl, inr}
@@ -19,48 +19,53 @@ use Rattle.record.specs.Form.{held, broken}
 use Rattle.report.specs.declared.Verdict.the-variants.{Equal, Rounds, Cipher, Tag, Unread}
 use Rattle.report.specs.Reports.{reportText}
 use Rattle.report.proofs.Lengths.{report-most}
-use Rattle.judge.specs.Tail.{agree}
+use Rattle.judge.specs.Difference.{differ}
 use Rattle.judge.specs.Verdicts.{ourSealing, ourRounds, verdictOn}
 use Rattle.judge.specs.Steps.{verdictRead}
 use Rattle.judge.specs.Laws.{Agrees}
-use Rattle.judge.proofs.Tails.{agree-no-tail}
+use Rattle.judge.proofs.Differences.{same-texts, other-texts, self-same}
 
--- where the verdict is equal, all three agree
+-- where the verdict is equal, rounds, cipher and tag are ours
 pub equal-agrees : (r : Record) → verdictOn r ≡ Equal → Agrees r
 unfolding verdictOn
 equal-agrees r =
-    go (eqb (broken r) 0) (eqb (r .rounds) (ourRounds r)) (agree (ourSealing r .cipher) (held (r .cipher))) (agree (ourSealing r .tag) (held (r .tag))) refl refl refl refl
+    go (eqb (broken r) 0) (eqb (r .rounds) (ourRounds r)) (differ (ourSealing r .cipher) (held (r .cipher))) (differ (ourSealing r .tag) (held (r .tag))) refl refl refl refl
   where
     go : (s t u v : Bool) → eqb (broken r) 0 ≡ s → eqb (r .rounds) (ourRounds r) ≡ t
-        → agree (ourSealing r .cipher) (held (r .cipher)) ≡ u → agree (ourSealing r .tag) (held (r .tag)) ≡ v
-        → first Equal (Unread (broken r) when not s ∷ Rounds when not t ∷ Cipher when not u ∷ Tag when not v ∷ []) ≡ Equal → Agrees r
-    go true true true true f g h k e =
+        → differ (ourSealing r .cipher) (held (r .cipher)) ≡ u → differ (ourSealing r .tag) (held (r .tag)) ≡ v
+        → first Equal (Unread (broken r) when not s ∷ Rounds when not t ∷ Cipher when u ∷ Tag when v ∷ []) ≡ Equal → Agrees r
+    go true true false false f g h k e =
         record {
           in-form = eqb-true (broken r) 0 f;
-          rounds-agree = eqb-true (r .rounds) (ourRounds r) g;
-          cipher-agrees = agree-no-tail (ourSealing r .cipher) (held (r .cipher)) h;
-          tag-agrees = agree-no-tail (ourSealing r .tag) (held (r .tag)) k;
+          rounds = eqb-true (r .rounds) (ourRounds r) g;
+          cipher = sym (same-texts (ourSealing r .cipher) (held (r .cipher)) h);
+          tag = sym (same-texts (ourSealing r .tag) (held (r .tag)) k);
         }
-    go true true true false f g h k e = let z : _≡_ {A = ℕ} 0 1 = cc in absurd (omega arith)
-    go true true false v f g h k e = let z : _≡_ {A = ℕ} 0 1 = cc in absurd (omega arith)
+    go true true false true f g h k e = let z : _≡_ {A = ℕ} 0 1 = cc in absurd (omega arith)
+    go true true true v f g h k e = let z : _≡_ {A = ℕ} 0 1 = cc in absurd (omega arith)
     go true false u v f g h k e = let z : _≡_ {A = ℕ} 0 1 = cc in absurd (omega arith)
     go false t u v f g h k e = let z : _≡_ {A = ℕ} 0 1 = cc in absurd (omega arith)
 
--- where all three agree, the verdict is equal
+-- where they are, the verdict is equal
 pub agrees-equal : (r : Record) → Agrees r → verdictOn r ≡ Equal
 unfolding verdictOn
-agrees-equal r a = rw (a .in-form, eq-eqb (r .rounds) (ourRounds r) (a .rounds-agree), a .cipher-agrees, a .tag-agrees)
+agrees-equal r a = rw (a .in-form, eq-eqb (r .rounds) (ourRounds r) (a .rounds), a .cipher, a .tag, self-same (ourSealing r .cipher), self-same (ourSealing r .tag))
+
+-- where the rounds are ours and the cipher is not, the verdict is cipher
+pub other-cipher : (r : Record) → broken r ≡ 0 → r .rounds ≡ ourRounds r → (held (r .cipher) ≡ ourSealing r .cipher → ⊥) → verdictOn r ≡ Cipher
+unfolding verdictOn
+other-cipher r sound rounds other = rw (sound, eq-eqb (r .rounds) (ourRounds r) rounds, other-texts (ourSealing r .cipher) (held (r .cipher)) (λ e. other (sym e)))
 
 -- a record in form is not unread
 in-form-read : (r : Record) (line : ℕ) → broken r ≡ 0 → verdictOn r ≡ Unread line → ⊥
 unfolding verdictOn
 in-form-read r line sound e =
-    go (eqb (r .rounds) (ourRounds r)) (agree (ourSealing r .cipher) (held (r .cipher))) (agree (ourSealing r .tag) (held (r .tag))) (rw sound at e)
+    go (eqb (r .rounds) (ourRounds r)) (differ (ourSealing r .cipher) (held (r .cipher))) (differ (ourSealing r .tag) (held (r .tag))) (rw sound at e)
   where
-    go : (t u v : Bool) → first Equal (Rounds when not t ∷ Cipher when not u ∷ Tag when not v ∷ []) ≡ Unread line → ⊥
-    go true true true e = let z : _≡_ {A = ℕ} 0 1 = cc in omega arith
-    go true true false e = let z : _≡_ {A = ℕ} 0 1 = cc in omega arith
-    go true false v e = let z : _≡_ {A = ℕ} 0 1 = cc in omega arith
+    go : (t u v : Bool) → first Equal (Rounds when not t ∷ Cipher when u ∷ Tag when v ∷ []) ≡ Unread line → ⊥
+    go true false false e = let z : _≡_ {A = ℕ} 0 1 = cc in omega arith
+    go true false true e = let z : _≡_ {A = ℕ} 0 1 = cc in omega arith
+    go true true v e = let z : _≡_ {A = ℕ} 0 1 = cc in omega arith
     go false u v e = let z : _≡_ {A = ℕ} 0 1 = cc in omega arith
 
 -- a text that is read is not unread

@@ -1,42 +1,68 @@
--- What the verdicts and the steps promise.
+-- What the first difference, the verdicts and the steps promise.
 use mathlib.Core.Bool.{Bool, true, false, cond}
-use mathlib.Core.List.{List, [], _++_}
-use mathlib.Core.Logic.{_↔_, _⊎_}
+use mathlib.Core.List.{List, [], _∷_, _++_}
+use mathlib.Core.Logic.{_↔_}
 use mathlib.Core.Path.{_≡_}
 use Prim.Native.Nat.{ℕ, _+_, _^_, _≤_, _<_}
-use lib.ListN.{length, getD, take, drop}
+use lib.ListN.{length, getElem?, take, drop}
 use Rattle.answers.specs.declared.Answer.the-variants.{Done, BrokenRecord}
 use Rattle.answers.specs.Numbers.{isDone}
 use Rattle.record.specs.declared.lines.Record.{Record}
 use Rattle.record.specs.Form.{held, broken}
 use Rattle.record.specs.Calls.{readCall}
 use Rattle.record.specs.Text.{mostBytes}
-use Rattle.report.specs.declared.Verdict.the-variants.{Equal, Unread}
+use Rattle.report.specs.declared.Verdict.the-variants.{Equal, Cipher, Unread}
 use Rattle.report.specs.Reports.{reportText}
 use Rattle.judge.specs.declared.stepping.Step.the-variants.{Judged, Stopped, Wait}
-use Rattle.judge.specs.Tail.{tailOf}
+use Rattle.judge.specs.Difference.{FirstDifference, firstDifference}
 use Rattle.judge.specs.Verdicts.{ourSealing, ourRounds, verdictOn}
 use Rattle.judge.specs.Steps.{verdictRead, isFinal, stepLeaves, stepCall, takenBy, writtenBy, outputFrom}
 
--- a record's rounds, cipher and tag agree with our own sealing, by the rules' meaning of equal
+-- a record's rounds, cipher and tag are those of our own sealing
 pub record Agrees (r : Record) : Type 0 where
   pub in-form : broken r ≡ 0
-  pub rounds-agree : r .rounds ≡ ourRounds r
-  pub cipher-agrees : tailOf (ourSealing r .cipher) (held (r .cipher)) ≡ []
-  pub tag-agrees : tailOf (ourSealing r .tag) (held (r .tag)) ≡ []
+  pub rounds : r .rounds ≡ ourRounds r
+  pub cipher : held (r .cipher) ≡ ourSealing r .cipher
+  pub tag : held (r .tag) ≡ ourSealing r .tag
 
--- where a difference tail begins: before it the bytes that both texts have agree, and there both have a byte and the bytes differ, or the tail is empty
-pub record Begins (wanted found : List ℕ) : Type 0 where
-  pub begin : ℕ
-  pub rest : tailOf wanted found ≡ drop begin found
-  pub agrees : (i : ℕ) → i < begin → i < length wanted → i < length found → getD wanted i 0 ≡ getD found i 0
-  pub differs : (tailOf wanted found ≡ []) ⊎ ((begin < length wanted) × (begin < length found) × (getD wanted begin 0 ≡ getD found begin 0 → ⊥))
+-- two texts differ first at a place: before it they have the same bytes, and at it they do not; a text that has ended has none, and two that have are the same there
+pub record DiffersFirstAt (wanted found : List ℕ) (place : ℕ) : Type 0 where
+  pub before : (i : ℕ) → i < place → getElem? wanted i ≡ getElem? found i
+  pub there : getElem? wanted place ≡ getElem? found place → ⊥
+
+-- what the first difference of two texts tells
+pub record Tells (wanted found : List ℕ) (d : FirstDifference) : Type 0 where
+  -- texts that do not differ are one list, and one list does not differ from itself
+  pub same : (d .differs ≡ false) ↔ (wanted ≡ found)
+  -- where they differ, they differ first at the place
+  pub first : d .differs ≡ true → DiffersFirstAt wanted found (d .place)
+  -- and at no other
+  pub only : (place : ℕ) → DiffersFirstAt wanted found place → (d .differs ≡ true) × (d .place ≡ place)
+  -- the place is at most either length
+  pub inside : (d .place ≤ length wanted) × (d .place ≤ length found)
+  -- the part is the found text from the place on
+  pub part : d .part ≡ drop (d .place) found
+
+-- the first difference of texts that begin alike, by what stands behind that beginning
+pub record BehindCommon (common : List ℕ) : Type 0 where
+  -- nothing: they are the same, the place is their length, and the part is empty
+  pub same : firstDifference common common ≡ record { differs = false; place = length common; part = [] }
+  -- a byte in both, and they differ: part and place begin there
+  pub bytes : (a b : ℕ) (wanted found : List ℕ) → (a ≡ b → ⊥)
+      → firstDifference (common ++ a ∷ wanted) (common ++ b ∷ found) ≡ record { differs = true; place = length common; part = b ∷ found }
+  -- the found text ended first: the place is its length, and the part is empty
+  pub found-ended : (a : ℕ) (wanted : List ℕ) → firstDifference (common ++ a ∷ wanted) common ≡ record { differs = true; place = length common; part = [] }
+  -- the wanted text ended first: part and place begin where it ends
+  pub wanted-ended : (b : ℕ) (found : List ℕ) → firstDifference common (common ++ b ∷ found) ≡ record { differs = true; place = length common; part = b ∷ found }
 
 pub record Judges : Type 0 where
-  -- the verdict is equal exactly where all three agree
+  -- the verdict is equal exactly where rounds, cipher and tag are ours, in length and in every byte
   pub equal : (r : Record) → (verdictOn r ≡ Equal) ↔ Agrees r
-  -- the tail is what is left of the found text from the first difference on
-  pub tail : (wanted found : List ℕ) → Begins wanted found
+  -- it is cipher where the rounds are ours and the cipher is not, be it cut off, too long or other bytes
+  pub cipher : (r : Record) → broken r ≡ 0 → r .rounds ≡ ourRounds r → (held (r .cipher) ≡ ourSealing r .cipher → ⊥) → verdictOn r ≡ Cipher
+  -- what the first difference of two texts tells, and what it is where they begin alike
+  pub difference : (wanted found : List ℕ) → Tells wanted found (firstDifference wanted found)
+  pub behind : (common : List ℕ) → BehindCommon common
   -- a final window tells what the whole input tells, where it is the input's beginning, and all of it if the input has ended
   pub window : (text : List ℕ) (size : ℕ) (ended : Bool) → (ended ≡ true → length text ≤ size) → isFinal (take size text) ended ≡ true
       → readCall (take size text) ≡ readCall text

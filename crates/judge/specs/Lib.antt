@@ -1,5 +1,6 @@
 -- Judging records.
-pub mod Tail
+pub mod Difference
 pub mod Verdicts
 pub mod Steps
 pub mod Laws
+pub mod Before

@@ -13,7 +13,7 @@ use Rattle.record.specs.Form.{fieldOf, held, broken}
 use Rattle.report.specs.declared.Verdict.{Verdict}
 use Rattle.report.specs.declared.Verdict.the-variants.{Equal, Rounds, Cipher, Tag, Unread}
 use Rattle.judge.specs.declared.verdict.Ours.{Ours}
-use Rattle.judge.specs.Tail.{agree}
+use Rattle.judge.specs.Difference.{differ}
 
 -- the published sealing of a record's text under its set, key, nonce and data
 unfoldable pub ourSealing : Record → Sealed
@@ -28,8 +28,8 @@ abbrev pub differences : Record → List (Choice Verdict)
 differences r =
     Unread (broken r) when not (eqb (broken r) 0)
     ∷ Rounds when not (eqb (r .rounds) (ourRounds r))
-    ∷ Cipher when not (agree (ourSealing r .cipher) (held (r .cipher)))
-    ∷ Tag when not (agree (ourSealing r .tag) (held (r .tag)))
+    ∷ Cipher when differ (ourSealing r .cipher) (held (r .cipher))
+    ∷ Tag when differ (ourSealing r .tag) (held (r .tag))
     ∷ []
 
 -- the first that holds

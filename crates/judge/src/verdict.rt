@@ -4,9 +4,10 @@ ghost use mathlib.Core.Bool.{true};
 ghost use Prim.Native.Nat.{_≤_};
 ghost use Rattle.ascon.specs.Sets.{isSet, rowOf};
 ghost use Rattle.record.specs.Form.{held, broken};
-ghost use Rattle.judge.specs.Tail.{agree};
+ghost use Rattle.judge.specs.Difference.{differ};
 ghost use Rattle.judge.specs.Verdicts.{verdictOn, oursOf, oursBy};
-use crate::tail;
+use crate::difference;
+use crate::difference::Difference;
 use record::Field;
 use record::Record;
 use report::Verdict;
@@ -18,18 +19,20 @@ pub struct Ours {
     pub tag: Field,
 }
 
-// Whether the bytes of two fields are called equal.
-fn same_field(wanted: Field, found: Field) -> bool
+// Whether the bytes that two fields hold differ.
+fn fields_differ(wanted: Field, found: Field) -> bool
     requires { ⌜ wanted .size ≤ 256 ⌝ }
     requires { ⌜ found .size ≤ 256 ⌝ }
-    ensures { λ r. ⌜ r ≡ agree (held wanted) (held found) ⌝ }
+    ensures { λ r. ⌜ r ≡ differ (held wanted) (held found) ⌝ }
 {
     let ours = wanted.bytes;
     let n = wanted.size;
     let theirs = found.bytes;
     let m = found.size;
-    let tail = tail::difference_tail(&ours[..n], &theirs[..m]);
-    tail.len() == 0
+    match difference::first_difference(&ours[..n], &theirs[..m]) {
+        Difference::Same => false,
+        Difference::At(_) => true,
+    }
 }
 
 // Our own sealing of a text, through the promise of whole messages.
@@ -103,12 +106,12 @@ pub fn judge(entry: Record) -> Verdict
     }
     let wanted = ours.cipher;
     let found = entry.cipher;
-    if !same_field(wanted, found) {
+    if fields_differ(wanted, found) {
         return Verdict::Cipher;
     }
     let wanted = ours.tag;
     let found = entry.tag;
-    if !same_field(wanted, found) {
+    if fields_differ(wanted, found) {
         return Verdict::Tag;
     }
     Verdict::Equal

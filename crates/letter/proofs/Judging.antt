@@ -18,13 +18,14 @@ use Rattle.report.specs.declared.Verdict.the-variants.{Equal}
 use Rattle.report.specs.Reports.{reportText, ReportLeaves, reportLeaves, reportFaults, reportCall}
 use Rattle.judge.specs.declared.stepping.Step.{Step}
 use Rattle.judge.specs.declared.stepping.Step.the-variants.{Judged, Stopped, Wait, End, Short}
-use Rattle.judge.specs.Tail.{tailOf, endOf}
 use Rattle.judge.specs.Verdicts.{differences, verdictOn}
 use Rattle.judge.specs.Steps.{verdictRead, isFinal, writtenBy, stepChoices, stepBy, stepCall}
+use Rattle.judge.proofs.Differences.{told-same, told-at}
+use Rattle.judge.proofs.Laws.{judges}
 use Rattle.report.proofs as report
 use Rattle.judge.proofs as judge
-use Rattle.letter.specs.Calls.{Lent, lent}
-use Rattle.letter.specs.Judging.{Model, ours, partOf, tailPart, Keeps, EveryCall, Listed, Unchanged, Reported}
+use Rattle.letter.specs.Calls.{lent}
+use Rattle.letter.specs.Judging.{Model, ours, Keeps, EveryCall, Listed, Unchanged, Reported}
 use Rattle.letter.proofs.Calls.{answered, lifetimes, Says, done-says, says}
 
 -- ---- the calls
@@ -33,6 +34,7 @@ use Rattle.letter.proofs.Calls.{answered, lifetimes, Says, done-says, s
 pub is-ours : (m : Model) → Keeps m → m ≡ ours
 is-ours m k =
     λ j. record {
+      difference = λ wanted found. k .difference (lent wanted) (lent found) (lifetimes 2) j;
       judge = λ entry. k .judge entry tt j;
       report = λ number verdict out. k .report number verdict (lent out) (lifetimes 1) j;
       step = λ window over number out. k .step (lent window) over number (lent out) (lifetimes 2) j;
@@ -42,25 +44,20 @@ is-ours m k =
 pub keeps : Keeps ours
 keeps =
     record {
+      difference = λ wanted found κ. refl;
       judge = λ entry κ. refl;
       report = λ number verdict out κ. refl;
       step = λ window over number out κ. refl;
     }
-
--- a part with the tail's bytes that ends where the found text ends is the tail, at its place
-tail-is : (wanted found part : Lent) → part .now ≡ tailOf (wanted .now) (found .now) → endOf part ≡ endOf found → partOf part ≡ tailPart wanted found
-tail-is wanted found part bytes end =
-    let ends : part .ptr .1 + length (part .now) ≡ found .ptr .1 + length (found .now) = ap (λ (x : ℕ × ℕ). x .1) end in
-    let size : length (part .now) ≡ length (tailOf (wanted .now) (found .now)) = ap length bytes in
-    let offset : part .ptr .1 ≡ found .ptr .1 + length (found .now) - length (tailOf (wanted .now) (found .now)) = omega (arith, ends, size) in
-    λ j. record { bytes = bytes j; block = end j .0; offset = offset j }
 
 -- each is answered
 pub every-call : EveryCall
 every-call =
     record {
       report-report = answered (λ M. report.report.Met.met) (λ κ a. tt) (λ κ a r e p. p);
-      judge-difference-tail = answered (λ M. judge.difference_tail.Met.met) (λ κ a. tt) (λ κ (wanted, (found, _)) r e p. tail-is wanted found r (p .0) (p .1));
+      judge-first-difference = answered (λ M. judge.first_difference.Met.met) (λ κ a. tt) (λ κ a r e p. p);
+      judge-difference-tail = answered (λ M. judge.difference_tail.Met.met) (λ κ a. tt) (λ κ a r e p. p);
+      judge-compare = answered (λ M. judge.compare.Met.met) (λ κ a. tt) (λ κ a r e p. p);
       judge-judge = answered (λ M. judge.judge.Met.met) (λ κ a. tt) (λ κ a r e p. p);
       judge-judge-window = answered (λ M. judge.judge_window.Met.met) (λ κ a. tt) (λ κ a r e p. p);
     }
@@ -118,6 +115,9 @@ pub listed : Listed readCall ours
 listed =
     record {
       judge = judge-said;
+      equal = judges .equal;
+      same = told-same;
+      at = told-at;
       report = λ number verdict out. report-said number verdict out .is;
       step = step-said;
     }

@@ -44,7 +44,7 @@ pub record Letter : Type 2 where
   pub sealed-bytes : (set : ℕ) (K N A P : List ℕ) → length K ≡ rowOf set .key → Bytes K → Bytes P
       → Bytes (sealed (rowOf set) K N A P .cipher) × Bytes (sealed (rowOf set) K N A P .tag)
   pub opened-bytes : (set : ℕ) (K N A C : List ℕ) → length K ≡ rowOf set .key → Bytes K → Bytes C → Bytes (decrypted (rowOf set) K N A C .out)
-  -- verdicts and reports: equal exactly where rounds, cipher and tag agree by the rules, and the report of an input, record by record
+  -- verdicts and reports: equal exactly where rounds, cipher and tag are ours, what the first difference of two texts is, and the report of an input, record by record
   pub judging : Judges
   -- the bench's program: it says its end only where all of its report is written, and there if no call fails
   pub program : WholeReports

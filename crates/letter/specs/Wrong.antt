@@ -1,4 +1,4 @@
--- Wrong answers that the contracts rule out, each at one input that tells it from the right one: a test of the promises, beside the letter. Edits (`must-fail`) show that
+-- Wrong answers that the contracts rule out, each at one input, or at all, that tell it from the right one: a test of the promises, beside the letter. Edits (`must-fail`) show that
 -- wrong code is refused.
 pub mod Engine
 pub mod Messages

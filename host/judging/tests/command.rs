@@ -69,6 +69,24 @@ fn the_sample() {
     }
 }
 
+/// Says that the sample whose cipher ends after three right bytes differs in its cipher, and is equal with the other two.
+#[test]
+fn the_cut_off_sample() {
+    let output = ends(bench("", &["samples/cut-off.txt"]), Stdio::null(), 1);
+    assert_eq!(output.stdout, b"record=1\nverdict=differs\nfield=cipher\n");
+    let counts = b"bench: 1 records: 0 equal, 1 differ, 0 unread\n";
+    assert_eq!(output.stderr, counts);
+
+    let cut = fs::read_to_string(root().join("samples/cut-off.txt")).expect("it can be read");
+    let whole = cut.replace("cipher=06bf4b\n", "cipher=06bf4bf2a4\n");
+    let path = place("whole");
+    fs::write(&path, whole).expect("a file for the test");
+    let mut command = bench("", &[]);
+    command.arg(&path);
+    let output = ends(command, Stdio::null(), 0);
+    assert_eq!(output.stdout, b"record=1\nverdict=equal\nfield=none\n");
+}
+
 /// Says which status each kind of report has, and that what stands behind `&&` is done for no other than 0.
 #[test]
 fn the_status() {

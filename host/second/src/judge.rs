@@ -6,7 +6,7 @@ use crate::record::{first_broken_line, read, Record};
 /// What the bench says of one record.
 #[derive(Clone, Copy, Debug, PartialEq, Eq)]
 pub enum Verdict {
-    /// Rounds, cipher and tag are ours.
+    /// The rounds, the whole cipher and the whole tag are ours.
     Equal,
     /// The named field is the first that isn't ours.
     Differs(&'static str),
@@ -14,14 +14,31 @@ pub enum Verdict {
     Unread(u64),
 }
 
-/// Gives the rest of `found` from the first place where both have a byte and the bytes differ.
-pub fn tail<'a>(wanted: &[u8], found: &'a [u8]) -> &'a [u8] {
-    for (place, (ours, theirs)) in wanted.iter().zip(found).enumerate() {
-        if ours != theirs {
-            return &found[place..];
+/// How a found text stands beside the wanted one.
+#[derive(Clone, Copy, Debug, PartialEq, Eq)]
+pub enum Difference<'a> {
+    /// The two are one and the same text; the part is empty and lies where the found one ends.
+    Same { part: &'a [u8] },
+    /// They first disagree at this place; the part is what the found text holds from there on.
+    At { place: usize, part: &'a [u8] },
+}
+
+/// Gives the first place where one text has a byte that the other hasn't there, if any, and the part.
+pub fn first_difference<'a>(wanted: &[u8], found: &'a [u8]) -> Difference<'a> {
+    for place in 0..wanted.len().max(found.len()) {
+        if wanted.get(place) != found.get(place) {
+            // All places before agree, so the found text reaches up to this one.
+            let part = &found[place..];
+            return Difference::At { place, part };
         }
     }
-    &found[found.len()..]
+    let part = &found[found.len()..];
+    Difference::Same { part }
+}
+
+/// Says whether the found text has another length or any other byte than the wanted one.
+fn differs(wanted: &[u8], found: &[u8]) -> bool {
+    matches!(first_difference(wanted, found), Difference::At { .. })
 }
 
 /// Gives the verdict on a record; one that has no right form counts as unread.
@@ -45,10 +62,10 @@ pub fn verdict(record: &Record) -> Verdict {
     if answer.rounds != record.rounds {
         return Verdict::Differs("rounds");
     }
-    if !tail(&cipher, record.cipher.held()).is_empty() {
+    if differs(&cipher, record.cipher.held()) {
         return Verdict::Differs("cipher");
     }
-    if !tail(&tag, record.tag.held()).is_empty() {
+    if differs(&tag, record.tag.held()) {
         return Verdict::Differs("tag");
     }
     Verdict::Equal

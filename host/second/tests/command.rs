@@ -99,6 +99,25 @@ fn seal_then_open() {
     assert_eq!(refused, "answer=2\nrounds=0\ntext=\n");
 }
 
+/// Says that a cipher cut after right bytes, or with bytes too many, is reported as different.
+#[test]
+fn ciphers_of_another_length() {
+    let mut ran = 0;
+    for (set, length) in [("1", 16), ("2", 12)] {
+        let key = "5a".repeat(length);
+        let record = done(&["seal", set, &key, &key, "00ff", "6162636465"], b"");
+        let cipher = value(&record, "cipher=");
+        let right = format!("cipher={cipher}\n");
+        for found in [&cipher[..6], "", &format!("{cipher}00")] {
+            let input = record.replace(&right, &format!("cipher={found}\n"));
+            let report = done(&["judge"], input.as_bytes());
+            assert_eq!(report, "record=1\nverdict=differs\nfield=cipher\n");
+            ran += 1;
+        }
+    }
+    assert_eq!(ran, 6);
+}
+
 /// Says that the rounds command prints the counted rounds.
 #[test]
 fn rounds() {

@@ -1,6 +1,7 @@
-//! Difference tails, verdicts and whole outputs of the program.
+//! Verdicts and whole outputs of the program.
 
-use second::judge::{judge_all, report, tail, verdict, Verdict};
+use second::hex;
+use second::judge::{judge_all, report, verdict, Verdict};
 use second::make::{lines_of, right_record};
 use second::random::Random;
 use second::record::{Field, Record};
@@ -34,38 +35,6 @@ fn the_printed_case() {
     assert_eq!(output, b"record=1\nverdict=differs\nfield=rounds\n");
 }
 
-/// Says what the tail is for prefixes and for a difference at each place.
-#[test]
-fn tails() {
-    let mut ran = 0;
-    let wanted: Vec<u8> = (10..30).collect();
-    for length in 0..=40 {
-        let mut found: Vec<u8> = (10..10 + length).collect();
-        let rest = tail(&wanted, &found);
-        assert!(rest.is_empty());
-        assert_eq!(rest.as_ptr(), found[found.len()..].as_ptr());
-        ran += 1;
-        for place in 0..usize::from(length) {
-            found[place] ^= 0xff;
-            let rest = tail(&wanted, &found);
-            // A difference past our own text is in no place where both have a byte.
-            let start = if place < 20 { place } else { found.len() };
-            assert_eq!(rest, &found[start..]);
-            assert_eq!(rest.as_ptr(), found[start..].as_ptr());
-            if place > 0 {
-                found[0] ^= 1;
-                assert_eq!(tail(&wanted, &found), &found[..]);
-                found[0] ^= 1;
-            }
-            found[place] ^= 0xff;
-            ran += 1;
-        }
-    }
-    assert_eq!(ran, 41 + 40 * 41 / 2);
-    assert_eq!(tail(&[], b"abc"), b"");
-    assert_eq!(tail(b"abc", b""), b"");
-}
-
 /// Says that right records are equal and the first changed field is the one named.
 #[test]
 fn the_first_differing_field() {
@@ -78,9 +47,12 @@ fn the_first_differing_field() {
                 record.tag.bytes[record.tag.len - 1] ^= 1;
                 wanted = Verdict::Differs("tag");
             }
-            // An empty cipher has no byte to change.
-            if mixture & 2 == 2 && record.cipher.len > 0 {
-                record.cipher.bytes[record.cipher.len - 1] ^= 0x80;
+            if mixture & 2 == 2 {
+                // An empty cipher has no byte to change, so it gets one.
+                match record.cipher.len {
+                    0 => record.cipher.len = 1,
+                    length => record.cipher.bytes[length - 1] ^= 0x80,
+                }
                 wanted = Verdict::Differs("cipher");
             }
             if mixture & 1 == 1 {
@@ -124,23 +96,211 @@ fn changed_inputs_show() {
     assert_eq!(ran, 2 * 40 * 4);
 }
 
-/// Says that a cipher that only ends too early or too late isn't called different.
+/// Gives 49 text lengths, 1,907 in sum: all up to 40, and some up to the most that a record holds.
+fn lengths() -> Vec<usize> {
+    let far = [63, 64, 65, 127, 128, 129, 255, 256];
+    (0..=40).chain(far).collect()
+}
+
+/// Gives the record with another cipher.
+fn with_cipher(right: &Record, cipher: &[u8]) -> Record {
+    let mut record = right.clone();
+    record.cipher = Field::of(cipher).expect("at most 256 bytes");
+    record
+}
+
+/// Says that a cipher cut at any length differs, however right the bytes it has.
 #[test]
-fn shorter_and_longer_ciphers_have_no_tail() {
+fn cut_off_ciphers() {
     let mut ran = 0;
     for set in [1, 2] {
-        for text in 0..=40 {
+        for text in lengths() {
             let right = sized(set, 3, text);
-            let longer = [right.cipher.held(), &[0x5a; 216]].concat();
-            for length in 0..=text + 216 {
-                let mut record = right.clone();
-                record.cipher = Field::of(&longer[..length]).expect("at most 256 bytes");
-                assert_eq!(verdict(&record), Verdict::Equal);
+            assert_eq!(verdict(&right), Verdict::Equal);
+            for length in 0..text {
+                let record = with_cipher(&right, &right.cipher.held()[..length]);
+                assert_eq!(verdict(&record), Verdict::Differs("cipher"));
                 ran += 1;
             }
         }
     }
-    assert_eq!(ran, 2 * (41 * 217 + 40 * 41 / 2));
+    assert_eq!(ran, 2 * 1_907);
+}
+
+/// Says that a cipher that goes on by any number of bytes differs.
+#[test]
+fn lengthened_ciphers() {
+    let mut ran = 0;
+    for set in [1, 2] {
+        for text in lengths() {
+            let right = sized(set, 3, text);
+            for more in [[0; 256], [0x5a; 256]] {
+                for count in 1..=256 - text {
+                    let longer = [right.cipher.held(), &more[..count]].concat();
+                    let record = with_cipher(&right, &longer);
+                    assert_eq!(verdict(&record), Verdict::Differs("cipher"));
+                    ran += 1;
+                }
+            }
+        }
+    }
+    assert_eq!(ran, 2 * 2 * (49 * 256 - 1_907));
+}
+
+/// Says that an empty cipher is right beside an empty text and beside no other.
+#[test]
+fn empty_ciphers_and_empty_texts() {
+    let mut ran = 0;
+    for set in [1, 2] {
+        let empty = sized(set, 3, 0);
+        assert_eq!(verdict(&empty), Verdict::Equal);
+        for length in 1..=256 {
+            let full = sized(set, 3, length);
+            let cipher = full.cipher.held();
+            for record in [with_cipher(&full, b""), with_cipher(&empty, cipher)] {
+                assert_eq!(verdict(&record), Verdict::Differs("cipher"));
+                ran += 1;
+            }
+        }
+    }
+    assert_eq!(ran, 2 * 256 * 2);
+}
+
+/// Gives a right record with a cipher of zeros, made by changing its text byte by byte.
+fn with_zero_cipher(set: u64, text: usize) -> Record {
+    let mut record = sized(set, 3, text);
+    for place in 0..text {
+        record.text.bytes[place] ^= record.cipher.bytes[place];
+        let (key, ad, text) = (record.key.held(), record.ad.held(), record.text.held());
+        record = right_record(set, key, key, ad, text).expect("a fitting message");
+    }
+    assert_eq!(record.cipher.held(), vec![0; text]);
+    record
+}
+
+/// Says that ciphers of zeros are told apart by their lengths, as no byte does it.
+#[test]
+fn ciphers_of_zeros() {
+    let (mut equal, mut other) = (0, 0);
+    for set in [1, 2] {
+        for text in 0..=40 {
+            let right = with_zero_cipher(set, text);
+            for length in 0..=256 {
+                let record = with_cipher(&right, &vec![0; length]);
+                if length == text {
+                    assert_eq!(verdict(&record), Verdict::Equal);
+                    equal += 1;
+                } else {
+                    assert_eq!(verdict(&record), Verdict::Differs("cipher"));
+                    other += 1;
+                }
+            }
+        }
+    }
+    assert_eq!((equal, other), (2 * 41, 2 * 41 * 256));
+}
+
+/// Says that every byte of cipher and tag counts.
+#[test]
+fn each_byte_of_cipher_and_tag() {
+    let (mut ciphers, mut tags) = (0, 0);
+    for set in [1, 2] {
+        for text in lengths() {
+            let right = sized(set, 3, text);
+            for place in 0..right.cipher.len {
+                let mut record = right.clone();
+                record.cipher.bytes[place] ^= 1;
+                assert_eq!(verdict(&record), Verdict::Differs("cipher"));
+                ciphers += 1;
+            }
+            for place in 0..right.tag.len {
+                let mut record = right.clone();
+                record.tag.bytes[place] ^= 1;
+                assert_eq!(verdict(&record), Verdict::Differs("tag"));
+                tags += 1;
+            }
+        }
+    }
+    assert_eq!(ciphers, 2 * 1_907);
+    assert_eq!(tags, 49 * (16 + 12));
+}
+
+/// Says that a cipher of a wrong length stands after wrong rounds and before a wrong tag.
+#[test]
+fn wrong_lengths_beside_other_faults() {
+    let mut ran = 0;
+    for set in [1, 2] {
+        for text in 1..=40 {
+            let right = sized(set, 3, text);
+            let cipher = right.cipher.held();
+            let longer = [cipher, &[0]].concat();
+            for found in [
+                &cipher[..0],
+                &cipher[..text / 2],
+                &cipher[..text - 1],
+                &longer,
+            ] {
+                let mut record = with_cipher(&right, found);
+                record.tag.bytes[0] ^= 1;
+                assert_eq!(verdict(&record), Verdict::Differs("cipher"));
+                record.rounds += 1;
+                assert_eq!(verdict(&record), Verdict::Differs("rounds"));
+                record.tag = right.tag.clone();
+                assert_eq!(verdict(&record), Verdict::Differs("rounds"));
+                ran += 1;
+            }
+        }
+    }
+    assert_eq!(ran, 2 * 40 * 4);
+}
+
+/// Says that a tag of another length than the set's makes a record unread, whatever else is wrong.
+#[test]
+fn tags_of_another_length() {
+    let mut ran = 0;
+    for (set, own) in [(1, 16), (2, 12)] {
+        let right = sized(set, 3, 20);
+        let cut = with_cipher(&right, &right.cipher.held()[..3]);
+        let mut miscounted = right.clone();
+        miscounted.rounds += 1;
+        for record in [right, cut, miscounted] {
+            assert_eq!(record.tag.len, own);
+            for length in (0..=17).filter(|length| *length != own) {
+                let mut other = record.clone();
+                other.tag.len = length;
+                other.tag.bytes[length.min(16)..].fill(0);
+                assert_eq!(verdict(&other), Verdict::Unread(7));
+                ran += 1;
+            }
+        }
+    }
+    assert_eq!(ran, 2 * 3 * 17);
+}
+
+/// Says that a tag line of another length than the set's is reported as broken.
+#[test]
+fn tag_lines_of_another_length() {
+    let mut ran = 0;
+    for (set, own) in [(1, 16), (2, 12)] {
+        let right = sized(set, 3, 20);
+        let whole = String::from_utf8(lines(&right)).expect("plain text");
+        let tag = [right.tag.held(), &[0; 8]].concat();
+        for length in 0..=20 {
+            let digits = String::from_utf8(hex::written(&tag[..length])).expect("digits");
+            let line = format!("tag={digits}");
+            let mut all: Vec<&str> = whole.lines().collect();
+            all[6] = &line;
+            let wanted = if length == own {
+                three(1, "equal", "none")
+            } else {
+                three(1, "unread", "7")
+            };
+            let output = judge_all((all.join("\n") + "\n").as_bytes());
+            assert_eq!(String::from_utf8(output), Ok(wanted));
+            ran += 1;
+        }
+    }
+    assert_eq!(ran, 2 * 21);
 }
 
 /// Says that a record of no right form is unread, with its first such line.
@@ -180,6 +340,11 @@ fn several_records_in_a_row() {
             }
             3 if record.cipher.len > 0 => {
                 record.cipher.bytes[0] ^= 4;
+                wanted += &three(number, "differs", "cipher");
+            }
+            4 if record.cipher.len > 0 => {
+                let kept = &record.cipher.held()[..record.cipher.len - 1];
+                record.cipher = Field::of(kept).expect("few bytes");
                 wanted += &three(number, "differs", "cipher");
             }
             _ => wanted += &three(number, "equal", "none"),

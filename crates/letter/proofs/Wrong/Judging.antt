@@ -8,26 +8,42 @@ use Rattle.ascon.specs.Mode.{p, firstBlock, initialise, separate, count, pad, b
 use Rattle.ascon.specs.Rounds.{adBlocks, textBlocks, messageRounds}
 use Rattle.digits.specs.Numbers.{places, numeral}
 use Rattle.digits.specs.Room.{lineOf}
-use Rattle.record.specs.Form.{fieldOf, isField, keeps, broken}
+use Rattle.record.specs.Form.{fieldOf, withField, isField, keeps, broken}
 use Rattle.record.specs.Text.{names, name}
 use Rattle.record.specs.Calls.{begins, lineRead, refusedAt, readCall}
-use Rattle.report.specs.declared.Verdict.the-variants.{Equal, Rounds, Tag}
+use Rattle.report.specs.declared.Verdict.the-variants.{Equal, Rounds, Cipher, Tag}
 use Rattle.report.specs.Reports.{recordLine, verdictLine, fieldLine, reportText, ReportLeaves, reportCall}
+use Rattle.judge.specs.declared.difference.Difference.the-variants.{Same, At}
 use Rattle.judge.specs.declared.stepping.Step.the-variants.{Stopped, Wait, End}
+use Rattle.judge.specs.Difference.{Part, Compared}
 use Rattle.judge.specs.Verdicts.{ourSealing, verdictOn}
 use Rattle.judge.specs.Verdicts as verdicts
 use Rattle.judge.specs.Steps.{StepLeaves, stepCall, stepBy}
+use Rattle.judge.proofs.Laws.{judges}
 use Rattle.letter.specs.Wrong.Judging.{Wrong}
 use Rattle.letter.proofs.Calls.{off}
 
 pub wrong : Wrong
-unfolding finalise adBlocks textBlocks messageRounds ourSealing verdictOn verdicts.ourRounds stepBy stepCall readCall lineRead begins refusedAt name names keeps broken isField fieldOf sealed encrypted pad count beforeText isSet rowOf table roundsOf constantsOf constants separate initialise firstBlock p permute rounds round diffuse Σ₀ Σ₁ Σ₂ Σ₃ Σ₄ _⋙_ substitute substituted column fromBits bit sBox addConstant stringOf stateOf bytesOf valueOf places numeral lineOf recordLine verdictLine fieldLine reportText reportCall
+unfolding finalise adBlocks textBlocks messageRounds ourSealing verdictOn verdicts.ourRounds stepBy stepCall readCall lineRead begins refusedAt name names keeps broken isField fieldOf withField sealed encrypted pad count beforeText isSet rowOf table roundsOf constantsOf constants separate initialise firstBlock p permute rounds round diffuse Σ₀ Σ₁ Σ₂ Σ₃ Σ₄ _⋙_ substitute substituted column fromBits bit sBox addConstant stringOf stateOf bytesOf valueOf places numeral lineOf recordLine verdictLine fieldLine reportText reportCall
 wrong = record {
-  tail-short = λ part two κ e p. off (cc (sym two ∙ p .0));
-  tail-first = λ part none κ e p. off (cc (sym none ∙ p .0));
-  tail-empty = λ part none κ e p. off (cc (sym none ∙ p .0));
+  difference-cut = λ κ e p. let told : Same ≡ At 1 = p in off (cc told);
+  difference-longer = λ κ e p. let told : Same ≡ At 1 = p in off (cc told);
+  difference-byte = λ κ e p. let told : Same ≡ At 0 = p in off (cc told);
+  difference-far = λ κ e p. let told : At 2 ≡ At 1 = p in off (cc told);
+  difference-last = λ κ e p. let told : At 1 ≡ At 0 = p in off (cc told);
+  difference-end = λ κ e p. let told : At 1 ≡ Same = p in off (cc told);
+  tail-longer = λ part none κ e p. off (cc (sym none ∙ ap (λ (x : Part). x .bytes) p));
+  tail-far = λ part none κ e p. off (cc (sym none ∙ ap (λ (x : Part). x .bytes) p));
+  tail-last = λ part four κ e p. off (cc (sym four ∙ ap (λ (x : Part). x .bytes) p));
+  tail-wanted = λ part two κ e p. off (cc (sym two ∙ ap (λ (x : Part). x .bytes) p));
+  tail-elsewhere = λ wanted found part other κ e p. other (ap (λ (x : Part). x .block) p);
+  tail-begin = λ part begin κ e p. off (sym begin ∙ ap (λ (x : Part). x .offset) p);
+  compare-cut = λ r same κ e p. let told : Same ≡ At 1 = sym same ∙ ap (λ (x : Compared). x .difference) p in off (cc told);
+  compare-part = λ r begin κ e p. off (sym begin ∙ ap (λ (x : Compared). x .part .offset) p);
+  judge-cipher = λ r other κ e p. other (judges .equal r .0 (sym p) .cipher);
+  judge-cut-off = λ κ e p. let verdict : Tag ≡ Cipher = p in off (cc verdict);
   judge-rounds = λ κ e p. let verdict : Tag ≡ Rounds = p in off (cc verdict);
-  judge-tag = λ κ e p. let verdict : Equal ≡ Tag = p in off (cc verdict);
+  judge-tag = λ r other κ e p. other (judges .equal r .0 (sym p) .tag);
   step-end = λ κ e p. let step : Wait ≡ End = ap (λ (x : StepLeaves). x .step) p in off (cc step);
   step-window = λ κ e p. let step : Stopped 1 32 ≡ Wait = ap (λ (x : StepLeaves). x .step) p in off (cc step);
   report-room = λ κ e p. off (cc (ap (λ (x : ReportLeaves). x .outcome .answer) p));

@@ -4,24 +4,60 @@ use mathlib.Core.Bool.{true, false}
 use mathlib.Core.List.{[], _∷_}
 use Rattle.answers.specs.declared.Answer.the-variants.{Done}
 use Rattle.permutation.specs.Strings.{zeros}
+use Rattle.record.specs.declared.lines.Record.{Record}
+use Rattle.record.specs.Form.{fieldOf, held, withField}
 use Rattle.report.specs.declared.Verdict.the-variants.{Equal, Tag}
+use Rattle.judge.specs.declared.difference.Comparison.{Comparison}
+use Rattle.judge.specs.declared.difference.Difference.the-variants.{Same, At}
 use Rattle.judge.specs.declared.stepping.Step.the-variants.{Stopped, Wait}
+use Rattle.judge.specs.Verdicts.{ourSealing}
 use Rattle.report.proofs as report
 use Rattle.judge.proofs as judge
 use Rattle.letter.specs.Calls.{Lent, lent, Never}
+use Rattle.letter.specs.Judging.{compareLearnt}
 use Rattle.letter.specs.Wrong.Records.{caseOf}
 
+-- the rules' whole case with the right rounds and a text of one byte; its cipher is empty
+abbrev pub cutOff : Record
+cutOff = withField 5 (fieldOf (0 ∷ [])) (caseOf 24)
+
 pub record Wrong : Type 0 where
-  -- a found text that is shorter has no tail
-  pub tail-short : (part : Lent) → part .now ≡ 2 ∷ [] → Never judge.difference_tail.Reads.Learnt (lent (1 ∷ 2 ∷ []), (lent (1 ∷ []), tt)) part
-  -- first bytes that differ have a tail
-  pub tail-first : (part : Lent) → part .now ≡ [] → Never judge.difference_tail.Reads.Learnt (lent (1 ∷ []), (lent (2 ∷ []), tt)) part
-  -- where later bytes differ, the tail is not empty
-  pub tail-empty : (part : Lent) → part .now ≡ [] → Never judge.difference_tail.Reads.Learnt (lent (0 ∷ 1 ∷ []), (lent (0 ∷ 2 ∷ []), tt)) part
+  -- a text that is cut off is not the same
+  pub difference-cut : Never judge.first_difference.Reads.Learnt (lent (1 ∷ 2 ∷ []), (lent (1 ∷ []), tt)) Same
+  -- nor is one that goes on
+  pub difference-longer : Never judge.first_difference.Reads.Learnt (lent (1 ∷ []), (lent (1 ∷ 2 ∷ []), tt)) Same
+  -- nor another of the same length
+  pub difference-byte : Never judge.first_difference.Reads.Learnt (lent (1 ∷ []), (lent (2 ∷ []), tt)) Same
+  -- the place is not one too far
+  pub difference-far : Never judge.first_difference.Reads.Learnt (lent (1 ∷ 2 ∷ []), (lent (1 ∷ []), tt)) (At 2)
+  -- nor that of the last difference
+  pub difference-last : Never judge.first_difference.Reads.Learnt (lent (1 ∷ 2 ∷ []), (lent (3 ∷ 4 ∷ []), tt)) (At 1)
+  -- a text that is the same has no difference at its end
+  pub difference-end : Never judge.first_difference.Reads.Learnt (lent (1 ∷ []), (lent (1 ∷ []), tt)) (At 1)
+  -- the part of a text that goes on is not its empty end
+  pub tail-longer : (part : Lent) → part .now ≡ [] → Never judge.difference_tail.Reads.Learnt (lent (1 ∷ []), (lent (1 ∷ 2 ∷ []), tt)) part
+  -- the part does not begin one too far
+  pub tail-far : (part : Lent) → part .now ≡ [] → Never judge.difference_tail.Reads.Learnt (lent (1 ∷ []), (lent (2 ∷ []), tt)) part
+  -- nor at the last difference
+  pub tail-last : (part : Lent) → part .now ≡ 4 ∷ [] → Never judge.difference_tail.Reads.Learnt (lent (1 ∷ 2 ∷ []), (lent (3 ∷ 4 ∷ []), tt)) part
+  -- it does not have the wanted text's bytes
+  pub tail-wanted : (part : Lent) → part .now ≡ 2 ∷ [] → Never judge.difference_tail.Reads.Learnt (lent (1 ∷ 2 ∷ []), (lent (1 ∷ []), tt)) part
+  -- nor does it lie in other memory than the found text, also where it is empty
+  pub tail-elsewhere : (wanted found part : Lent) → (part .ptr .0 ≡ found .ptr .0 → ⊥) → Never judge.difference_tail.Reads.Learnt (wanted, (found, tt)) part
+  -- the empty part of a text that is cut off does not lie at its beginning
+  pub tail-begin : (part : Lent) → part .ptr .1 ≡ 0 → Never judge.difference_tail.Reads.Learnt (lent (1 ∷ 2 ∷ []), (lent (1 ∷ []), tt)) part
+  -- in a comparison, too, a text that is cut off is not the same
+  pub compare-cut : (r : Comparison) → r .difference ≡ Same → Never compareLearnt (lent (1 ∷ 2 ∷ []), (lent (1 ∷ []), tt)) r
+  -- and the part belongs to the place: where the texts differ at 1, it does not lie at the beginning
+  pub compare-part : (r : Comparison) → r .part .ptr .1 ≡ 0 → Never compareLearnt (lent (1 ∷ 2 ∷ []), (lent (1 ∷ 3 ∷ []), tt)) r
+  -- a record whose cipher is not our own sealing's is not equal: cut off, too long, or of other bytes
+  pub judge-cipher : (r : Record) → (held (r .cipher) ≡ ourSealing r .cipher → ⊥) → Never judge.judge.Reads.Learnt (r, tt) Equal
+  -- a text of one byte and no cipher: the cipher is named, and not the tag
+  pub judge-cut-off : Never judge.judge.Reads.Learnt (cutOff, tt) Tag
   -- rounds are compared before the tag: the rules' whole case
   pub judge-rounds : Never judge.judge.Reads.Learnt (caseOf 25, tt) Tag
-  -- our tag is compared, and not our ciphertext, which is empty here
-  pub judge-tag : Never judge.judge.Reads.Learnt (caseOf 24, tt) Equal
+  -- a record whose tag is not our own sealing's is not equal
+  pub judge-tag : (r : Record) → (held (r .tag) ≡ ourSealing r .tag → ⊥) → Never judge.judge.Reads.Learnt (r, tt) Equal
   -- at the end of the input nothing is waited for
   pub step-end : Never judge.judge_window.Reads.Learnt (lent [], (true, (1, (lent [], tt)))) Wait
   -- a window of 1,687 bytes is not final

@@ -13,6 +13,17 @@ tag=00000000000000000000000000000000
 rounds=25
 ";
 
+/// A right record of set 2, the order `close` to `valve 12`.
+const CLOSE: &str = "set=2
+key=000102030405060708090a0b
+nonce=f0f1f2f3f4f5f6f7f8f9fafb
+ad=76616c7665203132
+text=636c6f7365
+cipher=06bf4bf2a4
+tag=da672106d0b341a823aa0ef5
+rounds=32
+";
+
 /// Gives the cases.
 pub fn whole_cases() -> Vec<Input> {
     let case = |name: &str, bytes: String, output: &str| Input {
@@ -30,9 +41,24 @@ pub fn whole_cases() -> Vec<Input> {
             "record=1\nverdict=differs\nfield=tag\n",
         ),
         case(
-            "a cipher of no text has no byte to differ in",
+            "a cipher of no text goes on",
             ZEROS.replace("25", "24").replace("cipher=", "cipher=ff"),
-            "record=1\nverdict=differs\nfield=tag\n",
+            "record=1\nverdict=differs\nfield=cipher\n",
+        ),
+        case(
+            "a whole cipher",
+            CLOSE.to_string(),
+            "record=1\nverdict=equal\nfield=none\n",
+        ),
+        case(
+            "a cipher cut off after three right bytes",
+            CLOSE.replace("cipher=06bf4bf2a4", "cipher=06bf4b"),
+            "record=1\nverdict=differs\nfield=cipher\n",
+        ),
+        case(
+            "a cipher that goes on by a byte",
+            CLOSE.replace("cipher=06bf4bf2a4", "cipher=06bf4bf2a400"),
+            "record=1\nverdict=differs\nfield=cipher\n",
         ),
         case("rounds of 0 are in form", ZEROS.replace("25", "0"), rounds),
         case(

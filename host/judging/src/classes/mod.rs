@@ -25,8 +25,8 @@ pub struct Class {
 
 /// All classes; the numbers are written down so that a class that shrinks is noticed.
 #[rustfmt::skip]
-pub const CLASSES: [Class; 21] = [
-    Class { name: "written by hand", inputs: 14, make: by_hand::whole_cases },
+pub const CLASSES: [Class; 23] = [
+    Class { name: "written by hand", inputs: 17, make: by_hand::whole_cases },
     Class { name: "each line damaged", inputs: 208, make: any_line::damaged },
     Class { name: "lines doubled or moved", inputs: 19, make: any_line::moved },
     Class { name: "wrong digits", inputs: 90, make: digits::wrong },
@@ -39,6 +39,8 @@ pub const CLASSES: [Class; 21] = [
     Class { name: "rounds in form", inputs: 20, make: numbers::rounds_in_form },
     Class { name: "fields that differ", inputs: 56, make: verdicts::differing },
     Class { name: "ciphers of another length than the text", inputs: 28, make: verdicts::other_lengths },
+    Class { name: "ciphers cut off at every length", inputs: 28, make: verdicts::cut_off },
+    Class { name: "ciphers that go on", inputs: 24, make: verdicts::lengthened },
     Class { name: "right records around block edges", inputs: 26, make: verdicts::right },
     Class { name: "one broken in a row", inputs: 24, make: in_a_row::broken },
     Class { name: "bytes after the last record", inputs: 32, make: in_a_row::trailing },

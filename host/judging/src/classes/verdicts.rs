@@ -58,7 +58,56 @@ fn differing_in(set: &Set, choice: usize) -> Input {
     }
 }
 
-/// Gives records whose cipher is shorter or longer than their text.
+/// Gives right records whose cipher was cut at every length, each row with the whole one at its end.
+pub fn cut_off() -> Vec<Input> {
+    let mut inputs = Vec::new();
+    for set in &SETS {
+        for text in [1, 2, 3, 5, 7, 8, 9, 15, 16, 17, 33, 64, 255, 256] {
+            let lines = Lines::right(set, 3, text);
+            let kept = |bytes: usize| lines.with_value(6, &lines.value(6)[..2 * bytes]).bytes();
+            let records: Vec<_> = (0..=text).map(kept).collect();
+            let mut said = vec![Said::Differs("cipher"); text];
+            said.push(Said::Equal);
+            let what = format!("set {} text {text}", set.number);
+            inputs.push(Input::of(what, records.concat(), &said));
+        }
+    }
+    inputs
+}
+
+/// Gives right records whose cipher goes on to four longer lengths, each row with the right one at its end.
+pub fn lengthened() -> Vec<Input> {
+    const SAID: [Said; 5] = {
+        let mut said = [Said::Differs("cipher"); 5];
+        said[4] = Said::Equal;
+        said
+    };
+    let mut inputs = Vec::new();
+    for set in &SETS {
+        for (text, longer) in [
+            (0, [1, 2, 8, 256]),
+            (1, [2, 3, 9, 256]),
+            (5, [6, 7, 13, 256]),
+            (8, [9, 10, 16, 256]),
+            (16, [17, 18, 24, 256]),
+            (252, [253, 254, 255, 256]),
+        ] {
+            let lines = Lines::right(set, 3, text);
+            for more in [&b"00"[..], b"5a"] {
+                let grown = |length: usize| {
+                    let cipher = [lines.value(6), &more.repeat(length - text)].concat();
+                    lines.with_value(6, cipher).bytes()
+                };
+                let records = [longer.map(grown).concat(), lines.bytes()].concat();
+                let what = format!("set {} text {text} then {}", set.number, more[0] as char);
+                inputs.push(Input::of(what, records, &SAID));
+            }
+        }
+    }
+    inputs
+}
+
+/// Gives records whose cipher is shorter or longer than their text, also beside another fault.
 pub fn other_lengths() -> Vec<Input> {
     let mut inputs = Vec::new();
     for set in &SETS {
@@ -77,14 +126,15 @@ pub fn other_lengths() -> Vec<Input> {
             ("1 of none", none.with_value(6, "00")),
             ("256 of none", none.with_value(6, "5a".repeat(256))),
         ] {
-            inputs.push(Input::equal(format!("set {} {what}", set.number), lines));
+            let what = format!("set {} {what}", set.number);
+            inputs.push(Input::differs(what, lines, "cipher"));
         }
         for (what, lines, line, place, field) in [
             ("4 of 5 and the last differs", cut(8), 6, 7, "cipher"),
             ("14 of 5 and the first differs", grown(9), 6, 0, "cipher"),
             ("14 of 5 and the fifth differs", grown(9), 6, 9, "cipher"),
-            ("2 of 5 and another tag", cut(4), 7, 9, "tag"),
-            ("9 of 5 and another tag", grown(4), 7, 9, "tag"),
+            ("2 of 5 and another tag", cut(4), 7, 9, "cipher"),
+            ("9 of 5 and another tag", grown(4), 7, 9, "cipher"),
             ("2 of 5 and other rounds", cut(4), 8, 1, "rounds"),
         ] {
             let what = format!("set {} {what}", set.number);

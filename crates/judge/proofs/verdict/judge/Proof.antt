@@ -1,19 +1,19 @@
 -- `judge::verdict::judge` meets its contract.
 use mathlib.Core.Path.{_≡_, sym, ap, _∙_}
-use mathlib.Core.Bool.{true}
+use mathlib.Core.Bool.{true, false}
 use mathlib.Core.List.{List}
 use Prim.Native.Nat.{ℕ}
 use native.Mathlib.Omega.{arith}
 use lib.Dec.{eqb}
 use borrow.Author.Needs.{needs}
-use borrow.Author.Tests.{eq-eqb, ne-eqb, not-true, not-false}
+use borrow.Author.Tests.{eq-eqb, ne-eqb}
 use Rattle.sets.proofs.Rows.{row-sizes}
 use Rattle.record.specs.declared.lines.Record.{Record}
 use Rattle.record.specs.Form.{held, broken}
 use Rattle.record.proofs.Fields.{held-field}
 use Rattle.record.proofs.InForm.{in-form}
 use Rattle.judge.specs.declared.verdict.Ours.{Ours}
-use Rattle.judge.specs.Tail.{agree}
+use Rattle.judge.specs.Difference.{differ}
 use Rattle.judge.specs.Verdicts.{ourSealing, ourRounds, verdictOn, oursBy, oursOf}
 use Rattle.judge.proofs.verdict.judge.Statement.{statement}
 use Rattle.judge.proofs.verdict.judge.Tie as tie
@@ -68,58 +68,58 @@ abbrev sealed : tie.Else2 → tie.After-seal-record
 sealed c = c .before .before .before
 
 -- from where the ciphers were compared, back to where the rounds are the same
-abbrev rounded : tie.After-same-field → tie.Else2
+abbrev rounded : tie.After-fields-differ → tie.Else2
 rounded c = c .before .before .before
 
 -- from where the tags were compared, back to where the ciphers were
-abbrev ciphered : tie.After-same-field2 → tie.After-same-field
+abbrev ciphered : tie.After-fields-differ2 → tie.After-fields-differ
 ciphered c = c .before .before .before .before
 
-same-field-requires : tie.Need-same-field-requires
-same-field-requires c κs = let o = sealed (c .before .before) in (o .seal-record .ensures .1 .0, in-form _ (sound (o .before)) .cipher)
+fields-differ-requires : tie.Need-fields-differ-requires
+fields-differ-requires c κs = let o = sealed (c .before .before) in (o .seal-record .ensures .1 .0, in-form _ (sound (o .before)) .cipher)
 
 -- the rounds are the same
 rounds-same : (c : tie.Else2) → let r = found (sealed c) in eqb (r .rounds) (ourRounds r) ≡ true
 rounds-same c = eq-eqb _ _ (c .if2 .left ∙ ours (sealed c) .same-rounds)
 
 -- the cipher is compared with ours
-cipher-is : (c : tie.After-same-field) → let r = found (sealed (rounded c)) in agree (ourSealing r .cipher) (held (r .cipher)) ≡ c .same-field .result
+cipher-is : (c : tie.After-fields-differ) → let r = found (sealed (rounded c)) in differ (ourSealing r .cipher) (held (r .cipher)) ≡ c .fields-differ .result
 cipher-is c =
     let o = sealed (rounded c) in
-    sym (c .same-field .ensures ∙ ap (λ (x : List ℕ). agree x (held (found o .cipher))) (ours o .same-cipher))
+    sym (c .fields-differ .ensures ∙ ap (λ (x : List ℕ). differ x (held (found o .cipher))) (ours o .same-cipher))
 
 returns-3 : tie.Need-returns-3
 unfolding verdictOn
 returns-3 c =
     let equal = rounded (c .before) in
-    rw (sound (sealed equal .before), rounds-same equal, cipher-is (c .before) ∙ not-true _ (c .if3 .taken))
+    rw (sound (sealed equal .before), rounds-same equal, cipher-is (c .before) ∙ c .if3 .taken)
 
-same-field-requires-2 : tie.Need-same-field-requires-2
-same-field-requires-2 c κs =
+fields-differ-requires-2 : tie.Need-fields-differ-requires-2
+fields-differ-requires-2 c κs =
     let o = sealed (rounded (c .before .before .before)) in
     (o .seal-record .ensures .1 .1, omega (arith, in-form _ (sound (o .before)) .tag, row-sizes (found o .set) .key))
 
 -- so is the tag
-tag-is : (c : tie.After-same-field2) → let r = found (sealed (rounded (ciphered c))) in agree (ourSealing r .tag) (held (r .tag)) ≡ c .same-field2 .result
+tag-is : (c : tie.After-fields-differ2) → let r = found (sealed (rounded (ciphered c))) in differ (ourSealing r .tag) (held (r .tag)) ≡ c .fields-differ2 .result
 tag-is c =
     let o = sealed (rounded (ciphered c)) in
-    sym (c .same-field2 .ensures ∙ ap (λ (x : List ℕ). agree x (held (found o .tag))) (ours o .same-tag))
+    sym (c .fields-differ2 .ensures ∙ ap (λ (x : List ℕ). differ x (held (found o .tag))) (ours o .same-tag))
 
--- the ciphers agree
-cipher-same : (c : tie.After-same-field2) → let r = found (sealed (rounded (ciphered c))) in agree (ourSealing r .cipher) (held (r .cipher)) ≡ true
-cipher-same c = cipher-is (ciphered c) ∙ not-false _ (c .before .before .before .if3 .left)
+-- the ciphers do not differ
+cipher-same : (c : tie.After-fields-differ2) → let r = found (sealed (rounded (ciphered c))) in differ (ourSealing r .cipher) (held (r .cipher)) ≡ false
+cipher-same c = cipher-is (ciphered c) ∙ c .before .before .before .if3 .left
 
 returns-4 : tie.Need-returns-4
 unfolding verdictOn
 returns-4 c =
     let equal = rounded (ciphered (c .before)) in
-    rw (sound (sealed equal .before), rounds-same equal, cipher-same (c .before), tag-is (c .before) ∙ not-true _ (c .if4 .taken))
+    rw (sound (sealed equal .before), rounds-same equal, cipher-same (c .before), tag-is (c .before) ∙ c .if4 .taken)
 
 returns-5 : tie.Need-returns-5
 unfolding verdictOn
 returns-5 c =
     let equal = rounded (ciphered (c .before)) in
-    rw (sound (sealed equal .before), rounds-same equal, cipher-same (c .before), tag-is (c .before) ∙ not-false _ (c .if4 .left))
+    rw (sound (sealed equal .before), rounds-same equal, cipher-same (c .before), tag-is (c .before) ∙ c .if4 .left)
 
 pub judge-spec : {M : Type 1} → statement M
 judge-spec =
@@ -129,8 +129,8 @@ judge-spec =
     returns
     seal-record-requires
     returns-2
-    same-field-requires
+    fields-differ-requires
     returns-3
-    same-field-requires-2
+    fields-differ-requires-2
     returns-4
     returns-5)
