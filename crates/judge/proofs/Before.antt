@@ -1,16 +1,21 @@
--- Where the rule parts from the one before: exactly where one text is a proper beginning of the other.
+-- Where the rule and the verdict part from those of before: exactly where one text is a proper beginning of the other.
 use mathlib.Core.Path.{_≡_, refl, sym, ap, subst, _∙_}
-use mathlib.Core.Bool.{Bool, true, false, cond, true≢false}
+use mathlib.Core.Bool.{Bool, true, false, cond, not, true≢false}
 use mathlib.Core.List.{List, [], _∷_, _++_}
 use mathlib.Core.Logic.{_⊎_, inl, inr, ⊎-elim}
 use Prim.Native.Nat.{ℕ, suc, _≤_}
 use native.Mathlib.Omega.{arith}
 use lib.Dec.{eqb}
 use lib.ListN.{length}
-use borrow.Author.Tests.{eqb-true, eq-eqb}
+use borrow.Author.Tests.{eqb-true, eq-eqb, ne-eqb}
+use Rattle.record.specs.declared.lines.Record.{Record}
+use Rattle.record.specs.Form.{held}
+use Rattle.report.specs.declared.Verdict.the-variants.{Equal}
 use Rattle.judge.specs.Difference.{FirstDifference, here, further, firstDifference, differ}
-use Rattle.judge.specs.Before.{tailBefore, equalBefore, ProperBeginning, TwoRules}
+use Rattle.judge.specs.Verdicts.{ourSealing, verdictOn}
+use Rattle.judge.specs.Before.{tailBefore, equalBefore, verdictBefore, ProperBeginning, TwoRules, TwoVerdicts}
 use Rattle.judge.proofs.Differences.{same-texts, self-same, behind-common}
+use Rattle.judge.proofs.Verdicts.{equal-agrees}
 
 -- a byte before a proper beginning
 longer : (a b : ℕ) (text other : List ℕ) → a ≡ b → ProperBeginning text other → ProperBeginning (a ∷ text) (b ∷ other)
@@ -124,3 +129,32 @@ two-rules wanted found =
       kept = was-other wanted found;
       other-part = (new-part wanted found, new-rest wanted found);
     }
+
+-- ---- both verdicts
+
+-- texts of one length differ exactly where they were not called equal
+one-length : (wanted found : List ℕ) → length wanted ≡ length found → differ wanted found ≡ not (equalBefore wanted found)
+one-length [] [] size = refl
+one-length [] (b ∷ found) size = absurd (omega arith)
+one-length (a ∷ wanted) [] size = absurd (omega arith)
+one-length (a ∷ wanted) (b ∷ found) size = go (eqb a b) (one-length wanted found (omega arith))
+  where
+    go : (t : Bool) → differ wanted found ≡ not (equalBefore wanted found)
+        → cond t (further (firstDifference wanted found)) (here true (b ∷ found)) .differs ≡ not (eqb (length (cond t (tailBefore wanted found) (b ∷ found))) 0)
+    go true later = later
+    go false later = rw (ne-eqb (length (b ∷ found)) 0 (λ none. omega arith))
+
+-- so the verdict stays where cipher and tag are as long as ours
+kept-verdict : (r : Record) → length (ourSealing r .cipher) ≡ length (held (r .cipher)) → length (ourSealing r .tag) ≡ length (held (r .tag))
+    → verdictOn r ≡ verdictBefore r
+unfolding verdictOn
+kept-verdict r cipher tag = rw (one-length (ourSealing r .cipher) (held (r .cipher)) cipher, one-length (ourSealing r .tag) (held (r .tag)) tag)
+
+-- a record that is equal has these lengths, so it was equal
+no-new-equal : (r : Record) → verdictOn r ≡ Equal → verdictBefore r ≡ Equal
+no-new-equal r e =
+    let same = equal-agrees r e in
+    sym (kept-verdict r (ap length (sym (same .cipher))) (ap length (sym (same .tag)))) ∙ e
+
+pub two-verdicts : (r : Record) → TwoVerdicts r
+two-verdicts r = record { kept = kept-verdict r; no-new = no-new-equal r }

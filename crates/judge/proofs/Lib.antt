@@ -1,7 +1,7 @@
 -- Laws of judging.
 pub mod Differences
-pub mod Before
 pub mod Verdicts
+pub mod Before
 pub mod Windows
 pub mod Sizes
 pub mod Outputs
