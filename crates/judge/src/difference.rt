@@ -56,7 +56,7 @@ pub struct Comparison<'a> {
 }
 
 // The first difference of two texts, and the rest of the found text itself from there on.
-pub fn compare<'w, 'a>(wanted: &'w [u8], found: &'a [u8]) -> Comparison<'a>
+pub fn compare<'a>(wanted: &[u8], found: &'a [u8]) -> Comparison<'a>
     ensures { λ r. ⌜ comparisonOf r ≡ comparison (now (wanted .entry)) (found .entry) ⌝ }
 {
     Comparison {

@@ -1,4 +1,4 @@
--- The contracts rule out the wrong answers of the calls of verdicts, reports and steps: each is computed in the checker.
+-- The contracts rule out the wrong answers of the calls of first differences, verdicts, reports and steps: each is computed in the checker, or follows from a law.
 use mathlib.Core.Path.{_≡_, sym, ap, _∙_}
 use Rattle.permutation.specs.Round.{_⋙_, addConstant, sBox, bit, fromBits, column, substituted, substitute, Σ₀, Σ₁, Σ₂, Σ₃, Σ₄, diffuse, round}
 use Rattle.permutation.specs.Runs.{constants, constantsOf, roundsOf, rounds, permute}

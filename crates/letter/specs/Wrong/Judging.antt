@@ -1,4 +1,4 @@
--- Wrong answers of the calls of verdicts, reports and steps.
+-- Wrong answers of the calls of first differences, verdicts, reports and steps.
 use mathlib.Core.Path.{_≡_}
 use mathlib.Core.Bool.{true, false}
 use mathlib.Core.List.{[], _∷_}
