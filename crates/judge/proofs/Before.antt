@@ -36,17 +36,18 @@ was-equal (a ∷ wanted) (b ∷ found) e d = go (eqb a b) refl (was-equal wanted
         ⊎-elim (λ p. inl (longer a b wanted found first p)) (λ p. inr (longer b a found wanted (sym first) p)) (later h k)
     go false other later h k = let none = eqb-true (suc (length found)) 0 h in absurd (omega arith)
 
--- of a text and its beginning there was no tail
+-- there was no tail where the found text goes on
 no-tail-behind : (text rest : List ℕ) → tailBefore text (text ++ rest) ≡ []
 no-tail-behind [] rest = refl
 no-tail-behind (a ∷ text) rest = rw (eq-eqb a a refl, no-tail-behind text rest)
 
+-- nor where the wanted text goes on
 no-tail-before : (text rest : List ℕ) → tailBefore (text ++ rest) text ≡ []
 no-tail-before [] [] = refl
 no-tail-before [] (a ∷ rest) = refl
 no-tail-before (a ∷ text) rest = rw (eq-eqb a a refl, no-tail-before text rest)
 
--- a proper beginning was called equal, and differs
+-- a wanted text that is a proper beginning was called equal, and differs
 found-is-longer : (wanted found : List ℕ) → ProperBeginning wanted found → (equalBefore wanted found ≡ true) × (differ wanted found ≡ true)
 found-is-longer wanted found p = subst (λ (x : List ℕ). (equalBefore wanted x ≡ true) × (differ wanted x ≡ true)) (p .goes-on) (go (p .rest) (p .more))
   where
@@ -54,6 +55,7 @@ found-is-longer wanted found p = subst (λ (x : List ℕ). (equalBefore wanted x
     go [] more = absurd (omega arith)
     go (b ∷ rest) more = (rw (no-tail-behind wanted (b ∷ rest)), ap (λ (d : FirstDifference). d .differs) (behind-common wanted .wanted-ended b rest))
 
+-- so was a found text that is one, and it differs
 wanted-is-longer : (wanted found : List ℕ) → ProperBeginning found wanted → (equalBefore wanted found ≡ true) × (differ wanted found ≡ true)
 wanted-is-longer wanted found p = subst (λ (x : List ℕ). (equalBefore x found ≡ true) × (differ x found ≡ true)) (p .goes-on) (go (p .rest) (p .more))
   where
@@ -100,7 +102,7 @@ rest-part wanted found p = subst (λ (x : List ℕ). firstDifference wanted x .p
     go [] more = absurd (omega arith)
     go (b ∷ rest) more = ap (λ (d : FirstDifference). d .part) (behind-common wanted .wanted-ended b rest)
 
--- so the part is another than the tail was there alone
+-- where the part is another than the tail was, the wanted text is a proper beginning of the found one
 new-part : (wanted found : List ℕ) → (firstDifference wanted found .part ≡ tailBefore wanted found → ⊥) → ProperBeginning wanted found
 new-part wanted found other = go (equalBefore wanted found) refl (differ wanted found) refl
   where
@@ -114,6 +116,7 @@ new-part wanted found other = go (equalBefore wanted found) refl (differ wanted 
         absurd (empty e (subst (λ (x : List ℕ). firstDifference wanted x .part ≡ []) one (ap (λ (x : FirstDifference). x .part) (self-same wanted))))
     go true e true d = ⊎-elim (λ p. p) (λ p. absurd (empty e (cut-part wanted found p))) (was-equal wanted found e d)
 
+-- and where it is one, the part is another
 new-rest : (wanted found : List ℕ) → ProperBeginning wanted found → firstDifference wanted found .part ≡ tailBefore wanted found → ⊥
 new-rest wanted found p e =
     let none : p .rest ≡ [] = sym (rest-part wanted found p) ∙ e ∙ no-tail wanted found (found-is-longer wanted found p .0) in
@@ -156,5 +159,6 @@ no-new-equal r e =
     let same = equal-agrees r e in
     sym (kept-verdict r (ap length (sym (same .cipher))) (ap length (sym (same .tag)))) ∙ e
 
+-- a record, by both rules
 pub two-verdicts : (r : Record) → TwoVerdicts r
 two-verdicts r = record { kept = kept-verdict r; no-new = no-new-equal r }

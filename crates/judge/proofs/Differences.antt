@@ -104,14 +104,15 @@ part-from [] (b ∷ found) = refl
 part-from (a ∷ wanted) [] = refl
 part-from (a ∷ wanted) (b ∷ found) = by-bytes (λ d. d .part ≡ drop (d .place) (b ∷ found)) a b wanted found (λ first. part-from wanted found) (λ other. refl)
 
--- texts that go on behind the place differ
+-- texts of which the wanted one goes on behind the place differ
 pub wanted-goes-on : (wanted found : List ℕ) → firstDifference wanted found .place < length wanted → differ wanted found ≡ true
 wanted-goes-on wanted found h = other-texts wanted found (λ e. let ends = same-place wanted found e in omega (arith, ends, h))
 
+-- so do texts of which the found one goes on
 pub found-goes-on : (wanted found : List ℕ) → firstDifference wanted found .place < length found → differ wanted found ≡ true
 found-goes-on wanted found h = other-texts wanted found (λ e. let ends = same-place wanted found e in let size = ap length e in omega (arith, ends, size, h))
 
--- texts that both end there do not
+-- texts that both end there do not differ
 pub both-end : (wanted found : List ℕ) → length wanted ≤ firstDifference wanted found .place → length found ≤ firstDifference wanted found .place → differ wanted found ≡ false
 both-end wanted found h k = go (differ wanted found) refl
   where

@@ -58,6 +58,7 @@ every-call =
       judge-first-difference = answered (λ M. judge.first_difference.Met.met) (λ κ a. tt) (λ κ a r e p. p);
       judge-difference-tail = answered (λ M. judge.difference_tail.Met.met) (λ κ a. tt) (λ κ a r e p. p);
       judge-compare = answered (λ M. judge.compare.Met.met) (λ κ a. tt) (λ κ a r e p. p);
+      judge-compare-read = λ κs wanted found r e. refl;
       judge-judge = answered (λ M. judge.judge.Met.met) (λ κ a. tt) (λ κ a r e p. p);
       judge-judge-window = answered (λ M. judge.judge_window.Met.met) (λ κ a. tt) (λ κ a r e p. p);
     }

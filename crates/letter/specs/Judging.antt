@@ -72,6 +72,9 @@ pub record EveryCall : Type 2 where
       (λ r e. partOf r) (λ (wanted, (found, _)). differencePart (wanted .now) found)
   pub judge-compare : Answered judge-crate.compare.Statement.statement compareAsked compareLearnt
       (λ r e. comparisonOf r) (λ (wanted, (found, _)). comparison (wanted .now) found)
+  -- what is read off the contract of `compare` is its equation, no more and no less
+  pub judge-compare-read : (κs : Lfts 2) (wanted found : Lent) (r : Comparison) (e : Lent × (Lent × Unit {0}))
+      → compareLearnt κs (wanted, (found, tt)) r e ≡ (comparisonOf r ≡ comparison (wanted .now) found)
   pub judge-judge : Answered judge-crate.judge.Statement.statement judge-crate.judge.Reads.Asked judge-crate.judge.Reads.Learnt (λ r e. r) (λ (entry, _). verdictOn entry)
   pub judge-judge-window : Answered judge-crate.judge_window.Statement.statement judge-crate.judge_window.Reads.Asked judge-crate.judge_window.Reads.Learnt
       (λ r (window, (over, (number, (out, _)))). stepLeaves r (out .now)) (λ (window, (over, (number, (out, _)))). stepCall (window .now) over number (out .now))

@@ -11,7 +11,7 @@ use Rattle.digits.specs.Room.{lineOf}
 use Rattle.record.specs.Form.{fieldOf, withField, isField, keeps, broken}
 use Rattle.record.specs.Text.{names, name}
 use Rattle.record.specs.Calls.{begins, lineRead, refusedAt, readCall}
-use Rattle.report.specs.declared.Verdict.the-variants.{Equal, Rounds, Cipher, Tag}
+use Rattle.report.specs.declared.Verdict.the-variants.{Rounds, Cipher, Tag}
 use Rattle.report.specs.Reports.{recordLine, verdictLine, fieldLine, reportText, ReportLeaves, reportCall}
 use Rattle.judge.specs.declared.difference.Difference.the-variants.{Same, At}
 use Rattle.judge.specs.declared.stepping.Step.the-variants.{Stopped, Wait, End}

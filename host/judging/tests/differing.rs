@@ -1,9 +1,9 @@
-//! What the program `differences` is held to, computed again by the second program.
+//! What the program `differing` is held to, computed again by the second program.
 
 use second::judge::{first_difference, Difference};
 
 /// What the gate compares the program's output with.
-const EXPECTED: &str = include_str!("../../../crates/differences/stdout");
+const EXPECTED: &str = include_str!("../../../crates/differing/stdout");
 
 /// Gives what the second program tells of two texts, as the program has to print it.
 fn told(wanted: &str, found: &str) -> String {

@@ -1,11 +1,11 @@
--- `differences::tell_short` is safe: the sizes are within the letters.
+-- `differing::tell_short` is safe: the sizes are within the letters.
 use mathlib.Core.Path.{sym}
 use native.Mathlib.Omega.{arith}
 use lib.Seq.{length-take-le}
 use borrow.Author.Needs.{needs}
 use borrow.Author.Needs.{needs}
-use Rattle.differences.proofs.tell_short.Statement.{statement}
-use Rattle.differences.proofs.tell_short.Tie as tie
+use Rattle.differing.proofs.tell_short.Statement.{statement}
+use Rattle.differing.proofs.tell_short.Tie as tie
 
 letters-requires : tie.Need-letters-requires
 letters-requires c κs = search needs

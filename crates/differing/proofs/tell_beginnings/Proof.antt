@@ -1,12 +1,12 @@
--- `differences::tell_beginnings` is safe and ends: the measure is the number of bytes left.
+-- `differing::tell_beginnings` is safe and ends: the measure is the number of bytes left.
 use mathlib.Core.Path.{sym}
 use Prim.Native.Nat.{_-_}
 use native.Mathlib.Omega.{arith}
 use lib.ListN.{length}
 use lib.Seq.{length-take-le}
 use borrow.Author.Needs.{needs}
-use Rattle.differences.proofs.tell_beginnings.Statement.{statement}
-use Rattle.differences.proofs.tell_beginnings.Tie as tie
+use Rattle.differing.proofs.tell_beginnings.Statement.{statement}
+use Rattle.differing.proofs.tell_beginnings.Tie as tie
 
 abbrev Inv-loop : tie.InvT-loop
 Inv-loop text i₀ i-end i = Unit {0}

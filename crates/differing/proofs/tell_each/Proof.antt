@@ -1,8 +1,8 @@
--- `differences::tell_each` is safe and ends: the measure is the number of texts left.
+-- `differing::tell_each` is safe and ends: the measure is the number of texts left.
 use Prim.Native.Nat.{_-_}
 use borrow.Author.Needs.{needs}
-use Rattle.differences.proofs.tell_each.Statement.{statement}
-use Rattle.differences.proofs.tell_each.Tie as tie
+use Rattle.differing.proofs.tell_each.Statement.{statement}
+use Rattle.differing.proofs.tell_each.Tie as tie
 
 abbrev Inv-loop : tie.InvT-loop
 Inv-loop number other₀ other = Unit {0}

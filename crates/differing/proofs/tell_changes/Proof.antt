@@ -1,8 +1,8 @@
--- `differences::tell_changes` is safe and ends: the measure is the number of places left.
+-- `differing::tell_changes` is safe and ends: the measure is the number of places left.
 use Prim.Native.Nat.{_-_}
 use borrow.Author.Needs.{needs}
-use Rattle.differences.proofs.tell_changes.Statement.{statement}
-use Rattle.differences.proofs.tell_changes.Tie as tie
+use Rattle.differing.proofs.tell_changes.Statement.{statement}
+use Rattle.differing.proofs.tell_changes.Tie as tie
 
 abbrev Inv-loop : tie.InvT-loop
 Inv-loop i₀ t3 i = Unit {0}

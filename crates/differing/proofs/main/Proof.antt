@@ -1,8 +1,8 @@
--- `differences::main` is safe and ends: the measure is the number of texts left.
+-- `differing::main` is safe and ends: the measure is the number of texts left.
 use Prim.Native.Nat.{_-_}
 use borrow.Author.Needs.{needs}
-use Rattle.differences.proofs.main.Statement.{statement}
-use Rattle.differences.proofs.main.Tie as tie
+use Rattle.differing.proofs.main.Statement.{statement}
+use Rattle.differing.proofs.main.Tie as tie
 
 abbrev Inv-loop : tie.InvT-loop
 Inv-loop number₀ t2 number = Unit {0}
