@@ -1,4 +1,4 @@
-//! Links the permutation's C boundary.
+//! Links the C boundary of the permutation and of reading digits.
 #[path = "../link.rs"]
 mod link;
 

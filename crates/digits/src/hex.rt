@@ -2,6 +2,7 @@
 ghost use mathlib.Core.Path.{_≡_};
 ghost use Prim.Native.Nat.{_<_};
 ghost use Rattle.digits.specs.Hex.{digitOf, isValue, pairOf, hexDigit, hexOf};
+ghost use Rattle.digits.specs.Listed.{digitRow, noneBelow};
 ghost use Rattle.digits.specs.Room.{laid, put};
 
 // What a character is as a digit.
@@ -16,21 +17,66 @@ pub enum Pair {
     NoByte,
 }
 
+// A row without a digit.
+const NO_DIGITS: u64 = 0xffffffffffffffff;
+
+// A row of the list of all 256 characters: the values of eight, a byte each, the first in the low byte; ff for one that is no digit. Each row is written out:
+// so the compiler keeps the list in constant memory, and looking a character up is one load.
+fn digit_row(row: u8) -> u64
+    ensures { λ r. ⌜ r ≡ digitRow row ⌝ }
+{
+    match row {
+        0 => NO_DIGITS,
+        1 => NO_DIGITS,
+        2 => NO_DIGITS,
+        3 => NO_DIGITS,
+        4 => NO_DIGITS,
+        5 => NO_DIGITS,
+        6 => 0x0706050403020100,
+        7 => 0xffffffffffff0908,
+        8 => NO_DIGITS,
+        9 => NO_DIGITS,
+        10 => NO_DIGITS,
+        11 => NO_DIGITS,
+        12 => 0xff0f0e0d0c0b0aff,
+        13 => NO_DIGITS,
+        14 => NO_DIGITS,
+        15 => NO_DIGITS,
+        16 => NO_DIGITS,
+        17 => NO_DIGITS,
+        18 => NO_DIGITS,
+        19 => NO_DIGITS,
+        20 => NO_DIGITS,
+        21 => NO_DIGITS,
+        22 => NO_DIGITS,
+        23 => NO_DIGITS,
+        24 => NO_DIGITS,
+        25 => NO_DIGITS,
+        26 => NO_DIGITS,
+        27 => NO_DIGITS,
+        28 => NO_DIGITS,
+        29 => NO_DIGITS,
+        30 => NO_DIGITS,
+        _ => row_behind(row),
+    }
+}
+
+// The rows behind those listed, none of which has a digit.
+fn row_behind(row: u8) -> u64
+    requires { ⌜ noneBelow 31 row ⌝ }
+    ensures { λ r. ⌜ r ≡ digitRow row ⌝ }
+{
+    NO_DIGITS
+}
+
 // The value of a digit.
 pub fn read_digit(character: u8) -> Digit
     ensures { λ r. ⌜ r ≡ digitOf character ⌝ }
 {
-    if character < b'0' {
-        return Digit::NoDigit;
-    }
-    if character <= b'9' {
-        return Digit::Value(character - b'0');
-    }
-    if character < b'a' {
-        return Digit::NoDigit;
-    }
-    if character <= b'f' {
-        return Digit::Value(character - b'a' + 10);
+    let row = digit_row(character / 8);
+    let value = ((row >> (8 * (character % 8))) % 256) as u8;
+    if value < 16 {
+        return Digit::Value(value);
     }
     Digit::NoDigit
 }

@@ -18,6 +18,7 @@ every-call =
       permutation-permuted = answered (λ M. permutation.permuted.Met.met) (λ κ a. tt) (λ κ a r e p. p);
       permutation-permute-words = answered (λ M. permutation.permute_words.Met.met) (λ κ a. tt) (λ κ a r e p. p);
       timing-kvistmaur-permute = answered (λ M. timing.kvistmaur_permute.Met.met) (λ κ a. tt) (λ κ a r e p. p);
+      timing-kvistmaur-read-digits = answered (λ M. timing.kvistmaur_read_digits.Met.met) (λ κ a. tt) (λ κ a r e p. p);
       sets-is-set = answered (λ M. sets.is_set.Met.met) (λ κ a. tt) (λ κ a r e p. p);
       sets-key-length = answered (λ M. sets.key_length.Met.met) (λ κ a. tt) (λ κ a r e p. p);
       sets-block-length = answered (λ M. sets.block_length.Met.met) (λ κ a. tt) (λ κ a r e p. p);

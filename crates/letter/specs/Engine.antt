@@ -28,6 +28,8 @@ pub record EveryCall : Type 2 where
   -- ---- timing
   pub timing-kvistmaur-permute : Answered timing.kvistmaur_permute.Statement.statement timing.kvistmaur_permute.Reads.Asked timing.kvistmaur_permute.Reads.Learnt
       (λ r (rounds, (words, _)). timed.called r (words .now)) (λ (rounds, (words, _)). timed.permuteCall rounds (words .now))
+  pub timing-kvistmaur-read-digits : Answered timing.kvistmaur_read_digits.Statement.statement timing.kvistmaur_read_digits.Reads.Asked timing.kvistmaur_read_digits.Reads.Learnt
+      (λ r (text, _). timed.called r (text .now)) (λ (text, _). timed.readDigits (text .now))
   -- ---- sets
   pub sets-is-set : Answered sets.is_set.Statement.statement sets.is_set.Reads.Asked sets.is_set.Reads.Learnt (λ r e. r) (λ (set, _). isSet set)
   pub sets-key-length : Answered sets.key_length.Statement.statement sets.key_length.Reads.Asked sets.key_length.Reads.Learnt (λ r e. r) (λ (set, _). rowOf set .key)

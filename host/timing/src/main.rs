@@ -1,5 +1,6 @@
 //! Times the model beside plain Rust, in one run, and prints the ratio of the best times.
 
+mod digits;
 mod messages;
 mod model;
 mod plain;
@@ -7,6 +8,7 @@ mod race;
 
 fn main() {
     permutations();
+    digits::time();
     messages::time();
 }
 

@@ -61,11 +61,11 @@ impl Message {
         let what = |call| format!("{call}, set {}, {name}", self.set.number());
 
         let (model, plain) = (self.sealing(gateway::seal), self.sealing(plain::seal));
-        let sealed = race(&what("seal"), calls, &cleared, model, plain);
+        let sealed = race(&what("seal"), calls, &cleared, model, plain).left;
 
         let opening = |open| self.opening(open, &sealed);
         let (model, plain) = (opening(gateway::open), opening(plain::open));
-        let opened = race(&what("open"), calls, &cleared, model, plain);
+        let opened = race(&what("open"), calls, &cleared, model, plain).left;
         assert!(opened.out == self.text, "opening gave another text");
     }
 

@@ -5,7 +5,14 @@ use std::time::Instant;
 
 const REPETITIONS: usize = 25;
 
-/// Prints the nanoseconds that a call takes by the model and by the plain program, and gives what both left.
+/// What both programs left, and the nanoseconds that a call took each of them.
+pub struct Raced<T> {
+    pub left: T,
+    pub model: f64,
+    pub plain: f64,
+}
+
+/// Prints the nanoseconds that a call takes by the model and by the plain program, and gives them with what both left.
 ///
 /// A repetition is `calls` calls in a row, and the best one counts. Before each the place is cleared, outside the time.
 pub fn race<T: Clone + PartialEq>(
@@ -14,7 +21,7 @@ pub fn race<T: Clone + PartialEq>(
     cleared: &T,
     model: impl Fn(&mut T),
     plain: impl Fn(&mut T),
-) -> T {
+) -> Raced<T> {
     let (mut by_model, mut by_plain) = (cleared.clone(), cleared.clone());
     let (mut model_best, mut plain_best) = (f64::MAX, f64::MAX);
     for _ in 0..REPETITIONS {
@@ -26,7 +33,11 @@ pub fn race<T: Clone + PartialEq>(
     }
     let ratio = model_best / plain_best;
     println!("{what}: model {model_best:.1} ns, plain {plain_best:.1} ns, ratio {ratio:.2}");
-    by_model
+    Raced {
+        left: by_model,
+        model: model_best,
+        plain: plain_best,
+    }
 }
 
 /// The nanoseconds that a call takes, over many calls in a row at one place.

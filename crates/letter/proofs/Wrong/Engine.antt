@@ -7,6 +7,7 @@ use Rattle.permutation.specs.declared.State.{State}
 use Rattle.permutation.specs.Round.{_⋙_, addConstant, sBox, bit, fromBits, column, substituted, substitute, Σ₀, Σ₁, Σ₂, Σ₃, Σ₄, diffuse, round}
 use Rattle.permutation.specs.Runs.{constants, constantsOf, roundsOf, rounds, permute, permuteWords}
 use Rattle.permutation.specs.Strings.{bytesOf, valueOf, stringOf, stateOf}
+use Rattle.digits.specs.Hex.{digitOf}
 use Rattle.timing.specs.Call.{Called, permuteCall}
 use Rattle.ascon.specs.Sets.{table, isSet, rowOf}
 use Rattle.ascon.specs.Mode.{p, firstBlock, initialise, separate, finalise}
@@ -16,7 +17,7 @@ use Rattle.letter.specs.Wrong.Engine.{Wrong}
 use Rattle.letter.proofs.Calls.{off}
 
 pub wrong : Wrong
-unfolding permuteWords finalise absorbed given cryptedOf tagOf isSet rowOf table roundsOf constantsOf constants permuteCall adClosed separate started initialise firstBlock p permute rounds round diffuse Σ₀ Σ₁ Σ₂ Σ₃ Σ₄ _⋙_ substitute substituted column fromBits bit sBox addConstant stringOf stateOf bytesOf valueOf sixteenOf givenTag
+unfolding permuteWords finalise absorbed given cryptedOf tagOf isSet rowOf table roundsOf constantsOf constants permuteCall digitOf adClosed separate started initialise firstBlock p permute rounds round diffuse Σ₀ Σ₁ Σ₂ Σ₃ Σ₄ _⋙_ substitute substituted column fromBits bit sBox addConstant stringOf stateOf bytesOf valueOf sixteenOf givenTag
 wrong = record {
   number-done = λ κ e p. off (cc p);
   is-done-differs = λ κ e p. off (cc p);
@@ -31,6 +32,8 @@ wrong = record {
   permute-words-swapped = λ κ p. let x0 : _≡_ {A = ℕ} 0xffe8b912453958f1 0x202caaa308f6e2b0 = ap (λ w. getD w 0 0) p in absurd (omega arith);
   permute-words-constant = λ κ p. let x0 : _≡_ {A = ℕ} 0x533b0f1f0feb161b 0x202caaa308f6e2b0 = ap (λ w. getD w 0 0) p in absurd (omega arith);
   permute-seven = λ κ e p. off (cc (ap (λ (x : Called). x .answer) p));
+  read-digits-past = λ κ e p. off (cc (ap (λ (x : Called). x .answer) p));
+  read-digits-kept = λ κ p. let value : _≡_ {A = ℕ} 0x31 1 = ap (λ (x : Called). getD (x .left) 0 0) p in absurd (omega arith);
   is-set-three = λ κ e p. off (cc p);
   is-set-two = λ κ e p. off (cc p);
   key-length-two = λ κ e p. off (cc p);

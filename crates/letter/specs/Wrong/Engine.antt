@@ -47,6 +47,10 @@ pub record Wrong : Type 0 where
       (lent (toWords (rounds (0xf0 ∷ 0xe0 ∷ 0xd0 ∷ 0xc0 ∷ 0xb0 ∷ 0xa0 ∷ []) (ofWords (zeros 5)))), (FirstSix, tt))
   -- seven rounds are not run
   pub permute-seven : Never timing.kvistmaur_permute.Reads.Learnt (7, (lent (zeros 5), tt)) 7
+  -- reading does not go on behind `g`
+  pub read-digits-past : Never timing.kvistmaur_read_digits.Reads.Learnt (lent (0x30 ∷ 0x67 ∷ 0x31 ∷ []), tt) 3
+  -- a digit's place does not keep the character
+  pub read-digits-kept : NeverLeaves timing.kvistmaur_read_digits.Reads.Learnt (lent (0x31 ∷ []), tt) 1 (lent (0x31 ∷ []), tt)
   -- 3 is no set
   pub is-set-three : Never sets.is_set.Reads.Learnt (3, tt) true
   -- 2 is a set

@@ -1,4 +1,4 @@
-//! Hex values with digits that are none, and with half a byte too few or too many.
+//! Hex values with every character in place of a digit, and with half a byte too few or too many.
 
 use crate::input::Input;
 use crate::lines::Lines;
@@ -53,6 +53,23 @@ pub fn wrong() -> Vec<Input> {
         }
     }
     inputs
+}
+
+/// Gives each of the 256 characters in place of a digit, of each line in turn, the high one of a byte and the low one.
+pub fn each_character() -> Vec<Input> {
+    let each = (0..=u8::MAX).zip(LINES.cycle());
+    each.map(|(character, line)| {
+        let lines = Lines::short(line);
+        let mut value = lines.value(line).to_vec();
+        value[usize::from(character / 8 % 2)] = character;
+        let what = format!("line {line} character {character}");
+        let bytes = lines.with_value(line, value);
+        match character {
+            b'0'..=b'9' | b'a'..=b'f' | b'\n' => Input::told(what, bytes),
+            _ => Input::unread(what, bytes, line),
+        }
+    })
+    .collect()
 }
 
 /// Gives each line with a digit fewer, a digit more, a digit alone, and a sign of hex in front.

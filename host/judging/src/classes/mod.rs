@@ -25,11 +25,12 @@ pub struct Class {
 
 /// All classes; the numbers are written down so that a class that shrinks is noticed.
 #[rustfmt::skip]
-pub const CLASSES: [Class; 23] = [
+pub const CLASSES: [Class; 24] = [
     Class { name: "written by hand", inputs: 17, make: by_hand::whole_cases },
     Class { name: "each line damaged", inputs: 208, make: any_line::damaged },
     Class { name: "lines doubled or moved", inputs: 19, make: any_line::moved },
     Class { name: "wrong digits", inputs: 90, make: digits::wrong },
+    Class { name: "each character as a digit", inputs: 256, make: digits::each_character },
     Class { name: "odd digits", inputs: 24, make: digits::odd },
     Class { name: "lengths of key nonce and tag", inputs: 32, make: lengths::exact },
     Class { name: "lengths of ad text and cipher", inputs: 26, make: lengths::up_to_256 },

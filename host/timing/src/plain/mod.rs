@@ -1,5 +1,6 @@
-//! The cipher as a Rust programmer would write it: the baseline that the model is timed beside.
+//! The cipher and the reading of digits as a Rust programmer would write them: the baseline that the model is timed beside.
 
+pub mod digits;
 mod message;
 mod permutation;
 mod sponge;

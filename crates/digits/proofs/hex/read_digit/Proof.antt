@@ -1,45 +1,39 @@
 -- `digits::hex::read_digit` meets its contract.
 use borrow.Author.Needs.{needs}
-use borrow.Author.Tests.{le-leb, lt-leb}
-use native.Mathlib.Omega.{arith}
-use Rattle.digits.specs.Hex.{digitOf}
+use borrow.Author.Tests.{lt-ltb, le-ltb}
+use Rattle.digits.proofs.Listed.{listed}
 use Rattle.digits.proofs.hex.read_digit.Statement.{statement}
 use Rattle.digits.proofs.hex.read_digit.Tie as tie
 
+digit-row-requires : tie.Need-digit-row-requires
+digit-row-requires c κs = search needs
+
+mul-value : tie.Need-mul-value
+mul-value c = search needs
+
+cast-value : tie.Need-cast-value
+cast-value c = search needs
+
+shr-value : tie.Need-shr-value
+shr-value c = search needs
+
+cast-value-2 : tie.Need-cast-value-2
+cast-value-2 c = search needs
+
 returns : tie.Need-returns
-unfolding digitOf
-returns c = simp (lt-leb 0x30 _ (c .if1 .taken), lt-leb 0x61 (c .before .args .character) (omega arith))
+returns c = rw (← listed (c .before .before .args .character) (search needs), ← c .before .digit-row .ensures, lt-ltb _ 16 (c .if1 .taken))
 
 returns-2 : tie.Need-returns-2
-unfolding digitOf
-returns-2 c = simp (le-leb 0x30 _ (c .before .if1 .left), le-leb _ 0x39 (c .if2 .taken))
-
-returns-3 : tie.Need-returns-3
-unfolding digitOf
-returns-3 c = simp (le-leb 0x30 _ (c .before .before .if1 .left), lt-leb _ 0x39 (c .before .if2 .left), lt-leb 0x61 _ (c .if3 .taken))
-
-add-t5 : tie.Need-add-t5
-add-t5 c = search needs
-
-returns-4 : tie.Need-returns-4
-unfolding digitOf
-returns-4 c =
-    simp (
-      le-leb 0x30 _ (c .before .before .before .if1 .left),
-      lt-leb _ 0x39 (c .before .before .if2 .left),
-      le-leb 0x61 _ (c .before .if3 .left),
-      le-leb _ 0x66 (c .if4 .taken),
-    )
-
-returns-5 : tie.Need-returns-5
-unfolding digitOf
-returns-5 c =
-    simp (
-      le-leb 0x30 _ (c .before .before .before .if1 .left),
-      lt-leb _ 0x39 (c .before .before .if2 .left),
-      le-leb 0x61 _ (c .before .if3 .left),
-      lt-leb _ 0x66 (c .if4 .left),
-    )
+returns-2 c = rw (← listed (c .before .before .args .character) (search needs), ← c .before .digit-row .ensures, le-ltb _ 16 (c .if1 .left))
 
 pub read-digit-spec : {M : Type 1} → statement M
-read-digit-spec = tie.close (tie.spec returns returns-2 returns-3 add-t5 returns-4 returns-5)
+read-digit-spec =
+    tie.close
+    (tie.spec
+    digit-row-requires
+    mul-value
+    cast-value
+    shr-value
+    cast-value-2
+    returns
+    returns-2)

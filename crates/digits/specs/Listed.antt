@@ -1,0 +1,23 @@
+-- The list that the code looks characters up in, 32 rows of eight. Nobody has to believe it: `listed` proves that it says what `digitOf` says.
+use mathlib.Core.Path.{_≡_}
+use mathlib.Core.List.{List, [], _∷_}
+use Prim.Native.Nat.{ℕ, zero, suc}
+use lib.ListN.{getD}
+
+-- a row without a digit
+abbrev pub noDigits : ℕ
+noDigits = 0xffffffffffffffff
+
+-- the rows up to the last that has a digit: the values of eight characters, a byte each, the first in the low byte; ff for one that is no digit
+abbrev pub digitRows : List ℕ
+digitRows =
+    noDigits ∷ noDigits ∷ noDigits ∷ noDigits ∷ noDigits ∷ noDigits ∷ 0x0706050403020100 ∷ 0xffffffffffff0908 ∷ noDigits ∷ noDigits ∷ noDigits ∷ noDigits ∷ 0xff0f0e0d0c0b0aff ∷ []
+
+-- a row by its number
+abbrev pub digitRow : ℕ → ℕ
+digitRow row = getD digitRows row noDigits
+
+-- a number is none of those below n
+abbrev pub noneBelow : ℕ → ℕ → Type 0
+noneBelow zero number = Unit
+noneBelow (suc n) number = noneBelow n number × (number ≡ n → ⊥)
