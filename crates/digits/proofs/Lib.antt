@@ -1,5 +1,5 @@
 -- Laws of digits and numerals.
 pub mod Room
 pub mod Spelling
-pub mod Listed
+pub mod LookUp
 pub mod Numerals

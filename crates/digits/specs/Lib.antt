@@ -1,6 +1,6 @@
 -- Digits: bytes in hex, numbers in decimals, and text put into lent room.
 pub mod Room
 pub mod Hex
-pub mod Listed
+pub mod LookUp
 pub mod Numbers
 pub mod Ascii

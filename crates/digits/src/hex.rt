@@ -2,7 +2,7 @@
 ghost use mathlib.Core.Path.{_≡_};
 ghost use Prim.Native.Nat.{_<_};
 ghost use Rattle.digits.specs.Hex.{digitOf, isValue, pairOf, hexDigit, hexOf};
-ghost use Rattle.digits.specs.Listed.{digitRow, noneBelow};
+ghost use Rattle.digits.specs.LookUp.{digitRow, noneBelow};
 ghost use Rattle.digits.specs.Room.{laid, put};
 
 // What a character is as a digit.
@@ -20,8 +20,8 @@ pub enum Pair {
 // A row without a digit.
 const NO_DIGITS: u64 = 0xffffffffffffffff;
 
-// A row of the list of all 256 characters: the values of eight, a byte each, the first in the low byte; ff for one that is no digit. Each row is written out:
-// so the compiler keeps the list in constant memory, and looking a character up is one load.
+// A row of the list that characters are looked up in: the values of the characters 8 * row to 8 * row + 7, a byte each, the first in the low byte; ff for one that
+// is no digit. Each row has an arm of its own: so the compiler keeps the list in constant memory, and looking a character up is one load.
 fn digit_row(row: u8) -> u64
     ensures { λ r. ⌜ r ≡ digitRow row ⌝ }
 {
@@ -61,7 +61,7 @@ fn digit_row(row: u8) -> u64
     }
 }
 
-// The rows behind those listed, none of which has a digit.
+// The last row, and any behind it: no digits.
 fn row_behind(row: u8) -> u64
     requires { ⌜ noneBelow 31 row ⌝ }
     ensures { λ r. ⌜ r ≡ digitRow row ⌝ }

@@ -1,4 +1,4 @@
--- The calls below the families, answers, permutation, sets, sponge and tags, and the permutation's C boundary.
+-- The calls below the families, answers, permutation, sets, sponge and tags, and the timing program's C boundary.
 use Rattle.answers.specs.Numbers.{numberOf, isDone}
 use Rattle.permutation.specs.Round.{round}
 use Rattle.permutation.specs.Runs.{roundsOf, permute, permuteWords}

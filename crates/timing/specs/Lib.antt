@@ -1,2 +1,2 @@
--- What the call answers.
+-- What the calls answer.
 pub mod Call

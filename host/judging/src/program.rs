@@ -27,6 +27,28 @@ pub fn root() -> PathBuf {
     Path::new(env!("CARGO_MANIFEST_DIR")).join("../..")
 }
 
+/// Gives the file of the program: the one that the kit built, or what stands in for it.
+pub fn file() -> PathBuf {
+    stand_in().unwrap_or_else(|| root().join("target/bin/bench"))
+}
+
+/// Gives the words that start the program of a checkout, in which `rt check bench` built it.
+fn words_in(folder: &Path) -> Vec<PathBuf> {
+    vec![folder.join("host/run"), "bench".into()]
+}
+
+/// Gives the command that starts the program of another checkout.
+pub fn program_of(folder: &Path) -> Command {
+    started_by(&words_in(folder))
+}
+
+/// Gives the command of these words.
+fn started_by(words: &[PathBuf]) -> Command {
+    let mut command = Command::new(&words[0]);
+    command.args(&words[1..]);
+    command
+}
+
 /// Gives the command for people, after a first run that builds the program where a source is newer.
 fn built() -> PathBuf {
     let path = root().join("bench");
@@ -53,7 +75,7 @@ impl Tried {
         static AROUND: OnceLock<PathBuf> = OnceLock::new();
         let around = || lay_out("around-the-stand-in", &Tried::Program.script());
         match (self, stand_in()) {
-            (Tried::Program, None) => vec![root().join("host/run"), "bench".into()],
+            (Tried::Program, None) => words_in(&root()),
             (Tried::Program, Some(path)) => vec![path],
             (Tried::Command, None) => vec![BUILT.get_or_init(built).clone()],
             (Tried::Command, Some(_)) => vec![AROUND.get_or_init(around).clone()],
@@ -69,10 +91,7 @@ impl Tried {
 
     /// Gives the command that starts it.
     pub fn start(self) -> Command {
-        let words = self.words();
-        let mut command = Command::new(&words[0]);
-        command.args(&words[1..]);
-        command
+        started_by(&self.words())
     }
 
     /// Gives the command that has a shell run the script, in which `"$@"` are the words that start it.

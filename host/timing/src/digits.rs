@@ -1,6 +1,6 @@
 //! The reading of digits: by the model's list, and by plain Rust in two ways.
 
-use crate::{model, plain::digits, race::race};
+use crate::{model, plain, race::race};
 
 /// How many digits a text has.
 const LENGTH: usize = 1 << 16;
@@ -9,8 +9,8 @@ const LENGTH: usize = 1 << 16;
 pub fn time() {
     let mixed: Vec<u8> = (0..LENGTH).map(mixed).collect();
     for (name, text) in [("mixed", mixed), ("zeros", vec![b'0'; LENGTH])] {
-        beside(&text, name, "chain", digits::read_by_chain);
-        beside(&text, name, "list", digits::read_by_list);
+        beside(&text, name, "chain", plain::read_by_chain);
+        beside(&text, name, "list", plain::read_by_list);
     }
 }
 
@@ -52,12 +52,12 @@ mod tests {
             for text in [[character, b'7'], [b'7', character]] {
                 let [mut model, mut chain, mut list] = [text; 3];
                 let count = model::read_digits(&mut model);
-                assert_eq!((count, model), (digits::read_by_chain(&mut chain), chain));
-                assert_eq!((count, model), (digits::read_by_list(&mut list), list));
+                assert_eq!((count, model), (plain::read_by_chain(&mut chain), chain));
+                assert_eq!((count, model), (plain::read_by_list(&mut list), list));
                 read += count;
             }
         }
-        // 16 of the 256 are digits: two are read of each text with one of these, none or one of each other.
+        // Of the 256, 16 are digits, and both characters of such a text are read; of any other text none or one, as the character stands first or second.
         assert_eq!(read, 16 * 4 + 240);
     }
 }

@@ -13,6 +13,6 @@ pub fn permute(rounds: u64, words: &mut [u64; 5]) -> u64 {
 
 /// Puts the values of the digits at the front of a text in their places, up to the first character that is no digit, and gives how many they are.
 pub fn read_digits(text: &mut [u8]) -> u64 {
-    // The library reads and writes so many bytes behind the pointer, and keeps nothing.
+    // The library reads and writes `text.len()` bytes behind the pointer, and keeps nothing.
     unsafe { kvistmaur_read_digits(text.as_mut_ptr(), text.len()) }
 }

@@ -1,17 +1,17 @@
--- The contracts rule out the wrong answers of the calls of records and digits: each is computed in the checker.
-use mathlib.Core.Path.{_≡_, ap, _∙_}
+-- The contracts rule out the wrong answers of the calls of records and digits: each is computed in the checker, but for two that are laws.
+use mathlib.Core.Path.{_≡_, sym, ap, _∙_}
 use Prim.Native.Nat.{ℕ, _<_}
 use native.Mathlib.Omega.{arith}
 use lib.ListN.{getD}
 use Rattle.answers.specs.declared.Answer.the-variants.{NoRoom, BrokenRecord}
 use Rattle.ascon.specs.Sets.{table, isSet, rowOf}
 use Rattle.ascon.specs.Mode.{p}
-use Rattle.digits.specs.declared.hex.Digit.the-variants.{Value}
+use Rattle.digits.specs.declared.hex.Digit.the-variants.{Value, NoDigit}
 use Rattle.digits.specs.Hex.{digitOf, hexDigit}
 use Rattle.digits.specs.Numbers.{isNumeral, places, numeral}
 use Rattle.digits.specs.Numbers as decimal
 use Rattle.digits.specs.Room.{lineOf, Laid, put}
-use Rattle.digits.proofs.Spelling.{spelled-digit}
+use Rattle.digits.proofs.Spelling.{digit-spells, spelled-digit}
 use Rattle.record.specs.declared.reading.Reading.{Reading}
 use Rattle.record.specs.Form.{fieldOf, isField, blank, withNumber, withField, keeps, broken}
 use Rattle.record.specs.Text.{names, name}
@@ -19,17 +19,19 @@ use Rattle.record.specs.Calls.{begins, valueRead, lineRead, refusedAt, readCall
 use Rattle.letter.specs.Wrong.Records.{Wrong}
 use Rattle.letter.proofs.Calls.{off}
 
--- a digit has one value
-one-value : (v w : ℕ) → v < 16 → (w ≡ v → ⊥) → Value w ≡ digitOf (hexDigit v) → ⊥
-one-value v w h other p = let twice : Value w ≡ Value v = p ∙ spelled-digit v h in other cc
+-- a character that is read as a value is its digit
+other : (c v : ℕ) → (v < 16 → hexDigit v ≡ c → ⊥) → Value v ≡ digitOf c → ⊥
+other c v none p = let spells = digit-spells c v (sym p) in none (spells .0) (spells .1)
+
+-- a digit is read as its value
+digit : (v : ℕ) → v < 16 → NoDigit ≡ digitOf (hexDigit v) → ⊥
+digit v h p = let taken : NoDigit ≡ Value v = p ∙ spelled-digit v h in off cc
 
 pub wrong : Wrong
 unfolding writeCall blank withField readCall lineRead begins refusedAt valueRead name names withNumber keeps decimal.decimalOf isNumeral broken isField fieldOf isSet rowOf table digitOf hexDigit places numeral lineOf put
 wrong = record {
-  read-digit-other = λ v w h other κ e p. one-value v w h other p;
-  read-digit-slash = λ v κ e p. off (cc p);
-  read-digit-upper = λ v κ e p. off (cc p);
-  read-digit-g = λ v κ e p. off (cc p);
+  read-digit-other = λ c v none κ e p. other c v none p;
+  read-digit-none = λ v h κ e p. digit v h p;
   is-digit-upper = λ κ e p. off (cc p);
   is-digit-f = λ κ e p. off (cc p);
   read-pair-low = λ κ e p. off (cc p);

@@ -6,7 +6,7 @@ use Prim.Native.Nat.{ℕ, _<_}
 use lib.ListN.{replicate}
 use Rattle.answers.specs.declared.Answer.the-variants.{NoRoom, BrokenRecord}
 use Rattle.permutation.specs.Strings.{zeros}
-use Rattle.digits.specs.declared.hex.Digit.the-variants.{Value}
+use Rattle.digits.specs.declared.hex.Digit.the-variants.{Value, NoDigit}
 use Rattle.digits.specs.declared.hex.Pair.the-variants.{Byte}
 use Rattle.digits.specs.declared.numbers.Numeral.the-variants.{Number, NoNumber}
 use Rattle.digits.specs.Hex.{hexDigit}
@@ -25,14 +25,10 @@ caseOf rounds =
     record { set = 1; key = sixteen; nonce = sixteen; ad = none; text = none; cipher = none; tag = sixteen; rounds = rounds }
 
 pub record Wrong : Type 0 where
-  -- a digit is read as no value but its own, so not as the next one
-  pub read-digit-other : (v w : ℕ) → v < 16 → (w ≡ v → ⊥) → Never digits.read_digit.Reads.Learnt (hexDigit v, tt) (Value w)
-  -- `/`, before `0`, is no digit, whatever its value were
-  pub read-digit-slash : (v : ℕ) → Never digits.read_digit.Reads.Learnt (0x2f, tt) (Value v)
-  -- `A` is no digit
-  pub read-digit-upper : (v : ℕ) → Never digits.read_digit.Reads.Learnt (0x41, tt) (Value v)
-  -- `g`, behind `f`, is no digit
-  pub read-digit-g : (v : ℕ) → Never digits.read_digit.Reads.Learnt (0x67, tt) (Value v)
+  -- a character is read as no value of which it is not the digit: no value is off by one, and `A` to `F`, `/` and `g` have none
+  pub read-digit-other : (c v : ℕ) → (v < 16 → hexDigit v ≡ c → ⊥) → Never digits.read_digit.Reads.Learnt (c, tt) (Value v)
+  -- a digit is not read as none
+  pub read-digit-none : (v : ℕ) → v < 16 → Never digits.read_digit.Reads.Learnt (hexDigit v, tt) NoDigit
   -- `A` is no digit
   pub is-digit-upper : Never digits.is_digit.Reads.Learnt (0x41, tt) true
   -- `f` is a digit

@@ -1,10 +1,11 @@
 //! Times the program and the second program on the same records, in one run, and prints the ratios of the best times.
 //!
-//! `times [FOLDER]`: with the folder of another checkout, say of the commit before a change, its program is timed in turn with them.
+//! `times [FOLDER]`: with the folder of another checkout, say of the commit before a change, the program that `rt check bench` built there is timed
+//! in turn with them.
 
 use judging::classes::many;
 use judging::end::Counts;
-use judging::program::{run, Tried};
+use judging::program::{program_of, run, Tried};
 use second::judge::judge_all;
 use std::fs::{self, File};
 use std::path::{Path, PathBuf};
@@ -19,6 +20,10 @@ const REPETITIONS: usize = 5;
 type Way<'a> = (&'a str, Box<dyn Fn(&Path) -> Vec<u8> + 'a>);
 
 fn main() {
+    let mut words = std::env::args_os().skip(1);
+    let folder = words.next().map(PathBuf::from);
+    assert!(words.next().is_none(), "usage: times [FOLDER]");
+
     let path = std::env::temp_dir().join(format!("records-{}", std::process::id()));
     let records = many(RECORDS);
     fs::write(&path, &records).expect("a file for the records");
@@ -28,8 +33,8 @@ fn main() {
         ("program", Box::new(program)),
         ("second program", Box::new(|_: &Path| judge_all(&records))),
     ];
-    if let Some(folder) = std::env::args_os().nth(1).map(PathBuf::from) {
-        let other = move |file: &Path| printed(program_in(&folder), file);
+    if let Some(folder) = folder {
+        let other = move |file: &Path| printed(program_of(&folder), file);
         ways.push(("program of the other folder", Box::new(other)));
     }
 
@@ -67,21 +72,15 @@ fn main() {
     }
 }
 
-/// Gives the command that starts the program of another checkout, in which it was built.
-fn program_in(folder: &Path) -> Command {
-    let mut command = Command::new(folder.join("host/run"));
-    command.arg("bench");
-    command
-}
-
 /// Gives what a program prints for a file.
 fn printed(program: Command, path: &Path) -> Vec<u8> {
     let file = File::open(path).expect("the input opens");
     let output = run(program, file, Stdio::piped()).expect("the program ends");
     let end = Counts::of(&output.stdout).line();
+    let said = String::from_utf8_lossy(&output.stderr);
     assert!(
-        output.status.success() && output.stderr == end.as_bytes(),
-        "the program failed"
+        output.status.success() && said == end,
+        "a program failed: {said}"
     );
     output.stdout
 }

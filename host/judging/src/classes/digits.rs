@@ -2,9 +2,13 @@
 
 use crate::input::Input;
 use crate::lines::Lines;
+use second::make::right_record;
 
 /// The lines that hold bytes.
 const LINES: std::ops::RangeInclusive<usize> = 2..=7;
+
+/// The digits, in the order of their values.
+const DIGITS: [u8; 16] = *b"0123456789abcdef";
 
 /// Where a wrong digit is put.
 #[derive(Clone, Copy)]
@@ -55,21 +59,37 @@ pub fn wrong() -> Vec<Input> {
     inputs
 }
 
-/// Gives each of the 256 characters in place of a digit, of each line in turn, the high one of a byte and the low one.
+/// Gives each of the 256 characters as the high and as the low digit of a byte. One that is a digit spells the text of a right record, which is
+/// equal only where its value is right; any other stands in each line in turn.
 pub fn each_character() -> Vec<Input> {
-    let each = (0..=u8::MAX).zip(LINES.cycle());
-    each.map(|(character, line)| {
-        let lines = Lines::short(line);
-        let mut value = lines.value(line).to_vec();
-        value[usize::from(character / 8 % 2)] = character;
-        let what = format!("line {line} character {character}");
-        let bytes = lines.with_value(line, value);
-        match character {
-            b'0'..=b'9' | b'a'..=b'f' | b'\n' => Input::told(what, bytes),
-            _ => Input::unread(what, bytes, line),
+    let mut inputs = Vec::new();
+    for (character, line) in (0..=u8::MAX).zip(LINES.cycle()) {
+        for (place, name) in ["high", "low"].into_iter().enumerate() {
+            let what = format!("character {character} as a {name} digit");
+            let value = (0..).zip(DIGITS).find(|(_, digit)| *digit == character);
+            inputs.push(match value {
+                Some((value, _)) => Input::equal(what, right_with([value << 4, value][place])),
+                None => {
+                    let lines = Lines::short(line);
+                    let mut value = lines.value(line).to_vec();
+                    value[place] = character;
+                    let lines = lines.with_value(line, value);
+                    match character {
+                        // A line feed may leave a right line, and break the next one.
+                        b'\n' => Input::told(what, lines),
+                        _ => Input::unread(what, lines, line),
+                    }
+                }
+            });
         }
-    })
-    .collect()
+    }
+    inputs
+}
+
+/// Gives a right record with this byte as its text.
+fn right_with(byte: u8) -> Lines {
+    let record = right_record(1, &[0; 16], &[0; 16], &[], &[byte]);
+    Lines::of(&record.expect("the message fits a record"))
 }
 
 /// Gives each line with a digit fewer, a digit more, a digit alone, and a sign of hex in front.

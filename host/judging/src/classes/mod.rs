@@ -30,7 +30,7 @@ pub const CLASSES: [Class; 24] = [
     Class { name: "each line damaged", inputs: 208, make: any_line::damaged },
     Class { name: "lines doubled or moved", inputs: 19, make: any_line::moved },
     Class { name: "wrong digits", inputs: 90, make: digits::wrong },
-    Class { name: "each character as a digit", inputs: 256, make: digits::each_character },
+    Class { name: "each character as a digit", inputs: 512, make: digits::each_character },
     Class { name: "odd digits", inputs: 24, make: digits::odd },
     Class { name: "lengths of key nonce and tag", inputs: 32, make: lengths::exact },
     Class { name: "lengths of ad text and cipher", inputs: 26, make: lengths::up_to_256 },

@@ -46,7 +46,7 @@ fn chain(character: u8) -> Option<u8> {
 }
 
 /// The value of each character, 255 where it is no digit.
-const LIST: [u8; 256] = {
+static LIST: [u8; 256] = {
     let mut list = [255; 256];
     let digits = b"0123456789abcdef";
     let mut value = 0;

@@ -1,9 +1,11 @@
-//! The cipher and the reading of digits as a Rust programmer would write them: the baseline that the model is timed beside.
+//! The cipher as a Rust programmer would write it, and the reading of digits as the model did it before and as a Rust programmer would: the baseline
+//! that the model is timed beside.
 
-pub mod digits;
+mod digits;
 mod message;
 mod permutation;
 mod sponge;
 
+pub use digits::{read_by_chain, read_by_list};
 pub use message::{open, seal};
 pub use permutation::permute;

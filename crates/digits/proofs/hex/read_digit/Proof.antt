@@ -1,7 +1,7 @@
 -- `digits::hex::read_digit` meets its contract.
 use borrow.Author.Needs.{needs}
 use borrow.Author.Tests.{lt-ltb, le-ltb}
-use Rattle.digits.proofs.Listed.{listed}
+use Rattle.digits.proofs.LookUp.{looked-up}
 use Rattle.digits.proofs.hex.read_digit.Statement.{statement}
 use Rattle.digits.proofs.hex.read_digit.Tie as tie
 
@@ -21,10 +21,10 @@ cast-value-2 : tie.Need-cast-value-2
 cast-value-2 c = search needs
 
 returns : tie.Need-returns
-returns c = rw (← listed (c .before .before .args .character) (search needs), ← c .before .digit-row .ensures, lt-ltb _ 16 (c .if1 .taken))
+returns c = rw (← looked-up (c .before .before .args .character) (search needs), ← c .before .digit-row .ensures, lt-ltb _ 16 (c .if1 .taken))
 
 returns-2 : tie.Need-returns-2
-returns-2 c = rw (← listed (c .before .before .args .character) (search needs), ← c .before .digit-row .ensures, le-ltb _ 16 (c .if1 .left))
+returns-2 c = rw (← looked-up (c .before .before .args .character) (search needs), ← c .before .digit-row .ensures, le-ltb _ 16 (c .if1 .left))
 
 pub read-digit-spec : {M : Type 1} → statement M
 read-digit-spec =

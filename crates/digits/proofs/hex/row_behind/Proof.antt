@@ -1,5 +1,5 @@
 -- `digits::hex::row_behind` meets its contract.
-use Rattle.digits.proofs.Listed.{behind}
+use Rattle.digits.proofs.LookUp.{behind}
 use Rattle.digits.proofs.hex.row_behind.Statement.{statement}
 use Rattle.digits.proofs.hex.row_behind.Tie as tie
 

@@ -1,4 +1,4 @@
--- The list that the code looks characters up in, 32 rows of eight. Nobody has to believe it: `listed` proves that it says what `digitOf` says.
+-- The list that the code looks characters up in. Nobody has to believe it: `looked-up` proves that it says of each character what `digitOf` says.
 use mathlib.Core.Path.{_≡_}
 use mathlib.Core.List.{List, [], _∷_}
 use Prim.Native.Nat.{ℕ, zero, suc}
@@ -8,16 +8,16 @@ use lib.ListN.{getD}
 abbrev pub noDigits : ℕ
 noDigits = 0xffffffffffffffff
 
--- the rows up to the last that has a digit: the values of eight characters, a byte each, the first in the low byte; ff for one that is no digit
+-- the rows up to the last that has a digit; row n has the values of the characters 8 n to 8 n + 7, a byte each, the first in the low byte; ff for one that is no digit
 abbrev pub digitRows : List ℕ
 digitRows =
     noDigits ∷ noDigits ∷ noDigits ∷ noDigits ∷ noDigits ∷ noDigits ∷ 0x0706050403020100 ∷ 0xffffffffffff0908 ∷ noDigits ∷ noDigits ∷ noDigits ∷ noDigits ∷ 0xff0f0e0d0c0b0aff ∷ []
 
--- a row by its number
+-- a row by its number; those behind have no digit
 abbrev pub digitRow : ℕ → ℕ
 digitRow row = getD digitRows row noDigits
 
--- a number is none of those below n
+-- a number is none of those below n: what is known of it behind n arms of a `match`, in the form that the checker has it in
 abbrev pub noneBelow : ℕ → ℕ → Type 0
 noneBelow zero number = Unit
 noneBelow (suc n) number = noneBelow n number × (number ≡ n → ⊥)

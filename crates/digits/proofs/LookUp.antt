@@ -9,7 +9,7 @@ use Rattle.permutation.proofs.Test.{at}
 use Rattle.digits.specs.declared.hex.Digit.{Digit}
 use Rattle.digits.specs.declared.hex.Digit.the-variants.{Value, NoDigit}
 use Rattle.digits.specs.Hex.{digitOf}
-use Rattle.digits.specs.Listed.{noDigits, digitRows, digitRow, noneBelow}
+use Rattle.digits.specs.LookUp.{noDigits, digitRows, digitRow, noneBelow}
 
 -- ---- rows
 
@@ -18,7 +18,7 @@ past : (n row : ℕ) → noneBelow n row → n ≤ row
 past zero row h = omega arith
 past (suc n) row (h, other) = omega (arith, past n row h, other)
 
--- a row behind those listed has no digits
+-- the last row, and any behind it, has no digits
 pub behind : (row : ℕ) → noneBelow 31 row → noDigits ≡ digitRow row
 behind row h = sym (List·getD-eq-default digitRows noDigits {n = row} (omega (arith, past 31 row h)))
 
@@ -29,7 +29,7 @@ abbrev entry : ℕ → ℕ
 entry character = digitRow (character / 8) / 2 ^ (8 * (character % 8)) % 256
 
 -- what an entry says: a value below 16, or that it is no digit
-abbrev pub said : ℕ → Digit
+abbrev said : ℕ → Digit
 said e = cond (ltb e 16) (Value e) NoDigit
 
 abbrev same : Digit → Digit → Bool
@@ -45,6 +45,6 @@ same-eq NoDigit (Value w) t = absurd t
 same-eq NoDigit NoDigit t = refl
 
 -- the list's rule, computed at each character
-pub listed : (character : ℕ) → character < 256 → said (entry character) ≡ digitOf character
+pub looked-up : (character : ℕ) → character < 256 → said (entry character) ≡ digitOf character
 unfolding digitOf
-listed character h = same-eq _ _ (at 256 (λ c. same (said (entry c)) (digitOf c)) tt character h)
+looked-up character h = same-eq _ _ (at 256 (λ c. same (said (entry c)) (digitOf c)) tt character h)
