@@ -5,10 +5,9 @@ use crate::{model, plain, race::race};
 /// How many digits a text has.
 const LENGTH: usize = 1 << 16;
 
-/// Times texts of digits as they come in keys and ciphertexts, and of one digit alone, on which no comparison surprises the processor.
+/// Times a text of mixed digits, as keys and ciphertexts are, and one of zeros, in which the processor foresees each comparison.
 pub fn time() {
-    let mixed: Vec<u8> = (0..LENGTH).map(mixed).collect();
-    for (name, text) in [("mixed", mixed), ("zeros", vec![b'0'; LENGTH])] {
+    for (name, text) in [("mixed", mixed()), ("zeros", vec![b'0'; LENGTH])] {
         beside(&text, name, "chain", plain::read_by_chain);
         beside(&text, name, "list", plain::read_by_list);
     }
@@ -31,13 +30,14 @@ fn beside(text: &[u8], name: &str, way: &str, plain: fn(&mut [u8]) -> u64) {
     println!("    million digits a second: model {model:.0}, plain {plain:.0}");
 }
 
-/// A digit for a place, with no order that a processor could learn.
-fn mixed(place: usize) -> u8 {
-    let scattered = (place as u64)
-        .wrapping_add(1)
-        .wrapping_mul(0x9e37_79b9_7f4a_7c15);
-    b"0123456789abcdef"
-        [((scattered ^ scattered >> 29).wrapping_mul(0xbf58_476d_1ce4_e5b9) >> 60) as usize]
+/// Digits with no order that a processor could learn.
+fn mixed() -> Vec<u8> {
+    let mut state: u64 = 1;
+    let mut digit = || {
+        state = state.wrapping_mul(6364136223846793005).wrapping_add(1);
+        b"0123456789abcdef"[(state >> 60) as usize]
+    };
+    (0..LENGTH).map(|_| digit()).collect()
 }
 
 #[cfg(test)]
