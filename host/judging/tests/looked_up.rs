@@ -1,5 +1,5 @@
-//! The list that the program looks hex digits up in stands whole in the file of the program. So it is not put together while the program runs;
-//! docs/landings/W4.md has the machine code that loads its entries.
+//! The list that the program looks hex digits up in stands whole in the file of the program. That its entries are loaded from there is no matter of
+//! this test: docs/landings/W4.md has the machine code.
 
 use judging::program::file;
 use std::fs;
