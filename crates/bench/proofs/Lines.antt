@@ -5,11 +5,8 @@ use Prim.Native.Nat.{ℕ, _+_, _-_, _≤_}
 use native.Mathlib.Omega.{arith}
 use lib.ListN.{length, take, drop, length-append, length-drop}
 use lib.Seq.{take-append-add, take-append-seam, take-all, length-take-le}
-use Rattle.digits.specs.Numbers.{numeral}
 use Rattle.digits.specs.Room.{laid, put}
 use Rattle.digits.proofs.Room.{put-count}
-use Rattle.report.proofs.Lengths.{numeral-most}
-use Rattle.turns.specs.Tallies.{largest, numbered}
 use Rattle.bench.specs.Lines.{Follows}
 
 -- a text that was put into the rest of a place stands straight behind what was before it
@@ -55,8 +52,3 @@ follows-more {at = at} {x = x} {y = y} {before = before} f g =
       stands = g .stands ∙ ap (λ (l : List ℕ). l ++ y) (f .stands) ∙ append-assoc (take at before) x y;
       same-length = g .same-length ∙ f .same-length;
     }
-
--- a number has at most 20 digits
-pub numbered-most : (text : List ℕ) (number : ℕ) → number ≤ largest → length (numbered text number) ≤ length text + 20
-unfolding numbered
-numbered-most text number h = omega (arith, length-append text (numeral number), numeral-most number (omega arith))

@@ -1,20 +1,18 @@
 -- What a step on the window makes of the places is what the program's run makes of its window.
 use mathlib.Core.Path.{_≡_, refl, sym, ap, subst⁻¹, _∙_}
-use mathlib.Core.Bool.{Bool, true, false, cond, true≢false}
+use mathlib.Core.Bool.{Bool, true, false, cond}
 use mathlib.Core.List.{List, _++_}
-use mathlib.Core.Logic.{_⊎_, inl, inr}
 use Prim.Native.Nat.{ℕ, _+_, _-_, _≤_, _<_}
 use native.Mathlib.Omega.{arith}
 use lib.Dec.{eqb, leb}
 use lib.ListN.{length, take, drop, length-append, length-drop}
 use lib.Seq.{length-take-le, take-length, take-append-seam}
 use borrow.Author.Tests.{eq-eqb, ne-eqb, le-leb}
-use Rattle.answers.specs.declared.Answer.the-variants.{Done}
+use Rattle.record.specs.Text.{mostBytes}
 use Rattle.answers.specs.Numbers.{isDone}
 use Rattle.answers.proofs.Numbers.{done-is}
-use Rattle.record.specs.declared.reading.Reading.{Reading}
-use Rattle.record.specs.Calls.{refusedAt, readCall}
-use Rattle.record.proofs.Laws.{reads-and-writes, taken-inside}
+use Rattle.record.specs.Calls.{readCall}
+use Rattle.record.proofs.Laws.{refused-takes, taken-inside}
 use Rattle.report.specs.declared.Verdict.{Verdict}
 use Rattle.report.specs.declared.Verdict.the-variants.{Unread}
 use Rattle.report.specs.Reports.{reportText}
@@ -32,15 +30,6 @@ use Rattle.bench.specs.Progress.{doing, reporting, stepped, Takes, Sound
 use Rattle.turns.proofs.Tallies.{counted-more}
 use Rattle.bench.proofs.Views.{drop-part, less}
 
--- a text that is not read takes nothing
-pub refused-takes : (text : List ℕ) → isDone (readCall text .answer) ≡ false → readCall text .taken ≡ 0
-unfolding refusedAt
-refused-takes text e = go (reads-and-writes .answered text)
-  where
-    go : (readCall text .answer ≡ Done) ⊎ (readCall text ≡ refusedAt (readCall text .line)) → readCall text .taken ≡ 0
-    go (inl d) = let z : true ≡ false = sym (ap isDone d) ∙ e in absurd (true≢false z)
-    go (inr r) = ap (λ (q : Reading). q .taken) r
-
 -- what a step makes of the places: it takes no more than it may, it is what the run makes of its window, and the places stay within their bounds
 pub record Looked (p : Progress) (buffer text : List ℕ) (step : Step) (after : List ℕ) : Type 0 where
   pub takes : Takes p step
@@ -48,7 +37,7 @@ pub record Looked (p : Progress) (buffer text : List ℕ) (step : Step) (after :
   pub sound : Sound (stepped p step) buffer after
 
 -- the places where only the stage changes
-sound-doing : (p : Progress) (buffer text : List ℕ) → Sound p buffer text → (stage : Stage) → (stage ≡ Read → p .filled - p .start < 1_688) → Sound (doing stage p) buffer text
+sound-doing : (p : Progress) (buffer text : List ℕ) → Sound p buffer text → (stage : Stage) → (stage ≡ Read → p .filled - p .start < mostBytes) → Sound (doing stage p) buffer text
 sound-doing p buffer text sound stage reads =
     record {
       begins = sound .begins;
@@ -134,7 +123,7 @@ module _ (p : Progress) (buffer text : List ℕ) (sound : Sound p buffer text) (
       }
 
   -- more is wanted
-  waits : looked (view p buffer text) ≡ next Read (view p buffer text) → p .filled - p .start < 1_688 → Looked p buffer text Wait text
+  waits : looked (view p buffer text) ≡ next Read (view p buffer text) → p .filled - p .start < mostBytes → Looked p buffer text Wait text
   waits e h = record { takes = takes-none Wait refl; is = sym e; sound = sound-doing p buffer text sound Read (λ z. h) }
 
   -- a report stands in the text
@@ -170,8 +159,8 @@ module _ (p : Progress) (buffer text : List ℕ) (sound : Sound p buffer text) (
       fits : leb (length report) (length text) ≡ true
       fits = le-leb (length report) (length text) (omega (arith, room, sound .long))
 
-      waiting : stepLeaves step after ≡ stepLeaves Wait text → p .filled - p .start < 1_688
-      waiting e = omega (arith, length-window, judges .waits window (p .ended) number text (sym (ap (λ (l : StepLeaves). l .step) h) ∙ ap (λ (l : StepLeaves). l .step) e) .0)
+      waiting : stepLeaves step after ≡ stepLeaves Wait text → p .filled - p .start < mostBytes
+      waiting e = omega (arith, length-window, judges .short-window window (p .ended) number text (sym (ap (λ (l : StepLeaves). l .step) h) ∙ ap (λ (l : StepLeaves). l .step) e))
 
       go : (e t f d : Bool) → eqb (length window) 0 ≡ e → p .ended ≡ t → isFinal window (p .ended) ≡ f → isDone (readCall window .answer) ≡ d → Looked p buffer text step after
       go true true f d ee et ef ed = by-step End text (h ∙ rw (ee, et)) (ends ee et)
@@ -188,6 +177,6 @@ module _ (p : Progress) (buffer text : List ℕ) (sound : Sound p buffer text) (
           (record { takes = record { inside = both .1 .begins; few = sound .few }; is = both .0; sound = both .1 })
       go false t true false ee et ef ed =
           let unread = ap (countedWith (p .tally)) (judges .unread window ed) in
-          let both = reports 0 (Unread (readCall window .line)) ee ef (refused-takes window ed) unread (omega arith) in
-          by-step (Stopped (readCall window .line) (length report)) (report ++ drop (length report) text) (h ∙ rw (ee, ef, fits, ed, take-length))
+          let both = reports 0 (Unread (readCall window .line) (readCall window .column)) ee ef (refused-takes window ed .0) unread (omega arith) in
+          by-step (Stopped (readCall window .line) (readCall window .column) (length report)) (report ++ drop (length report) text) (h ∙ rw (ee, ef, fits, ed, take-length))
           (record { takes = record { inside = both .1 .begins; few = sound .few }; is = both .0; sound = both .1 })

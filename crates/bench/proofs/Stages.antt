@@ -73,9 +73,9 @@ to-output (Over ending) k = refl
 
 -- a verdict that names a field is counted as a difference
 pub differing : (t : Tally) (v : Verdict) → OneOf (1 ∷ 2 ∷ 3 ∷ []) (tagOf verdict.the-type v)
-    → record { equal = t .equal; differ = t .differ + 1; unread = t .unread } ≡ countedWith t v
+    → record { equal = t .equal; differ = t .differ + 1; unread = t .unread; line = t .line; column = t .column } ≡ countedWith t v
 differing t Equal k = absurd (miss (1 ∷ 2 ∷ 3 ∷ []) 0 tt k)
 differing t Rounds k = refl
 differing t Cipher k = refl
 differing t Tag k = refl
-differing t (Unread line) k = absurd (miss (1 ∷ 2 ∷ 3 ∷ []) 4 tt k)
+differing t (Unread line column) k = absurd (miss (1 ∷ 2 ∷ 3 ∷ []) 4 tt k)

@@ -17,7 +17,7 @@ use Rattle.turns.specs.declared.Stage.the-variants.{Judge, Close, Read, Write, 
 use Rattle.bench.specs.declared.progress.Progress.{Progress}
 use Rattle.turns.specs.Run.{next, isClosing, isReading, isWriting, behind, failed, came, took, heard, Came, Took}
 use Rattle.turns.specs.Run as run
-use Rattle.turns.specs.Tallies.{endLine}
+use Rattle.turns.specs.Tallies.{lastWords}
 use Rattle.bench.specs.Lines.{Follows}
 use Rattle.turns.specs.Laws.{OneAnswer}
 use Rattle.bench.specs.Progress.{isSignal, heardOf, failing, ending, front, readMore, wrote, wroteMore, movedBy, Sound, view, More, Less, Closed}
@@ -226,8 +226,8 @@ sound-write p q buffer text writing l s = subst (λ (r : Progress). Sound r buff
 
 -- ---- the end
 
--- the line that ends the run stands in the text
-pub closed-says : (p : Progress) (before after : List ℕ) (size : ℕ) → isClosing (p .stage) ≡ true → Follows 0 (endLine (p .tally)) size before after
+-- the last words stand in the text
+pub closed-says : (p : Progress) (before after : List ℕ) (size : ℕ) → isClosing (p .stage) ≡ true → Follows 0 (lastWords (p .tally)) size before after
     → Closed p before (ending p size) after
 closed-says p before after size closing f =
     record {

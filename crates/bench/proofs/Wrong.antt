@@ -20,4 +20,5 @@ ruled-out =
       end = λ p allowed ended. true≢false (sym ended ∙ ap (λ (q : Progress). q .ended) allowed);
       failure = λ p allowed close. let z : _≡_ {A = ℕ} 0 1 = cc (sym close ∙ ap (λ (q : Progress). q .stage) allowed) in omega arith;
       tag = λ t allowed one. let none : _≡_ {A = ℕ} 1 0 = sym one ∙ ap (λ (t : Tally). t .equal) allowed in omega arith;
+      column = λ t allowed none. let kept : _≡_ {A = ℕ} 0 17 = sym none ∙ ap (λ (t : Tally). t .column) allowed in omega arith;
     }

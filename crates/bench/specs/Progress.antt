@@ -6,6 +6,7 @@ use Prim.Native.Nat.{ℕ, _+_, _-_, _≤_, _<_}
 use lib.Dec.{eqb}
 use lib.IntN.{ℤ, pos, negsuc}
 use lib.ListN.{length, take, drop}
+use Rattle.record.specs.Text.{mostBytes}
 use Rattle.report.specs.declared.Verdict.{Verdict}
 use Rattle.report.specs.declared.Verdict.the-variants.{Unread}
 use Rattle.judge.specs.declared.stepping.Step.{Step}
@@ -20,7 +21,7 @@ use Rattle.bench.specs.declared.progress.Progress.{Progress}
 use Rattle.turns.specs.Tallies.{none, countedWith, recordsOf, largest}
 use Rattle.turns.specs.Run.{Standing, closed, behind, failed}
 
--- the number of standard error for the line that ends the run, of standard output else
+-- the number of standard error for the last words, of standard output else
 abbrev pub descriptorOf : Stage → ℤ
 descriptorOf Judge = pos 1
 descriptorOf Close = pos 1
@@ -50,14 +51,14 @@ abbrev pub reporting : Progress → Verdict → ℕ → ℕ → Progress
 reporting p verdict taken written =
     record { start = p .start + taken; filled = p .filled; ended = p .ended; tally = countedWith (p .tally) verdict; from = 0; size = written; stage = Write }
 
--- with the line that ends the run to say
+-- with the last words to say
 abbrev pub ending : Progress → ℕ → Progress
 ending p size = record { start = p .start; filled = p .filled; ended = p .ended; tally = p .tally; from = 0; size = size; stage = Say }
 
 -- after a step on the window
 abbrev pub stepped : Progress → Step → Progress
 stepped p (Judged verdict taken written) = reporting p verdict taken written
-stepped p (Stopped line written) = reporting p (Unread line) 0 written
+stepped p (Stopped line column written) = reporting p (Unread line column) 0 written
 stepped p Wait = doing Read p
 stepped p End = doing Close p
 stepped p Short = doing (Over TooMany) p
@@ -113,15 +114,15 @@ movedBy Again = 0
 movedBy Failed = 0
 
 -- the window lies in the buffer, which has room for more than the most bytes of a record; where a read is next, the window is shorter than that; what is left to write
--- lies in the text, which has room for a report and for the line that ends a run; the next verdict can be counted
+-- lies in the text, which has room for a report and for the last words; the next verdict can be counted
 pub record Sound (p : Progress) (buffer text : List ℕ) : Type 0 where
   pub begins : p .start ≤ p .filled
   pub inside : p .filled ≤ length buffer
-  pub wide : 1_688 < length buffer
-  pub room : p .stage ≡ Read → p .filled - p .start < 1_688
+  pub wide : mostBytes < length buffer
+  pub room : p .stage ≡ Read → p .filled - p .start < mostBytes
   pub from-size : p .from ≤ p .size
   pub size-text : p .size ≤ length text
-  pub long : 128 ≤ length text
+  pub long : 256 ≤ length text
   pub few : recordsOf (p .tally) < largest
 
 -- ---- as the program's run
@@ -150,7 +151,7 @@ pub record Less (p q : Progress) : Type 0 where
   pub is : q ≡ wroteMore p heard
   pub fits : p .from + movedBy heard ≤ p .size
 
--- after closing: the line that ends the run is to be said, where that was next; nothing else changes
+-- after closing: the last words are to be said, where that was next; nothing else changes
 pub record Closed (p : Progress) (before : List ℕ) (q : Progress) (after : List ℕ) : Type 0 where
   pub is : (buffer : List ℕ) → view q buffer after ≡ closed (view p buffer before)
   pub sound : (buffer : List ℕ) → Sound p buffer before → Sound q buffer after

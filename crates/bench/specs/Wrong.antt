@@ -3,7 +3,7 @@ use mathlib.Core.Bool.{true}
 use mathlib.Core.Path.{_≡_}
 use lib.IntN.{ℤ, pos, negsuc}
 use Rattle.report.specs.declared.Verdict.{Verdict}
-use Rattle.report.specs.declared.Verdict.the-variants.{Tag}
+use Rattle.report.specs.declared.Verdict.the-variants.{Tag, Unread}
 use Rattle.turns.specs.declared.Stage.the-variants.{Close}
 use Rattle.turns.specs.declared.Tally.{Tally}
 use Rattle.turns.specs.Tallies.{none}
@@ -22,3 +22,5 @@ pub record RuledOut (hears : ℤ → ℤ → Heard → Type 0) (reads : Progress
   pub failure : (p : Progress) → reads fresh Failed p → p .stage ≡ Close → ⊥
   -- a record whose tag differs is not counted as equal
   pub tag : (t : Tally) → counts none Tag t → t .equal ≡ 1 → ⊥
+  -- a tally of an unread record does not forget its column
+  pub column : (t : Tally) → counts none (Unread 4 17) t → t .column ≡ 0 → ⊥

@@ -1,11 +1,13 @@
 // The bench: judges the records that stand one after another on standard input, writes three lines on each to standard output, and at its proper end says on
-// standard error how many it judged, and how. What fails is said there in its place; a record that a failed read cut off gets no report.
+// standard error where the unread record broke, if there is one, and how many it judged, and how. What fails is said there in its place; a record that a failed read
+// cut off gets no report.
 mod progress;
 mod tally;
 
 ghost use mathlib.Core.Path.{_≡_};
 ghost use Prim.Native.Nat.{_-_, _≤_, _<_};
 ghost use lib.ListN.{length, take, drop};
+ghost use Rattle.record.specs.Text.{mostBytes};
 ghost use Rattle.turns.specs.Tallies.{recordsOf, largest};
 ghost use Rattle.turns.specs.Run.{judged};
 ghost use Rattle.bench.specs.Progress.{movedBy, Sound, view, More, Less, Closed};
@@ -116,10 +118,10 @@ fn look(buffer: &[u8], text: &mut [u8], p: Progress) -> Progress
     progress::after_step(p, step)
 }
 
-// Puts the line that ends the run into the text, where that is next.
+// Puts the last words into the text, where that is next.
 fn close(text: &mut [u8], mut p: Progress) -> Progress
     requires { ⌜ recordsOf (p .tally) < largest ⌝ }
-    requires { ⌜ 128 ≤ length (now text) ⌝ }
+    requires { ⌜ 256 ≤ length (now text) ⌝ }
     ensures { λ r. ⌜ Closed p (now (text .entry)) r (now (text .exit)) ⌝ }
 {
     let stage = p.stage;
@@ -128,7 +130,7 @@ fn close(text: &mut [u8], mut p: Progress) -> Progress
     };
     let tally = p.tally;
     p.from = 0;
-    p.size = tally::put_end(tally, text);
+    p.size = tally::put_last(tally, text);
     progress::at_stage(p, Stage::Say)
 }
 
@@ -146,14 +148,16 @@ fn turn(buffer: &mut [u8], text: &mut [u8], mut p: Progress) -> Progress
 // Turn after turn until nothing is left to do. A proved loop has to end, and nothing says that the input does: it counts its turns down, from a number that no run
 // uses up.
 fn run(buffer: &mut [u8], text: &mut [u8]) -> Progress
-    requires { ⌜ 1688 < length (now buffer) ⌝ }
-    requires { ⌜ 128 ≤ length (now text) ⌝ }
+    requires { ⌜ mostBytes < length (now buffer) ⌝ }
+    requires { ⌜ 256 ≤ length (now text) ⌝ }
     ensures { λ r. ⌜ Ran (view r (now (buffer .exit)) (now (text .exit))) ⌝ }
 {
     let tally = Tally {
         equal: 0,
         differ: 0,
         unread: 0,
+        line: 0,
+        column: 0,
     };
     let mut p = Progress {
         start: 0,
@@ -194,7 +198,7 @@ fn explain(stage: Stage) {
 
 fn main() {
     let mut space = io::large_buffer();
-    let mut report = [0; 128];
+    let mut report = [0; 256];
     let p = run(&mut space, &mut report);
     let stage = p.stage;
     explain(stage);

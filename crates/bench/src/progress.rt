@@ -30,7 +30,7 @@ pub struct Progress {
     pub stage: Stage,
 }
 
-// Where a stage writes: the line that ends the run to standard error, all else to standard output.
+// Where a stage writes: the last words to standard error, all else to standard output.
 pub(crate) fn descriptor(stage: Stage) -> i32
     ensures { λ r. ⌜ r ≡ descriptorOf stage ⌝ }
 {
@@ -130,7 +130,11 @@ pub(crate) fn after_step(p: Progress, step: Step) -> Progress
             taken,
             written,
         } => count_record(p, verdict, taken, written),
-        Step::Stopped { line, written } => count_record(p, Verdict::Unread(line), 0, written),
+        Step::Stopped {
+            line,
+            column,
+            written,
+        } => count_record(p, Verdict::Unread { line, column }, 0, written),
         Step::Wait => at_stage(p, Stage::Read),
         Step::End => at_stage(p, Stage::Close),
         // It never comes: the text has room for every report.

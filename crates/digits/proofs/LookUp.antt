@@ -1,15 +1,17 @@
 -- The list that the code looks characters up in says of each what it is as a digit.
 use mathlib.Core.Path.{_≡_, refl, sym, ap}
-use mathlib.Core.Bool.{Bool, true, false, cond}
-use Prim.Native.Nat.{ℕ, zero, suc, _*_, _/_, _%_, _^_, _≤_, _<_}
+use mathlib.Core.Bool.{Bool, true, false, cond, _||_}
+use Prim.Native.Nat.{ℕ, zero, suc, _-_, _/_, _≤_, _<_}
 use native.Mathlib.Omega.{arith}
 use lib.Dec.{T, eqb, ltb, eqb→eq}
 use lib.ListN.{List·getD-eq-default}
 use Rattle.permutation.proofs.Test.{at}
+use Rattle.digits.specs.declared.hex.Case.{Case}
+use Rattle.digits.specs.declared.hex.Case.the-variants.{Lower, Upper}
 use Rattle.digits.specs.declared.hex.Digit.{Digit}
 use Rattle.digits.specs.declared.hex.Digit.the-variants.{Value, NoDigit}
-use Rattle.digits.specs.Hex.{digitOf}
-use Rattle.digits.specs.LookUp.{noDigits, digitRows, digitRow, noneBelow}
+use Rattle.digits.specs.Hex.{digitIn, isValue}
+use Rattle.digits.specs.LookUp.{noDigits, digitRows, digitRow, entryOf, noneBelow}
 
 -- ---- rows
 
@@ -24,13 +26,10 @@ behind row h = sym (List·getD-eq-default digitRows noDigits {n = row} (omega (a
 
 -- ---- entries
 
--- the entry of a character: its byte in its row
-abbrev entry : ℕ → ℕ
-entry character = digitRow (character / 8) / 2 ^ (8 * (character % 8)) % 256
-
--- what an entry says: a value below 16, or that it is no digit
-abbrev said : ℕ → Digit
-said e = cond (ltb e 16) (Value e) NoDigit
+-- what an entry says of a letter's case: a value, or that it is no digit
+abbrev said : Case → ℕ → Digit
+said Lower e = cond (ltb e 16) (Value e) NoDigit
+said Upper e = cond (ltb e 10) (Value e) (cond (eqb (e / 16) 1) (Value (e - 16)) NoDigit)
 
 abbrev same : Digit → Digit → Bool
 same (Value v) (Value w) = eqb v w
@@ -45,6 +44,24 @@ same-eq NoDigit (Value w) t = absurd t
 same-eq NoDigit NoDigit t = refl
 
 -- the list's rule, computed at each character
-pub looked-up : (character : ℕ) → character < 256 → said (entry character) ≡ digitOf character
-unfolding digitOf
-looked-up character h = same-eq _ _ (at 256 (λ c. same (said (entry c)) (digitOf c)) tt character h)
+pub looked-up : (case : Case) (character : ℕ) → character < 256 → said case (entryOf character) ≡ digitIn case character
+unfolding digitIn
+looked-up Lower character h = same-eq _ _ (at 256 (λ c. same (said Lower (entryOf c)) (digitIn Lower c)) tt character h)
+looked-up Upper character h = same-eq _ _ (at 256 (λ c. same (said Upper (entryOf c)) (digitIn Upper c)) tt character h)
+
+-- an entry is a digit in lower case where it is below 16
+pub lower-said : (e : ℕ) → isValue (said Lower e) ≡ ltb e 16
+lower-said e = go (ltb e 16)
+  where
+    go : (b : Bool) → isValue (cond b (Value e) NoDigit) ≡ b
+    go true = refl
+    go false = refl
+
+-- and in upper case where it is below ten, or 16 more than a value
+pub upper-said : (e : ℕ) → isValue (said Upper e) ≡ (ltb e 10 || eqb (e / 16) 1)
+upper-said e = go (ltb e 10) (eqb (e / 16) 1)
+  where
+    go : (b c : Bool) → isValue (cond b (Value e) (cond c (Value (e - 16)) NoDigit)) ≡ (b || c)
+    go true c = refl
+    go false true = refl
+    go false false = refl

@@ -1,18 +1,33 @@
 -- Numbers and their numerals: each reading undoes its writing, and the other way round.
 use mathlib.Core.Path.{_≡_, refl, sym, ap, _∙_, subst}
-use mathlib.Core.Bool.{Bool, true, false, cond, not, false≢true}
+use mathlib.Core.Bool.{Bool, true, false, _&&_, false≢true}
 use mathlib.Core.List.{List, [], _∷_, _++_, append-nil}
 use Prim.Native.Nat.{ℕ, zero, suc, _+_, _-_, _*_, _/_, _%_, _^_, _≤_, _<_}
-use native.Mathlib.Nat.{le-refl, mul-le-mul-right, pow-suc, pow-le-pow-right}
+use native.Mathlib.Nat.{le-refl}
 use native.Mathlib.Omega.{arith}
-use lib.Dec.{leb, ltb}
+use lib.Dec.{eqb, leb, ltb}
 use lib.ListN.{length, getD, length-append, List·getD-append}
 use lib.Seq.{append-snoc}
-use borrow.Author.Tests.{ltb-true, ltb-false, leb-true, not-true, lt-ltb, le-ltb, le-leb, eq-eqb, ne-eqb}
-use Rattle.digits.specs.declared.numbers.Numeral.the-variants.{Number, NoNumber}
-use Rattle.digits.specs.Hex.{within, digitOf, allDigits}
-use Rattle.digits.specs.Numbers.{allDecimal, needlessZero, isNumeral, valueFrom, decimalOf, placesIn, places, decimals, numeral}
+use borrow.Author.Tests.{ltb-true, ltb-false, lt-ltb, le-ltb, le-leb, eq-eqb}
+use Rattle.digits.specs.Hex.{within}
+use Rattle.digits.specs.Numbers.{placesIn, places, decimals, numeral}
 use Rattle.digits.proofs.Spelling.{and-both, within-true, within-is}
+
+-- ---- decimals
+
+-- each character is one of `0` to `9`
+abbrev pub allDecimal : List ℕ → Bool
+allDecimal [] = true
+allDecimal (character ∷ text) = within 0x30 0x39 character && allDecimal text
+
+-- a zero that other digits follow
+abbrev pub needlessZero : List ℕ → Bool
+needlessZero text = eqb (getD text 0 0) 0x30 && leb 2 (length text)
+
+-- the number that digits go on to, from what the digits before them say
+abbrev pub valueFrom : ℕ → List ℕ → ℕ
+valueFrom n [] = n
+valueFrom n (character ∷ text) = valueFrom (10 * n + (character - 0x30)) text
 
 -- what holds of the numbers below ten, and goes on with each digit more, holds of all
 by-digits : (P : ℕ → Type 0) → ((d : ℕ) → d < 10 → P d) → ((n d : ℕ) → 1 ≤ n → d < 10 → P n → P (10 * n + d)) → (n : ℕ) → P n
@@ -52,7 +67,7 @@ places-more n d l h =
     ∙ rw (le-ltb m 10 (omega arith), e) (ap suc (steps-enough m n n (omega arith) (omega arith)))
 
 -- a number has at least one digit
-places-some : (n : ℕ) → 1 ≤ places n
+pub places-some : (n : ℕ) → 1 ≤ places n
 places-some = by-digits (λ (n : ℕ). 1 ≤ places n) (λ d h. omega (arith, places-one d h)) (λ n d l h k. omega (arith, places-more n d l h))
 
 -- a number below a power of ten has no more digits than the power has zeros
@@ -76,7 +91,7 @@ length-numeral n = go (places n) n
 -- ---- digit by digit
 
 -- a number below ten is written as its digit
-numeral-one : (d : ℕ) → d < 10 → numeral d ≡ (0x30 + d) ∷ []
+pub numeral-one : (d : ℕ) → d < 10 → numeral d ≡ (0x30 + d) ∷ []
 unfolding numeral
 numeral-one d h = rw (places-one d h) (ap (λ (c : ℕ). (0x30 + c) ∷ []) (omega arith))
 
@@ -89,7 +104,7 @@ numeral-more n d l h =
     rw (places-more n d l h, e, f)
 
 -- a number other than 0 is written with no zero first
-numeral-first : (n : ℕ) → 1 ≤ n → 0x31 ≤ getD (numeral n) 0 0
+pub numeral-first : (n : ℕ) → 1 ≤ n → 0x31 ≤ getD (numeral n) 0 0
 numeral-first = by-digits (λ (n : ℕ). 1 ≤ n → 0x31 ≤ getD (numeral n) 0 0) (λ d h l. rw (numeral-one d h) (omega arith))
     (λ n d l h rest k. rw (numeral-more n d l h, List·getD-append (numeral n) ((0x30 + d) ∷ []) 0 0 (omega (arith, length-numeral n, places-some n))) (rest l))
 
@@ -103,7 +118,7 @@ decimal-append (c ∷ x) y e f =
     rw (b .0) (decimal-append x y (b .1) f)
 
 -- a numeral is of decimals
-decimal-numeral : (n : ℕ) → allDecimal (numeral n) ≡ true
+pub decimal-numeral : (n : ℕ) → allDecimal (numeral n) ≡ true
 unfolding numeral
 decimal-numeral n = go (places n) n
   where
@@ -113,20 +128,8 @@ decimal-numeral n = go (places n) n
         decimal-append (decimals k (m / 10)) ((0x30 + m % 10) ∷ []) (go k (m / 10))
         (rw (within-is 0x30 0x39 (0x30 + m % 10) (omega arith) (omega arith)))
 
--- decimals are hex digits
-digits-decimal : (text : List ℕ) → allDecimal text ≡ true → allDigits text ≡ true
-unfolding digitOf
-digits-decimal [] e = refl
-digits-decimal (c ∷ text) e =
-    let b = and-both (within 0x30 0x39 c) _ e in
-    rw (b .0) (digits-decimal text (b .1))
-
--- a numeral is of hex digits
-pub digits-numeral : (n : ℕ) → allDigits (numeral n) ≡ true
-digits-numeral n = digits-decimal (numeral n) (decimal-numeral n)
-
 -- the first of decimals is one of `0` to `9`, and the others are decimals
-decimal-cons : (c : ℕ) (text : List ℕ) → allDecimal (c ∷ text) ≡ true → ((0x30 ≤ c) × (c ≤ 0x39)) × (allDecimal text ≡ true)
+pub decimal-cons : (c : ℕ) (text : List ℕ) → allDecimal (c ∷ text) ≡ true → ((0x30 ≤ c) × (c ≤ 0x39)) × (allDecimal text ≡ true)
 decimal-cons c text e =
     let b = and-both (within 0x30 0x39 c) _ e in
     (within-true 0x30 0x39 c (b .0), b .1)
@@ -139,25 +142,9 @@ value-append n [] y = refl
 value-append n (c ∷ x) y = value-append (10 * n + (c - 0x30)) x y
 
 -- the digits of a numeral say its number
-value-numeral : (n : ℕ) → valueFrom 0 (numeral n) ≡ n
+pub value-numeral : (n : ℕ) → valueFrom 0 (numeral n) ≡ n
 value-numeral = by-digits (λ (n : ℕ). valueFrom 0 (numeral n) ≡ n) (λ d h. rw (numeral-one d h) (omega arith))
     (λ n d l h e. rw (numeral-more n d l h, value-append, e) (omega arith))
-
--- the numeral of a number of at most seven digits is read as this number
-pub numeral-number : (n : ℕ) → n ≤ 9_999_999 → decimalOf (numeral n) ≡ Number n
-unfolding decimalOf isNumeral
-numeral-number zero h = rw (numeral-one 0 (omega arith))
-numeral-number (suc n) h =
-    let x : List ℕ = numeral (suc n) in
-    let l : length x ≡ places (suc n) = length-numeral (suc n) in
-    let f : 0x31 ≤ getD x 0 0 = numeral-first (suc n) (omega arith) in
-    rw (
-      le-leb 1 (length x) (omega (arith, places-some (suc n))),
-      le-leb (length x) 7 (omega (arith, places-least (suc n) 6 (omega arith))),
-      ne-eqb (getD x 0 0) 0x30 (omega arith),
-      decimal-numeral (suc n),
-      value-numeral (suc n),
-    )
 
 -- ---- writing what was read
 
@@ -177,33 +164,10 @@ numeral-digit c text e =
     numeral-one (0 + (c - 0x30)) (omega arith) ∙ ap (λ (d : ℕ). d ∷ []) (omega arith)
 
 -- decimals with no needless zero are the numeral of what they say
-numeral-value : (text : List ℕ) → leb 1 (length text) ≡ true → needlessZero text ≡ false → allDecimal text ≡ true → numeral (valueFrom 0 text) ≡ text
+pub numeral-value : (text : List ℕ) → leb 1 (length text) ≡ true → needlessZero text ≡ false → allDecimal text ≡ true → numeral (valueFrom 0 text) ≡ text
 numeral-value [] s z e = absurd (false≢true s)
 numeral-value (c ∷ []) s z e = numeral-digit c [] e
 numeral-value (c ∷ d ∷ text) s z e =
     let b = decimal-cons c (d ∷ text) e in
     let f : c ≡ 0x30 → ⊥ = λ q. false≢true (sym (rw (eq-eqb c 0x30 q, le-leb 2 (length (c ∷ d ∷ text)) (omega arith)) at z)) in
     numeral-on (0 + (c - 0x30)) (d ∷ text) (omega arith) (b .1) ∙ rw (numeral-digit c (d ∷ text) e)
-
--- n with k digits behind it is a number below (n + 1) · 10 ^ k
-value-lt : (n : ℕ) (text : List ℕ) → allDecimal text ≡ true → valueFrom n text < suc n * 10 ^ length text
-value-lt n [] e = omega arith
-value-lt n (c ∷ text) e =
-    let b = decimal-cons c text e in
-    let k : suc (10 * n + (c - 0x30)) ≤ 10 * suc n = omega arith in
-    rw (pow-suc 10 (length text)) (omega (arith, value-lt (10 * n + (c - 0x30)) text (b .1), mul-le-mul-right (10 ^ length text) k))
-
--- a text that is read as a number is its numeral, of at most seven digits
-pub number-numeral : (text : List ℕ) (n : ℕ) → decimalOf text ≡ Number n → (numeral n ≡ text) × (n ≤ 9_999_999)
-unfolding decimalOf isNumeral
-number-numeral text n = go (isNumeral text) refl
-  where
-    go : (t : Bool) → isNumeral text ≡ t → cond t (Number (valueFrom 0 text)) NoNumber ≡ Number n → (numeral n ≡ text) × (n ≤ 9_999_999)
-    go true e f =
-        let v : valueFrom 0 text ≡ n = cc in
-        let a = and-both (leb 1 (length text)) _ e in
-        let b = and-both (leb (length text) 7) _ (a .1) in
-        let d = and-both (not (needlessZero text)) _ (b .1) in
-        let p : 10 ^ length text ≤ 10 ^ 7 = pow-le-pow-right (omega arith) (leb-true (length text) 7 (b .0)) in
-        rw (← v) (numeral-value text (a .0) (not-true _ (d .0)) (d .1), omega (arith, value-lt 0 text (d .1)))
-    go false e f = let z : _≡_ {A = ℕ} 0 1 = cc in absurd (omega arith)

@@ -9,9 +9,11 @@ use lib.Dec.{leb, ltb}
 use lib.ListN.{length}
 use lib.Pow.{areBytes}
 use borrow.Author.Tests.{ltb-true, ltb-false, leb-true, lt-ltb, le-ltb, le-leb, lt-leb}
+use Rattle.digits.specs.declared.hex.Case.{Case}
+use Rattle.digits.specs.declared.hex.Case.the-variants.{Lower, Upper}
 use Rattle.digits.specs.declared.hex.Digit.{Digit}
 use Rattle.digits.specs.declared.hex.Digit.the-variants.{Value, NoDigit}
-use Rattle.digits.specs.Hex.{within, digitOf, pairOf, andThen, fromHex, hexDigit, hexOf, allDigits}
+use Rattle.digits.specs.Hex.{within, letterA, digitIn, digitOf, pairOf, andThen, fromHex, hexDigitIn, hexIn, hexOf, allDigits}
 
 -- ---- tests
 
@@ -32,35 +34,41 @@ within-is first last c h k = rw (le-leb first c h, le-leb c last k)
 
 -- ---- digits
 
+-- the letters stand behind the decimals
+letters-behind : (case : Case) → 0x39 < letterA case
+letters-behind Lower = omega arith
+letters-behind Upper = omega arith
+
 -- the value that a digit is read as is below 16, and is written as this digit
-pub digit-spells : (c v : ℕ) → digitOf c ≡ Value v → (v < 16) × (hexDigit v ≡ c)
-unfolding digitOf hexDigit
-digit-spells c v = go (within 0x30 0x39 c) (within 0x61 0x66 c) refl refl
+pub digit-spells : (case : Case) (c v : ℕ) → digitIn case c ≡ Value v → (v < 16) × (hexDigitIn case v ≡ c)
+unfolding digitIn hexDigitIn
+digit-spells case c v = go (letterA case) (letters-behind case) (within 0x30 0x39 c) (within (letterA case) (letterA case + 5) c) refl refl
   where
-    go : (t u : Bool) → within 0x30 0x39 c ≡ t → within 0x61 0x66 c ≡ u
-        → cond t (Value (c - 0x30)) (cond u (Value (c - 0x61 + 10)) NoDigit) ≡ Value v → (v < 16) × (hexDigit v ≡ c)
-    go true u e f g =
+    go : (ten : ℕ) → 0x39 < ten → (t u : Bool) → within 0x30 0x39 c ≡ t → within ten (ten + 5) c ≡ u
+        → cond t (Value (c - 0x30)) (cond u (Value (c - ten + 10)) NoDigit) ≡ Value v → (v < 16) × (cond (ltb v 10) (0x30 + v) (ten - 10 + v) ≡ c)
+    go ten h true u e f g =
         let b = within-true 0x30 0x39 c e in
         let k : c - 0x30 ≡ v = cc in
         (omega arith, rw (lt-ltb v 10 (omega arith)) (omega arith))
-    go false true e f g =
-        let b = within-true 0x61 0x66 c f in
-        let k : c - 0x61 + 10 ≡ v = cc in
+    go ten h false true e f g =
+        let b = within-true ten (ten + 5) c f in
+        let k : c - ten + 10 ≡ v = cc in
         (omega arith, rw (le-ltb v 10 (omega arith)) (omega arith))
-    go false false e f g = let z : _≡_ {A = ℕ} 0 1 = cc in absurd (omega arith)
+    go ten h false false e f g = let z : _≡_ {A = ℕ} 0 1 = cc in absurd (omega arith)
 
 -- the digit of a value is read as this value
-pub spelled-digit : (v : ℕ) → v < 16 → digitOf (hexDigit v) ≡ Value v
-unfolding digitOf hexDigit
-spelled-digit v h = go (ltb v 10) refl
+pub spelled-digit : (case : Case) (v : ℕ) → v < 16 → digitIn case (hexDigitIn case v) ≡ Value v
+unfolding digitIn hexDigitIn
+spelled-digit case v h = go (letterA case) (letters-behind case) (ltb v 10) refl
   where
-    go : (t : Bool) → ltb v 10 ≡ t → digitOf (cond t (0x30 + v) (0x61 - 10 + v)) ≡ Value v
-    go true e =
+    go : (ten : ℕ) → 0x39 < ten → (t : Bool) → ltb v 10 ≡ t → let c = cond t (0x30 + v) (ten - 10 + v) in
+        cond (within 0x30 0x39 c) (Value (c - 0x30)) (cond (within ten (ten + 5) c) (Value (c - ten + 10)) NoDigit) ≡ Value v
+    go ten k true e =
         let l : v < 10 = ltb-true v 10 e in
         rw (within-is 0x30 0x39 (0x30 + v) (omega arith) (omega arith)) (ap Value (omega arith))
-    go false e =
+    go ten k false e =
         let l : 10 ≤ v = ltb-false v 10 e in
-        rw (le-leb 0x30 (0x57 + v) (omega arith), lt-leb (0x57 + v) 0x39 (omega arith), within-is 0x61 0x66 (0x57 + v) (omega arith) (omega arith))
+        rw (le-leb 0x30 (ten - 10 + v) (omega arith), lt-leb (ten - 10 + v) 0x39 (omega arith), within-is ten (ten + 5) (ten - 10 + v) (omega arith) (omega arith))
         (ap Value (omega arith))
 
 -- ---- bytes
@@ -71,7 +79,7 @@ bytes-hex [] e = refl
 bytes-hex (b ∷ x) e =
     let t = and-both (ltb b 256) _ e in
     let l : b < 256 = ltb-true b 256 (t .0) in
-    rw (spelled-digit (b / 16) (omega arith), spelled-digit (b % 16) (omega arith), bytes-hex x (t .1))
+    rw (spelled-digit Lower (b / 16) (omega arith), spelled-digit Lower (b % 16) (omega arith), bytes-hex x (t .1))
     (ap (λ (c : ℕ). some (c ∷ x)) (omega arith))
 
 -- what a text is read as are bytes, and their digits are this text
@@ -84,8 +92,8 @@ hex-bytes (high ∷ low ∷ text) x e = go (digitOf high) (digitOf low) (fromHex
         → ((y : List ℕ) → fromHex text ≡ some y → (hexOf y ≡ text) × (areBytes y ≡ true))
         → (hexOf x ≡ high ∷ low ∷ text) × (areBytes x ≡ true)
     go (Value a) (Value b) (some y) f g h e rest =
-        let s = digit-spells high a f in
-        let t = digit-spells low b g in
+        let s = digit-spells Lower high a f in
+        let t = digit-spells Lower low b g in
         let u = rest y h in
         let i : (16 * a + b) / 16 ≡ a = omega arith in
         let j : (16 * a + b) % 16 ≡ b = omega arith in
@@ -96,14 +104,14 @@ hex-bytes (high ∷ low ∷ text) x e = go (digitOf high) (digitOf low) (fromHex
     go NoDigit q r f g h e rest = absurd (Option·none-ne-some x e)
 
 -- two digits a byte
-pub length-hex : (x : List ℕ) → length (hexOf x) ≡ 2 * length x
-length-hex [] = refl
-length-hex (b ∷ x) = omega (arith, length-hex x)
+pub length-hex : (case : Case) (x : List ℕ) → length (hexIn case x) ≡ 2 * length x
+length-hex case [] = refl
+length-hex case (b ∷ x) = omega (arith, length-hex case x)
 
 -- the digits of bytes are digits
-pub digits-hex : (x : List ℕ) → areBytes x ≡ true → allDigits (hexOf x) ≡ true
-digits-hex [] e = refl
-digits-hex (b ∷ x) e =
+pub digits-hex : (case : Case) (x : List ℕ) → areBytes x ≡ true → allDigits case (hexIn case x) ≡ true
+digits-hex case [] e = refl
+digits-hex case (b ∷ x) e =
     let t = and-both (ltb b 256) _ e in
     let l : b < 256 = ltb-true b 256 (t .0) in
-    rw (spelled-digit (b / 16) (omega arith), spelled-digit (b % 16) (omega arith)) (digits-hex x (t .1))
+    rw (spelled-digit case (b / 16) (omega arith), spelled-digit case (b % 16) (omega arith)) (digits-hex case x (t .1))

@@ -1,13 +1,15 @@
--- Bytes in lower-case hex, two digits a byte, the high digit first.
+-- Bytes in hex, two digits a byte, the high digit first.
 use mathlib.Core.Bool.{Bool, true, false, cond, _&&_}
 use mathlib.Core.List.{List, [], _∷_}
 use mathlib.Core.Option.{Option, some, none}
 use Prim.Native.Nat.{ℕ, _+_, _-_, _*_, _/_, _%_}
 use lib.Dec.{leb, ltb}
+use Rattle.digits.specs.declared.hex.Case.{Case}
+use Rattle.digits.specs.declared.hex.Case.the-variants.{Lower, Upper}
 use Rattle.digits.specs.declared.hex.Digit.{Digit}
 use Rattle.digits.specs.declared.hex.Digit.the-variants.{Value, NoDigit}
 use Rattle.digits.specs.declared.hex.Pair.{Pair}
-use Rattle.digits.specs.declared.hex.Pair.the-variants.{Byte, NoByte}
+use Rattle.digits.specs.declared.hex.Pair.the-variants.{Byte, BadFirst, BadSecond}
 
 -- ---- reading
 
@@ -15,27 +17,37 @@ use Rattle.digits.specs.declared.hex.Pair.the-variants.{Byte, NoByte}
 abbrev pub within : ℕ → ℕ → ℕ → Bool
 within first last character = leb first character && leb character last
 
--- `0` to `9`, `a` to `f`
-unfoldable pub digitOf : ℕ → Digit
-digitOf character =
+-- `a` or `A`: the letter of ten
+abbrev pub letterA : Case → ℕ
+letterA Lower = 0x61
+letterA Upper = 0x41
+
+-- `0` to `9`, and six letters
+unfoldable pub digitIn : Case → ℕ → Digit
+digitIn case character =
     cond (within 0x30 0x39 character) (Value (character - 0x30))
-    (cond (within 0x61 0x66 character) (Value (character - 0x61 + 10)) NoDigit)
+    (cond (within (letterA case) (letterA case + 5) character) (Value (character - letterA case + 10)) NoDigit)
+
+-- in lower case
+abbrev pub digitOf : ℕ → Digit
+digitOf character = digitIn Lower character
 
 abbrev pub isValue : Digit → Bool
 isValue (Value v) = true
 isValue NoDigit = false
 
--- the byte of two digits
+-- the byte of two digits, or which of them is none: the first where neither is one
 abbrev pub pairOf : Digit → Digit → Pair
 pairOf (Value high) (Value low) = Byte (16 * high + low)
-pairOf (Value high) NoDigit = NoByte
-pairOf NoDigit low = NoByte
+pairOf (Value high) NoDigit = BadSecond
+pairOf NoDigit low = BadFirst
 
 -- a byte, and the bytes behind it
 abbrev pub andThen : Pair → Option (List ℕ) → Option (List ℕ)
 andThen (Byte b) (some x) = some (b ∷ x)
 andThen (Byte b) none = none
-andThen NoByte x = none
+andThen BadFirst x = none
+andThen BadSecond x = none
 
 -- the bytes of a text of digits
 abbrev pub fromHex : List ℕ → Option (List ℕ)
@@ -46,17 +58,24 @@ fromHex (high ∷ low ∷ text) = andThen (pairOf (digitOf high) (digitOf low)) 
 -- ---- writing
 
 -- the digit of a value below 16
-unfoldable pub hexDigit : ℕ → ℕ
-hexDigit value = cond (ltb value 10) (0x30 + value) (0x61 - 10 + value)
+unfoldable pub hexDigitIn : Case → ℕ → ℕ
+hexDigitIn case value = cond (ltb value 10) (0x30 + value) (letterA case - 10 + value)
 
 -- the digits of bytes
+abbrev pub hexIn : Case → List ℕ → List ℕ
+hexIn case [] = []
+hexIn case (b ∷ x) = hexDigitIn case (b / 16) ∷ hexDigitIn case (b % 16) ∷ hexIn case x
+
+-- both in lower case
+abbrev pub hexDigit : ℕ → ℕ
+hexDigit value = hexDigitIn Lower value
+
 abbrev pub hexOf : List ℕ → List ℕ
-hexOf [] = []
-hexOf (b ∷ x) = hexDigit (b / 16) ∷ hexDigit (b % 16) ∷ hexOf x
+hexOf x = hexIn Lower x
 
 -- ---- both
 
 -- each character is a digit
-abbrev pub allDigits : List ℕ → Bool
-allDigits [] = true
-allDigits (character ∷ text) = isValue (digitOf character) && allDigits text
+abbrev pub allDigits : Case → List ℕ → Bool
+allDigits case [] = true
+allDigits case (character ∷ text) = isValue (digitIn case character) && allDigits case text

@@ -1,8 +1,8 @@
-// Hex digits, in lower case: one, a pair, and bytes.
+// Hex digits: one, in lower or upper case; a pair, and bytes, in lower case.
 ghost use mathlib.Core.Path.{_≡_};
 ghost use Prim.Native.Nat.{_<_};
-ghost use Rattle.digits.specs.Hex.{digitOf, isValue, pairOf, hexDigit, hexOf};
-ghost use Rattle.digits.specs.LookUp.{digitRow, noneBelow};
+ghost use Rattle.digits.specs.Hex.{digitIn, digitOf, isValue, pairOf, hexDigit, hexOf};
+ghost use Rattle.digits.specs.LookUp.{digitRow, entryOf, noneBelow};
 ghost use Rattle.digits.specs.Room.{laid, put};
 
 // What a character is as a digit.
@@ -11,17 +11,24 @@ pub enum Digit {
     NoDigit,
 }
 
-// What two characters are as a byte.
+// The case of the letters among the digits.
+pub enum Case {
+    Lower,
+    Upper,
+}
+
+// What two characters are as a byte: the byte, or which of them is no digit, the first where neither is.
 pub enum Pair {
     Byte(u8),
-    NoByte,
+    BadFirst,
+    BadSecond,
 }
 
 // A row without a digit.
 const NO_DIGITS: u64 = 0xffffffffffffffff;
 
-// A row of the list that characters are looked up in: the values of the characters 8 * row to 8 * row + 7, a byte each, the first in the low byte; ff for one that
-// is no digit. Each row has an arm of its own: so the compiler keeps the list in constant memory, and looking a character up is one load.
+// A row of the list that characters are looked up in: the values of the characters 8 * row to 8 * row + 7, a byte each, the first in the low byte; 16 more for a letter
+// in upper case, ff for one that is no digit. Each row has an arm of its own: so the compiler keeps the list in constant memory, and looking a character up is one load.
 fn digit_row(row: u8) -> u64
     ensures { λ r. ⌜ r ≡ digitRow row ⌝ }
 {
@@ -34,7 +41,7 @@ fn digit_row(row: u8) -> u64
         5 => NO_DIGITS,
         6 => 0x0706050403020100,
         7 => 0xffffffffffff0908,
-        8 => NO_DIGITS,
+        8 => 0xff1f1e1d1c1b1aff,
         9 => NO_DIGITS,
         10 => NO_DIGITS,
         11 => NO_DIGITS,
@@ -69,30 +76,37 @@ fn row_behind(row: u8) -> u64
     NO_DIGITS
 }
 
-// The value of a digit.
+// A character's entry in the list.
+fn entry_of(character: u8) -> u8
+    ensures { λ r. ⌜ r ≡ entryOf character ⌝ }
+{
+    let row = digit_row(character / 8);
+    ((row >> (8 * (character % 8))) % 256) as u8
+}
+
+// The value of a digit, its letter in lower case.
 pub fn read_digit(character: u8) -> Digit
     ensures { λ r. ⌜ r ≡ digitOf character ⌝ }
 {
-    let row = digit_row(character / 8);
-    let value = ((row >> (8 * (character % 8))) % 256) as u8;
+    let value = entry_of(character);
     if value < 16 {
         return Digit::Value(value);
     }
     Digit::NoDigit
 }
 
-// Whether a character is a digit.
-pub fn is_digit(character: u8) -> bool
-    ensures { λ r. ⌜ r ≡ isValue (digitOf character) ⌝ }
+// Whether a character is a digit, its letter in the case asked for.
+pub fn is_digit(case: Case, character: u8) -> bool
+    ensures { λ r. ⌜ r ≡ isValue (digitIn case character) ⌝ }
 {
-    let digit = read_digit(character);
-    match digit {
-        Digit::Value(_) => true,
-        Digit::NoDigit => false,
+    let entry = entry_of(character);
+    match case {
+        Case::Lower => entry < 16,
+        Case::Upper => (entry < 10) | (entry / 16 == 1),
     }
 }
 
-// The byte of two digits, the high one first.
+// The byte of two digits, the high one first; or which of them is at fault.
 pub fn read_pair(high: u8, low: u8) -> Pair
     ensures { λ r. ⌜ r ≡ pairOf (digitOf high) (digitOf low) ⌝ }
 {
@@ -101,9 +115,9 @@ pub fn read_pair(high: u8, low: u8) -> Pair
     match first {
         Digit::Value(h) => match second {
             Digit::Value(l) => Pair::Byte(16 * h + l),
-            Digit::NoDigit => Pair::NoByte,
+            Digit::NoDigit => Pair::BadSecond,
         },
-        Digit::NoDigit => Pair::NoByte,
+        Digit::NoDigit => Pair::BadFirst,
     }
 }
 

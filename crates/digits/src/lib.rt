@@ -1,19 +1,18 @@
-// Bytes in hex digits, numbers in decimals: both read from text and put into lent room. Every function takes anything, and names what it cannot read.
+// Bytes in hex digits, numbers in decimals: digits read from text, both put into lent room. Every function takes anything, and names what it cannot read.
 mod hex;
 mod numbers;
 
 ghost use mathlib.Core.Path.{_≡_};
 ghost use Rattle.digits.specs.Room.{lineOf, laid, put};
+pub use hex::Case;
 pub use hex::Digit;
 pub use hex::Pair;
 pub use hex::is_digit;
 pub use hex::put_bytes;
 pub use hex::read_digit;
 pub use hex::read_pair;
-pub use numbers::Numeral;
 pub use numbers::number_length;
 pub use numbers::put_number;
-pub use numbers::read_number;
 
 // Puts a text at the beginning of a place, and gives its length; a place too short for it stays as it is, and the length is 0.
 pub fn put_text(text: &[u8], out: &mut [u8]) -> usize

@@ -1,52 +1,7 @@
-// Decimal numerals, with no needless leading zero.
+// Decimal numerals, with no needless leading zero: how long one is, and writing it.
 ghost use mathlib.Core.Path.{_≡_};
-ghost use Rattle.digits.specs.Numbers.{needlessZero, decimalOf, places, numeral};
+ghost use Rattle.digits.specs.Numbers.{places, numeral};
 ghost use Rattle.digits.specs.Room.{laid, put};
-
-// What a text is as a number.
-pub enum Numeral {
-    Number(u64),
-    NoNumber,
-}
-
-// Whether a text begins with a zero that other digits follow.
-fn needless_zero(text: &[u8]) -> bool
-    ensures { λ r. ⌜ r ≡ needlessZero (now (text .entry)) ⌝ }
-{
-    if text.len() < 2 {
-        return false;
-    }
-    text[0] == b'0'
-}
-
-// The number of a numeral of one to seven digits.
-pub fn read_number(text: &[u8]) -> Numeral
-    ensures { λ r. ⌜ r ≡ decimalOf (now (text .entry)) ⌝ }
-{
-    if text.len() == 0 {
-        return Numeral::NoNumber;
-    }
-    if 7 < text.len() {
-        return Numeral::NoNumber;
-    }
-    if needless_zero(text) {
-        return Numeral::NoNumber;
-    }
-    let mut value = 0;
-    let mut i = 0;
-    while i < text.len() {
-        let character = text[i];
-        if character < b'0' {
-            return Numeral::NoNumber;
-        }
-        if b'9' < character {
-            return Numeral::NoNumber;
-        }
-        value = 10 * value + (character - b'0') as u64;
-        i += 1;
-    }
-    Numeral::Number(value)
-}
 
 // How many digits the numeral of a number has.
 pub fn number_length(n: u64) -> usize

@@ -8,7 +8,7 @@ use native.Mathlib.Omega.{arith}
 use lib.Dec.{eqb}
 use lib.ListN.{length}
 use borrow.Author.Tests.{eqb-true, eq-eqb, ne-eqb}
-use Rattle.record.specs.declared.lines.Record.{Record}
+use Rattle.record.specs.declared.form.Record.{Record}
 use Rattle.record.specs.Form.{held}
 use Rattle.report.specs.declared.Verdict.the-variants.{Equal}
 use Rattle.judge.specs.Difference.{FirstDifference, here, further, firstDifference, differ}

@@ -3,8 +3,8 @@ use Rattle.judge.specs.Laws.{Judges}
 use Rattle.judge.proofs.Differences.{tells, behind-common}
 use Rattle.judge.proofs.Verdicts.{equal-agrees, agrees-equal, other-cipher, read-verdict, unread-verdict, report-short}
 use Rattle.judge.proofs.Windows.{final-window, final-step}
-use Rattle.judge.proofs.Sizes.{step-inside, step-waits}
-use Rattle.judge.proofs.Outputs.{no-output, goes-on, stops}
+use Rattle.judge.proofs.Sizes.{step-inside, short-window, step-waits}
+use Rattle.judge.proofs.Outputs.{no-output, goes-on, stops, in-a-row, wrong-verdict}
 
 -- judging promises it all
 pub judges : Judges
@@ -18,10 +18,13 @@ judges =
       step = final-step;
       inside = step-inside;
       waits = step-waits;
+      short-window = short-window;
       read = read-verdict;
       unread = unread-verdict;
       short = report-short;
       nothing = no-output;
       goes-on = goes-on;
       stops = stops;
+      in-a-row = in-a-row;
+      wrong-at = wrong-verdict;
     }

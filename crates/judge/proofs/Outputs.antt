@@ -1,19 +1,28 @@
 -- The verdicts on an input and their reports, record by record.
 use mathlib.Core.Path.{_≡_, refl, ap, _∙_}
 use mathlib.Core.Bool.{Bool, true, false, cond}
-use mathlib.Core.List.{List, [], _∷_, _++_, append-nil, append-assoc}
+use mathlib.Core.List.{List, [], _∷_, _++_, map, append-nil, append-assoc}
 use Prim.Native.Nat.{ℕ, zero, suc, _+_, _≤_}
 use native.Mathlib.Omega.{arith}
 use lib.Dec.{eqb}
 use lib.ListN.{length, drop, length-drop}
+use lib.Seq.{drop-append-seam}
 use borrow.Author.Tests.{eq-eqb, ne-eqb}
 use Rattle.answers.specs.declared.Answer.the-variants.{Done, BrokenRecord}
 use Rattle.answers.specs.Numbers.{isDone}
 use Rattle.answers.proofs.Numbers.{done-is}
-use Rattle.record.specs.Calls.{readCall}
-use Rattle.record.proofs.Laws.{taken-inside}
+use Rattle.record.specs.declared.form.Record.{Record}
+use Rattle.record.specs.declared.reading.Reading.{Reading}
+use Rattle.record.specs.Text.{textOf}
+use Rattle.record.specs.Calls.{readAs, readCall}
+use Rattle.record.specs.Laws.{WrongAt}
+use Rattle.record.proofs.Laws.{reads-and-writes, taken-inside}
 use Rattle.report.specs.declared.Verdict.{Verdict}
+use Rattle.report.specs.declared.Verdict.the-variants.{Unread}
 use Rattle.report.specs.Reports.{reportText}
+use Rattle.judge.specs.Verdicts.{verdictOn}
+use Rattle.judge.specs.Laws.{AllInForm, textsOf}
+use Rattle.judge.proofs.Verdicts.{unread-verdict}
 use Rattle.judge.specs.Steps.{verdictRead, verdictsIn, verdictsOf, reportsFrom, outputFrom}
 
 -- no input has no verdicts
@@ -76,3 +85,26 @@ pub stops : (number : ℕ) (text : List ℕ) → 1 ≤ length text → readCall 
     → outputFrom number text ≡ reportText number (verdictRead (readCall text))
 unfolding outputFrom
 stops number text h d = rw (verdicts-step text h, d) (append-nil _)
+
+-- ---- records one after another
+
+-- the verdicts on records in form one after another, and on what stands behind them
+pub in-a-row : (records : List Record) (text : List ℕ) → AllInForm records → verdictsOf (textsOf records ++ text) ≡ map verdictOn records ++ verdictsOf text
+unfolding verdictRead readAs
+in-a-row [] text sound = refl
+in-a-row (r ∷ records) text (sound, typed, rest) =
+    let more : List ℕ = textsOf records ++ text in
+    let reading = reads-and-writes .text-read r more sound typed in
+    let b = taken-inside (textOf r ++ more) (ap (λ (q : Reading). q .answer) reading) in
+    ap verdictsOf (append-assoc (textOf r) (textsOf records) text)
+    ∙ verdicts-step (textOf r ++ more) (omega arith)
+    ∙ ap (λ (q : Reading). verdictRead q ∷ cond (isDone (q .answer)) (verdictsOf (drop (q .taken) (textOf r ++ more))) []) reading
+    ∙ ap (λ (x : List ℕ). verdictOn r ∷ verdictsOf x) (drop-append-seam (textOf r) more)
+    ∙ ap (λ (vs : List Verdict). verdictOn r ∷ vs) (in-a-row records text rest)
+
+-- a text that is wrong at a line and column has one verdict, which says so
+pub wrong-verdict : (text : List ℕ) (line column : ℕ) → 1 ≤ length text → WrongAt text line column → verdictsOf text ≡ Unread line column ∷ []
+wrong-verdict text line column some w =
+    let r = reads-and-writes .refused text line column .1 w in
+    verdicts-step text some
+    ∙ rw (unread-verdict text (ap isDone (r .0)), r .0, r .1, r .2)

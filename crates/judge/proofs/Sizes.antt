@@ -1,23 +1,26 @@
 -- A step takes no more than its window, and writes no more than its place.
-use mathlib.Core.Path.{_≡_, refl}
-use mathlib.Core.Bool.{Bool, true, false, not, _&&_, _||_}
+use mathlib.Core.Path.{_≡_, refl, sym, ap}
+use mathlib.Core.Bool.{Bool, true, false, not, _&&_, _||_, false≢true}
 use mathlib.Core.List.{List, [], _∷_, _++_}
+use mathlib.Core.Logic.{_↔_}
 use Prim.Native.Nat.{ℕ, _≤_, _<_}
 use native.Mathlib.Omega.{arith}
 use lib.Dec.{eqb, leb}
 use lib.ListN.{length, take, drop, length-append, length-drop}
 use lib.Seq.{length-take-le}
-use borrow.Author.Tests.{leb-true, leb-false, eqb-true}
+use borrow.Author.Tests.{leb-true, eqb-true}
 use Rattle.answers.specs.Numbers.{isDone}
 use Rattle.answers.specs.Order.{_when_, first}
 use Rattle.answers.proofs.Numbers.{done-is}
-use Rattle.record.specs.Calls.{readCall}
+use Rattle.record.specs.declared.reading.Reading.{Reading}
+use Rattle.record.specs.Calls.{refusedAt, readCall}
+use Rattle.record.specs.Laws.{Begun}
 use Rattle.record.specs.Text.{mostBytes}
-use Rattle.record.proofs.Laws.{taken-inside}
+use Rattle.record.proofs.Laws.{reads-and-writes, taken-inside}
 use Rattle.report.specs.Reports.{reportText}
 use Rattle.judge.specs.declared.stepping.Step.{Step}
 use Rattle.judge.specs.declared.stepping.Step.the-variants.{Judged, Stopped, Wait, End, Short}
-use Rattle.judge.specs.Steps.{verdictRead, isFinal, StepLeaves, stepLeaves, stepBy, stepCall, takenBy, writtenBy}
+use Rattle.judge.specs.Steps.{verdictRead, isFinal, StepLeaves, stepLeaves, reportChoices, stepBy, stepCall, takenBy, writtenBy}
 
 -- a step in its window and its place
 abbrev Inside : List ℕ → List ℕ → StepLeaves → Type 0
@@ -40,7 +43,7 @@ step-inside window ended number out =
 
     go : (e w t d : Bool) → leb (length text) (length out) ≡ t → isDone (readCall window .answer) ≡ d
         → let step = first (Judged (verdictRead (readCall window)) (readCall window .taken) (length text))
-        (End when e ∷ Wait when w ∷ Short when not t ∷ Stopped (readCall window .line) (length text) when not d ∷ []) in
+        (End when e ∷ Wait when w ∷ Short when not t ∷ Stopped (readCall window .line) (readCall window .column) (length text) when not d ∷ []) in
         Inside window out (stepLeaves step (take (writtenBy step) text ++ drop (writtenBy step) out))
     go true w t d f g = (omega arith, omega arith, refl)
     go false true t d f g = (omega arith, omega arith, refl)
@@ -49,29 +52,60 @@ step-inside window ended number out =
         inside window text out (Judged (verdictRead (readCall window)) (readCall window .taken) (length text))
         (taken-inside window (done-is (readCall window .answer) g) .1) (omega arith) (leb-true (length text) (length out) f)
     go false false true false f g =
-        inside window text out (Stopped (readCall window .line) (length text)) (omega arith) (omega arith) (leb-true (length text) (length out) f)
+        inside window text out (Stopped (readCall window .line) (readCall window .column) (length text)) (omega arith) (omega arith) (leb-true (length text) (length out) f)
 
--- a step that waits has less than the most bytes of a record, and the input has not ended
-pub step-waits : (window : List ℕ) (ended : Bool) (number : ℕ) (out : List ℕ) → stepCall window ended number out .step ≡ Wait
-    → (length window < mostBytes) × (ended ≡ false)
-unfolding stepCall stepBy
-step-waits window ended number out =
-    go (eqb (length window) 0) ended (isDone (readCall window .answer)) (leb mostBytes (length window)) (leb (length text) (length out)) refl refl
+-- a window that wants more is empty, or ended too early
+wants-more : (window : List ℕ) (ended : Bool) (number : ℕ) (out : List ℕ) → stepCall window ended number out .step ≡ Wait → (readCall window .early ≡ true) × (ended ≡ false)
+unfolding stepCall stepBy refusedAt
+wants-more window ended number out =
+    go (eqb (length window) 0) ended (readCall window .early) (isDone (readCall window .answer)) (leb (length text) (length out)) refl refl
   where
     text : List ℕ
     text = reportText number (verdictRead (readCall window))
 
-    go : (e s d m t : Bool) → eqb (length window) 0 ≡ e → leb mostBytes (length window) ≡ m
+    empty : (x : List ℕ) → length x ≡ 0 → readCall x .early ≡ true
+    empty [] e = ap (λ (r : Reading). r .early) (reads-and-writes .nothing)
+    empty (c ∷ x) e = absurd (omega arith)
+
+    go : (e s m d t : Bool) → eqb (length window) 0 ≡ e → readCall window .early ≡ m
         → first (Judged (verdictRead (readCall window)) (readCall window .taken) (length text))
-        (End when (e && s) ∷ Wait when (e || not (d || (s || m))) ∷ Short when not t ∷ Stopped (readCall window .line) (length text) when not d ∷ [])
+        (End when (e && s) ∷ Wait when (e || not (s || not m)) ∷ Short when not t ∷ Stopped (readCall window .line) (readCall window .column) (length text) when not d ∷ [])
         ≡ Wait
-        → (length window < mostBytes) × (s ≡ false)
-    go true false d m t f g w = (omega (arith, eqb-true (length window) 0 f), refl)
-    go false false false false t f g w = (leb-false mostBytes (length window) g, refl)
-    go true true d m t f g w = let z : _≡_ {A = ℕ} 0 1 = cc in absurd (omega arith)
-    go false s true m true f g w = let z : _≡_ {A = ℕ} 0 1 = cc in absurd (omega arith)
-    go false s true m false f g w = let z : _≡_ {A = ℕ} 0 1 = cc in absurd (omega arith)
-    go false true false m true f g w = let z : _≡_ {A = ℕ} 0 1 = cc in absurd (omega arith)
-    go false true false m false f g w = let z : _≡_ {A = ℕ} 0 1 = cc in absurd (omega arith)
+        → (readCall window .early ≡ true) × (s ≡ false)
+    go true false m d t f g w = (empty window (eqb-true (length window) 0 f), refl)
+    go false false true d t f g w = (g, refl)
+    go true true m d t f g w = let z : _≡_ {A = ℕ} 0 1 = cc in absurd (omega arith)
+    go false true m true true f g w = let z : _≡_ {A = ℕ} 0 1 = cc in absurd (omega arith)
+    go false true m true false f g w = let z : _≡_ {A = ℕ} 0 1 = cc in absurd (omega arith)
+    go false true m false true f g w = let z : _≡_ {A = ℕ} 0 1 = cc in absurd (omega arith)
+    go false true m false false f g w = let z : _≡_ {A = ℕ} 0 1 = cc in absurd (omega arith)
     go false false false true true f g w = let z : _≡_ {A = ℕ} 0 1 = cc in absurd (omega arith)
     go false false false true false f g w = let z : _≡_ {A = ℕ} 0 1 = cc in absurd (omega arith)
+    go false false false false true f g w = let z : _≡_ {A = ℕ} 0 1 = cc in absurd (omega arith)
+    go false false false false false f g w = let z : _≡_ {A = ℕ} 0 1 = cc in absurd (omega arith)
+
+-- a step that waits has less than the most bytes of a record
+pub short-window : (window : List ℕ) (ended : Bool) (number : ℕ) (out : List ℕ) → stepCall window ended number out .step ≡ Wait → length window < mostBytes
+short-window window ended number out e = reads-and-writes .short window (wants-more window ended number out e .0)
+
+-- a step waits exactly where the input has not ended and the window can still become a record
+pub step-waits : (window : List ℕ) (ended : Bool) (number : ℕ) (out : List ℕ)
+    → (stepCall window ended number out .step ≡ Wait) ↔ ((ended ≡ false) × (Begun 8 window → ⊥) × ((more : List ℕ) × Begun 8 (window ++ more)))
+unfolding stepCall stepBy
+step-waits window ended number out = (
+  λ e.
+      let w = wants-more window ended number out e in
+      let can = reads-and-writes .early window .0 (w .0) in
+      (w .1, can .0, can .1),
+  λ (open-yet, none, more). go (eqb (length window) 0) ended (readCall window .early) open-yet (reads-and-writes .early window .1 (none, more)),
+)
+  where
+    text : List ℕ
+    text = reportText number (verdictRead (readCall window))
+
+    go : (e s m : Bool) → s ≡ false → m ≡ true → first (Judged (verdictRead (readCall window)) (readCall window .taken) (length text))
+        (End when (e && s) ∷ Wait when (e || not (s || not m)) ∷ reportChoices (readCall window) number (length out)) ≡ Wait
+    go e true m f g = absurd (false≢true (sym f))
+    go e false false f g = absurd (false≢true g)
+    go true false true f g = refl
+    go false false true f g = refl

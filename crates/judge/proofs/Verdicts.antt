@@ -11,9 +11,9 @@ use borrow.Author.Tests.{eqb-true, eq-eqb}
 use Rattle.answers.specs.declared.Answer.the-variants.{Done, BrokenRecord}
 use Rattle.answers.specs.Numbers.{isDone}
 use Rattle.answers.specs.Order.{_when_, first}
-use Rattle.record.specs.declared.lines.Record.{Record}
+use Rattle.record.specs.declared.form.Record.{Record}
 use Rattle.record.specs.declared.reading.Reading.{Reading}
-use Rattle.record.specs.Calls.{refusedAt, readCall}
+use Rattle.record.specs.Calls.{refusedAt, readAs, readCall}
 use Rattle.record.proofs.Laws.{reads-and-writes}
 use Rattle.record.specs.Form.{held, broken}
 use Rattle.report.specs.declared.Verdict.the-variants.{Equal, Rounds, Cipher, Tag, Unread}
@@ -33,7 +33,7 @@ equal-agrees r =
   where
     go : (s t u v : Bool) → eqb (broken r) 0 ≡ s → eqb (r .rounds) (ourRounds r) ≡ t
         → differ (ourSealing r .cipher) (held (r .cipher)) ≡ u → differ (ourSealing r .tag) (held (r .tag)) ≡ v
-        → first Equal (Unread (broken r) when not s ∷ Rounds when not t ∷ Cipher when u ∷ Tag when v ∷ []) ≡ Equal → Agrees r
+        → first Equal (Unread (broken r) 0 when not s ∷ Rounds when not t ∷ Cipher when u ∷ Tag when v ∷ []) ≡ Equal → Agrees r
     go true true false false f g h k e =
         record {
           in-form = eqb-true (broken r) 0 f;
@@ -57,37 +57,38 @@ unfolding verdictOn
 other-cipher r sound rounds other = rw (sound, eq-eqb (r .rounds) (ourRounds r) rounds, other-texts (ourSealing r .cipher) (held (r .cipher)) (λ e. other (sym e)))
 
 -- a record in form is not unread
-in-form-read : (r : Record) (line : ℕ) → broken r ≡ 0 → verdictOn r ≡ Unread line → ⊥
+in-form-read : (r : Record) (line column : ℕ) → broken r ≡ 0 → verdictOn r ≡ Unread line column → ⊥
 unfolding verdictOn
-in-form-read r line sound e =
+in-form-read r line column sound e =
     go (eqb (r .rounds) (ourRounds r)) (differ (ourSealing r .cipher) (held (r .cipher))) (differ (ourSealing r .tag) (held (r .tag))) (rw sound at e)
   where
-    go : (t u v : Bool) → first Equal (Rounds when not t ∷ Cipher when u ∷ Tag when v ∷ []) ≡ Unread line → ⊥
+    go : (t u v : Bool) → first Equal (Rounds when not t ∷ Cipher when u ∷ Tag when v ∷ []) ≡ Unread line column → ⊥
     go true false false e = let z : _≡_ {A = ℕ} 0 1 = cc in omega arith
     go true false true e = let z : _≡_ {A = ℕ} 0 1 = cc in omega arith
     go true true v e = let z : _≡_ {A = ℕ} 0 1 = cc in omega arith
     go false u v e = let z : _≡_ {A = ℕ} 0 1 = cc in omega arith
 
 -- a text that is read is not unread
-pub read-verdict : (text : List ℕ) (line : ℕ) → readCall text .answer ≡ Done → verdictRead (readCall text) ≡ Unread line → ⊥
+pub read-verdict : (text : List ℕ) (line column : ℕ) → readCall text .answer ≡ Done → verdictRead (readCall text) ≡ Unread line column → ⊥
 unfolding verdictRead
-read-verdict text line d e = in-form-read (readCall text .content) line (reads-and-writes .read-in-form text d .0) (rw d at e)
+read-verdict text line column d e = in-form-read (readCall text .content) line column (reads-and-writes .read-in-form text d .0) (rw d at e)
 
--- a text that is not is unread at its line
-pub unread-verdict : (text : List ℕ) → isDone (readCall text .answer) ≡ false → verdictRead (readCall text) ≡ Unread (readCall text .line)
+-- a text that is not is unread at its line and column
+pub unread-verdict : (text : List ℕ) → isDone (readCall text .answer) ≡ false → verdictRead (readCall text) ≡ Unread (readCall text .line) (readCall text .column)
 unfolding verdictRead
 unread-verdict text d = rw d
 
 -- a report has at most 70 bytes
 pub report-short : (text : List ℕ) (number : ℕ) → number < 2 ^ 64 → length (reportText number (verdictRead (readCall text))) ≤ 70
-unfolding refusedAt
-report-short text number h = report-most number (verdictRead (readCall text)) h (λ line e. small line e (reads-and-writes .answered text))
+unfolding refusedAt readAs
+report-short text number h = report-most number (verdictRead (readCall text)) h (λ line column e. small line column e (reads-and-writes .answered text))
   where
-    small : (line : ℕ) → verdictRead (readCall text) ≡ Unread line → (readCall text .answer ≡ Done) ⊎ (readCall text ≡ refusedAt (readCall text .line)) → line < 2 ^ 64
-    small line e (inl d) = absurd (read-verdict text line d e)
-    small line e (inr r) =
+    small : (line column : ℕ) → verdictRead (readCall text) ≡ Unread line column → let r = readCall text in
+        (r ≡ readAs (r .taken) (r .content)) ⊎ (r ≡ refusedAt (r .line) (r .column) (r .early)) → line < 2 ^ 64
+    small line column e (inl d) = absurd (read-verdict text line column (ap (λ (q : Reading). q .answer) d) e)
+    small line column e (inr r) =
         let refused : readCall text .answer ≡ BrokenRecord = ap (λ (q : Reading). q .answer) r in
-        let first = reads-and-writes .first-line text refused .1 in
+        let most = reads-and-writes .refused text _ _ .0 (refused, refl, refl) .last in
         let unread = unread-verdict text (ap isDone refused) in
         let same : line ≡ readCall text .line = cc in
         omega arith

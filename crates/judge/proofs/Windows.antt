@@ -1,18 +1,15 @@
 -- A final window tells what the whole input tells.
 use mathlib.Core.Path.{_≡_, refl, sym, ap, _∙_}
-use mathlib.Core.Bool.{Bool, true, false, cond, not, _||_, false≢true}
+use mathlib.Core.Bool.{Bool, true, false, cond, not}
 use mathlib.Core.List.{List, [], _∷_, _++_}
 use Prim.Native.Nat.{ℕ, _≤_}
 use native.Mathlib.Omega.{arith}
-use lib.Dec.{leb}
-use lib.ListN.{length, take, drop, take-append-drop, length-take}
-use lib.Seq.{take-all, take-take, take-length}
-use borrow.Author.Tests.{leb-true, le-leb, ne-eqb}
+use lib.ListN.{length, take, drop, take-append-drop}
+use lib.Seq.{take-all, take-length}
+use borrow.Author.Tests.{le-leb, ne-eqb, not-true}
 use Rattle.answers.specs.Numbers.{isDone}
 use Rattle.answers.specs.Order.{_when_, first}
-use Rattle.answers.proofs.Numbers.{done-is}
 use Rattle.record.specs.Calls.{readCall}
-use Rattle.record.specs.Text.{mostBytes}
 use Rattle.record.proofs.Laws.{reads-and-writes}
 use Rattle.report.specs.Reports.{reportText}
 use Rattle.judge.specs.declared.stepping.Step.{Step}
@@ -22,16 +19,9 @@ use Rattle.judge.specs.Steps.{verdictRead, isFinal, stepLeaves, stepBy, 
 -- a beginning of the input that is a final window is read as the input is
 pub final-window : (text : List ℕ) (size : ℕ) (ended : Bool) → (ended ≡ true → length text ≤ size) → isFinal (take size text) ended ≡ true
     → readCall (take size text) ≡ readCall text
-final-window text size ended = go (isDone (readCall (take size text) .answer)) ended (leb mostBytes (length (take size text))) refl refl
-  where
-    go : (t s u : Bool) → isDone (readCall (take size text) .answer) ≡ t → leb mostBytes (length (take size text)) ≡ u
-        → (s ≡ true → length text ≤ size) → (t || (s || u)) ≡ true → readCall (take size text) ≡ readCall text
-    go true s u f g h e = sym (reads-and-writes .behind (take size text) (drop size text) (done-is _ f)) ∙ ap readCall (take-append-drop size text)
-    go false true u f g h e = ap readCall (take-all size text (h refl))
-    go false false true f g h e =
-        let m : mostBytes ≤ size = omega (arith, leb-true mostBytes (length (take size text)) g, length-take size text) in
-        sym (reads-and-writes .window (take size text)) ∙ ap readCall (take-take mostBytes size text m) ∙ reads-and-writes .window text
-    go false false false f g h e = absurd (false≢true e)
+final-window text size true all e = ap readCall (take-all size text (all refl))
+final-window text size false all e =
+    sym (reads-and-writes .decided (take size text) (drop size text) (not-true _ e)) ∙ ap readCall (take-append-drop size text)
 
 -- a step on a final window gives the report on what the whole input begins with
 pub final-step : (text : List ℕ) (size : ℕ) (ended : Bool) (number : ℕ) (out : List ℕ) → (ended ≡ true → length text ≤ size) → 1 ≤ length (take size text)
@@ -39,7 +29,7 @@ pub final-step : (text : List ℕ) (size : ℕ) (ended : Bool) (number : ℕ) (o
     → let report = reportText number (verdictRead (readCall text)) in
     length report ≤ length out
     → stepCall (take size text) ended number out
-    ≡ stepLeaves (cond (isDone (readCall text .answer)) (Judged (verdictRead (readCall text)) (readCall text .taken) (length report)) (Stopped (readCall text .line) (length report))) (report ++ drop (length report) out)
+    ≡ stepLeaves (cond (isDone (readCall text .answer)) (Judged (verdictRead (readCall text)) (readCall text .taken) (length report)) (Stopped (readCall text .line) (readCall text .column) (length report))) (report ++ drop (length report) out)
 unfolding stepCall stepBy
 final-step text size ended number out all some final room =
     rw (
@@ -57,7 +47,7 @@ final-step text size ended number out all some final room =
     judged = Judged (verdictRead (readCall text)) (readCall text .taken) (length report)
 
     stopped : Step
-    stopped = Stopped (readCall text .line) (length report)
+    stopped = Stopped (readCall text .line) (readCall text .column) (length report)
 
     go : (done : Bool) → let step = first judged (stopped when not done ∷ []) in
         stepLeaves step (take (writtenBy step) report ++ drop (writtenBy step) out) ≡ stepLeaves (cond done judged stopped) (report ++ drop (length report) out)

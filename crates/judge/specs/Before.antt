@@ -7,7 +7,7 @@ use Prim.Native.Nat.{ℕ, _≤_}
 use lib.Dec.{eqb}
 use lib.ListN.{length}
 use Rattle.answers.specs.Order.{_when_, first}
-use Rattle.record.specs.declared.lines.Record.{Record}
+use Rattle.record.specs.declared.form.Record.{Record}
 use Rattle.record.specs.Form.{held, broken}
 use Rattle.report.specs.declared.Verdict.{Verdict}
 use Rattle.report.specs.declared.Verdict.the-variants.{Equal, Rounds, Cipher, Tag, Unread}
@@ -29,7 +29,7 @@ abbrev pub verdictBefore : Record → Verdict
 verdictBefore r =
     first
     Equal
-    (Unread (broken r) when not (eqb (broken r) 0)
+    (Unread (broken r) 0 when not (eqb (broken r) 0)
     ∷ Rounds when not (eqb (r .rounds) (ourRounds r))
     ∷ Cipher when not (equalBefore (ourSealing r .cipher) (held (r .cipher)))
     ∷ Tag when not (equalBefore (ourSealing r .tag) (held (r .tag)))

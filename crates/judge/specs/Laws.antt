@@ -1,22 +1,23 @@
 -- What the first difference, the verdicts and the steps promise.
 use mathlib.Core.Bool.{Bool, true, false, cond}
-use mathlib.Core.List.{List, [], _∷_, _++_}
+use mathlib.Core.List.{List, [], _∷_, _++_, map}
 use mathlib.Core.Logic.{_↔_}
 use mathlib.Core.Path.{_≡_}
 use Prim.Native.Nat.{ℕ, _+_, _^_, _≤_, _<_}
 use lib.ListN.{length, getElem?, take, drop}
 use Rattle.answers.specs.declared.Answer.the-variants.{Done, BrokenRecord}
 use Rattle.answers.specs.Numbers.{isDone}
-use Rattle.record.specs.declared.lines.Record.{Record}
+use Rattle.record.specs.declared.form.Record.{Record}
 use Rattle.record.specs.Form.{held, broken}
 use Rattle.record.specs.Calls.{readCall}
-use Rattle.record.specs.Text.{mostBytes}
+use Rattle.record.specs.Laws.{Typed, Begun, WrongAt}
+use Rattle.record.specs.Text.{textOf, mostBytes}
 use Rattle.report.specs.declared.Verdict.the-variants.{Equal, Cipher, Unread}
 use Rattle.report.specs.Reports.{reportText}
 use Rattle.judge.specs.declared.stepping.Step.the-variants.{Judged, Stopped, Wait}
 use Rattle.judge.specs.Difference.{FirstDifference, firstDifference}
 use Rattle.judge.specs.Verdicts.{ourSealing, ourRounds, verdictOn}
-use Rattle.judge.specs.Steps.{verdictRead, isFinal, stepLeaves, stepCall, takenBy, writtenBy, outputFrom}
+use Rattle.judge.specs.Steps.{verdictRead, isFinal, stepLeaves, stepCall, takenBy, writtenBy, verdictsOf, outputFrom}
 
 -- a record's rounds, cipher and tag are those of our own sealing
 pub record Agrees (r : Record) : Type 0 where
@@ -55,6 +56,16 @@ pub record BehindCommon (common : List ℕ) : Type 0 where
   -- the wanted text ended first: part and place begin where it ends
   pub wanted-ended : (b : ℕ) (found : List ℕ) → firstDifference common (common ++ b ∷ found) ≡ record { differs = true; place = length common; part = b ∷ found }
 
+-- records that are in form, and of bytes
+abbrev pub AllInForm : List Record → Type 0
+AllInForm [] = Unit {0}
+AllInForm (r ∷ records) = (broken r ≡ 0) × Typed r × AllInForm records
+
+-- their texts, one straight after another
+abbrev pub textsOf : List Record → List ℕ
+textsOf [] = []
+textsOf (r ∷ records) = textOf r ++ textsOf records
+
 pub record Judges : Type 0 where
   -- the verdict is equal exactly where rounds, cipher and tag are ours, in length and in every byte
   pub equal : (r : Record) → (verdictOn r ≡ Equal) ↔ Agrees r
@@ -72,16 +83,19 @@ pub record Judges : Type 0 where
       → let report = reportText number (verdictRead (readCall text)) in
       length report ≤ length out
       → stepCall (take size text) ended number out
-      ≡ stepLeaves (cond (isDone (readCall text .answer)) (Judged (verdictRead (readCall text)) (readCall text .taken) (length report)) (Stopped (readCall text .line) (length report))) (report ++ drop (length report) out)
+      ≡ stepLeaves (cond (isDone (readCall text .answer)) (Judged (verdictRead (readCall text)) (readCall text .taken) (length report)) (Stopped (readCall text .line) (readCall text .column) (length report))) (report ++ drop (length report) out)
   -- a step takes no more than its window, writes no more than its place, and the place keeps its length
   pub inside : (window : List ℕ) (ended : Bool) (number : ℕ) (out : List ℕ) → let leaves = stepCall window ended number out in
       (takenBy (leaves .step) ≤ length window) × (writtenBy (leaves .step) ≤ length out) × (length (leaves .out) ≡ length out)
-  -- a step waits only for an input that has not ended, in a window that has less than the most bytes of a record
-  pub waits : (window : List ℕ) (ended : Bool) (number : ℕ) (out : List ℕ) → stepCall window ended number out .step ≡ Wait
-      → (length window < mostBytes) × (ended ≡ false)
-  -- a text that is read is never unread, and one that is not is unread at its line
-  pub read : (text : List ℕ) (line : ℕ) → readCall text .answer ≡ Done → verdictRead (readCall text) ≡ Unread line → ⊥
-  pub unread : (text : List ℕ) → isDone (readCall text .answer) ≡ false → verdictRead (readCall text) ≡ Unread (readCall text .line)
+  -- a step waits exactly where the input has not ended, the window does not begin with a record, and some more input makes it begin with one: what no input can mend is
+  -- reported at once
+  pub waits : (window : List ℕ) (ended : Bool) (number : ℕ) (out : List ℕ)
+      → (stepCall window ended number out .step ≡ Wait) ↔ ((ended ≡ false) × (Begun 8 window → ⊥) × ((more : List ℕ) × Begun 8 (window ++ more)))
+  -- and such a window has less than the most bytes of a record
+  pub short-window : (window : List ℕ) (ended : Bool) (number : ℕ) (out : List ℕ) → stepCall window ended number out .step ≡ Wait → length window < mostBytes
+  -- a text that is read is never unread, and one that is not is unread at its line and column
+  pub read : (text : List ℕ) (line column : ℕ) → readCall text .answer ≡ Done → verdictRead (readCall text) ≡ Unread line column → ⊥
+  pub unread : (text : List ℕ) → isDone (readCall text .answer) ≡ false → verdictRead (readCall text) ≡ Unread (readCall text .line) (readCall text .column)
   -- a report has at most 70 bytes, where its number has 64 bits
   pub short : (text : List ℕ) (number : ℕ) → number < 2 ^ 64 → length (reportText number (verdictRead (readCall text))) ≤ 70
   -- the output of no input is nothing
@@ -92,3 +106,7 @@ pub record Judges : Type 0 where
   -- a record that can not be read is the last
   pub stops : (number : ℕ) (text : List ℕ) → 1 ≤ length text → readCall text .answer ≡ BrokenRecord
       → outputFrom number text ≡ reportText number (verdictRead (readCall text))
+  -- the verdicts on records in form one after another, and on what stands behind them
+  pub in-a-row : (records : List Record) (text : List ℕ) → AllInForm records → verdictsOf (textsOf records ++ text) ≡ map verdictOn records ++ verdictsOf text
+  -- a text that is wrong at a line and column has one verdict, which says so
+  pub wrong-at : (text : List ℕ) (line column : ℕ) → 1 ≤ length text → WrongAt text line column → verdictsOf text ≡ Unread line column ∷ []

@@ -8,7 +8,6 @@ use Rattle.answers.specs.Numbers.{isDone}
 use Rattle.answers.specs.Order.{Choice, _when_, first}
 use Rattle.record.specs.declared.reading.Reading.{Reading}
 use Rattle.record.specs.Calls.{readCall}
-use Rattle.record.specs.Text.{mostBytes}
 use Rattle.report.specs.declared.Verdict.{Verdict}
 use Rattle.report.specs.declared.Verdict.the-variants.{Unread}
 use Rattle.report.specs.Reports.{reportText}
@@ -18,17 +17,17 @@ use Rattle.judge.specs.Verdicts.{verdictOn}
 
 -- the verdict on what was read
 unfoldable pub verdictRead : Reading → Verdict
-verdictRead reading = cond (isDone (reading .answer)) (verdictOn (reading .content)) (Unread (reading .line))
+verdictRead reading = cond (isDone (reading .answer)) (verdictOn (reading .content)) (Unread (reading .line) (reading .column))
 
 -- ---- one step
 
--- what was read in so many bytes is final: a whole record stands there, or the input has ended, or they are the most bytes of a record
-abbrev pub isFinalIn : Reading → ℕ → Bool → Bool
-isFinalIn reading size ended = isDone (reading .answer) || (ended || leb mostBytes size)
+-- what was read is final: the input has ended, or no more of it can make a record of what is broken
+abbrev pub isFinalIn : Reading → Bool → Bool
+isFinalIn reading ended = ended || not (reading .early)
 
 -- what a window tells is final
 abbrev pub isFinal : List ℕ → Bool → Bool
-isFinal window ended = isFinalIn (readCall window) (length window) ended
+isFinal window ended = isFinalIn (readCall window) ended
 
 -- a step, and what the place of the report then holds
 pub record StepLeaves : Type 0 where
@@ -41,7 +40,7 @@ stepLeaves step out = record { step = step; out = out }
 -- how many bytes of the window a step takes
 abbrev pub takenBy : Step → ℕ
 takenBy (Judged verdict taken written) = taken
-takenBy (Stopped line written) = 0
+takenBy (Stopped line column written) = 0
 takenBy Wait = 0
 takenBy End = 0
 takenBy Short = 0
@@ -49,7 +48,7 @@ takenBy Short = 0
 -- how many bytes of the place its report has
 abbrev pub writtenBy : Step → ℕ
 writtenBy (Judged verdict taken written) = written
-writtenBy (Stopped line written) = written
+writtenBy (Stopped line column written) = written
 writtenBy Wait = 0
 writtenBy End = 0
 writtenBy Short = 0
@@ -58,12 +57,12 @@ writtenBy Short = 0
 abbrev pub reportChoices : Reading → ℕ → ℕ → List (Choice Step)
 reportChoices reading number room =
     let size = length (reportText number (verdictRead reading)) in
-    Short when not (leb size room) ∷ Stopped (reading .line) size when not (isDone (reading .answer)) ∷ []
+    Short when not (leb size room) ∷ Stopped (reading .line) (reading .column) size when not (isDone (reading .answer)) ∷ []
 
 -- the steps but a judged record, in their order, of what was read in so many bytes: the input has ended, more of it is wanted, then those of a report
 abbrev pub stepChoices : Reading → ℕ → Bool → ℕ → ℕ → List (Choice Step)
 stepChoices reading size ended number room =
-    End when (eqb size 0 && ended) ∷ Wait when (eqb size 0 || not (isFinalIn reading size ended)) ∷ reportChoices reading number room
+    End when (eqb size 0 && ended) ∷ Wait when (eqb size 0 || not (isFinalIn reading ended)) ∷ reportChoices reading number room
 
 -- the first choice that holds, and else a record was judged; the place then begins with as many bytes of the report as were written
 unfoldable pub stepBy : Reading → ℕ → List ℕ → List (Choice Step) → StepLeaves

@@ -1,13 +1,9 @@
 // One step of the program: from a window of the input to a report.
 ghost use mathlib.Core.Path.{_≡_};
-ghost use mathlib.Core.Bool.{_||_};
-ghost use lib.Dec.{leb};
+ghost use mathlib.Core.Bool.{not, _||_};
 ghost use lib.ListN.{length};
-ghost use Rattle.answers.specs.Numbers.{isDone};
-ghost use Rattle.record.specs.Text.{mostBytes};
 ghost use Rattle.judge.specs.Steps.{verdictRead, stepLeaves, reportChoices, stepBy, stepCall};
 use crate::verdict;
-use answers::Answer;
 use record::Reading;
 use report::Verdict;
 
@@ -19,9 +15,10 @@ pub enum Step {
         taken: usize,
         written: usize,
     },
-    // What stands in the window can't be read: its first broken line, and how many bytes its report has, which is the last.
+    // What stands in the window can't be read: its first broken line, the column at which that is wrong, and how many bytes its report has, which is the last.
     Stopped {
         line: usize,
+        column: usize,
         written: usize,
     },
     // More of the input is wanted.
@@ -41,20 +38,20 @@ fn verdict_on(reading: Reading) -> Verdict
     if answers::is_done(answer) {
         return verdict::judge(content);
     }
-    Verdict::Unread(reading.line)
+    Verdict::Unread {
+        line: reading.line,
+        column: reading.column,
+    }
 }
 
-// Whether what a window of a size tells is final, where reading it gave this answer.
-fn is_final(answer: Answer, ended: bool, size: usize) -> bool
-    ensures { λ r. ⌜ r ≡ (isDone answer || (ended || leb mostBytes size)) ⌝ }
+// Whether what a window tells is final: the input has ended, or the window did not end too early.
+fn is_final(early: bool, ended: bool) -> bool
+    ensures { λ r. ⌜ r ≡ (ended || not early) ⌝ }
 {
-    if answers::is_done(answer) {
-        return true;
-    }
     if ended {
         return true;
     }
-    1688 <= size
+    !early
 }
 
 // The report on what was read.
@@ -77,6 +74,7 @@ fn report_on(reading: Reading, number: u64, out: &mut [u8]) -> Step
     }
     Step::Stopped {
         line: reading.line,
+        column: reading.column,
         written: done.written,
     }
 }
@@ -93,8 +91,7 @@ pub fn judge_window(window: &[u8], ended: bool, number: u64, out: &mut [u8]) -> 
         return Step::Wait;
     }
     let reading = record::read(window);
-    let answer = reading.answer;
-    if !is_final(answer, ended, window.len()) {
+    if !is_final(reading.early, ended) {
         return Step::Wait;
     }
     report_on(reading, number, out)

@@ -98,7 +98,10 @@ pub fn judge(entry: Record) -> Verdict
 {
     let bad = record::first_broken(entry);
     if bad != 0 {
-        return Verdict::Unread(bad);
+        return Verdict::Unread {
+            line: bad,
+            column: 0,
+        };
     }
     let ours = seal_record(entry);
     if entry.rounds != ours.rounds {

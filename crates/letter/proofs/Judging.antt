@@ -11,7 +11,7 @@ use lib.Dec.{eqb, leb}
 use Rattle.answers.specs.declared.Answer.the-variants.{Done, NoRoom}
 use Rattle.answers.specs.Numbers.{numberOf, isDone}
 use Rattle.answers.specs.Order.{first, _when_}
-use Rattle.record.specs.declared.lines.Record.{Record}
+use Rattle.record.specs.declared.form.Record.{Record}
 use Rattle.record.specs.Calls.{readCall}
 use Rattle.report.specs.declared.Verdict.{Verdict}
 use Rattle.report.specs.declared.Verdict.the-variants.{Equal}
@@ -163,7 +163,7 @@ step-reports window over number out =
 
     go : (over more room done : Bool)
         → let step = first (Judged (verdictRead (readCall window)) (readCall window .taken) (length text))
-        (End when over ∷ Wait when more ∷ Short when not room ∷ Stopped (readCall window .line) (length text) when not done ∷ []) in
+        (End when over ∷ Wait when more ∷ Short when not room ∷ Stopped (readCall window .line) (readCall window .column) (length text) when not done ∷ []) in
         ((step ≡ End) ⊎ ((step ≡ Wait) ⊎ (step ≡ Short)) → ⊥) → take (writtenBy step) text ++ drop (writtenBy step) out ≡ text ++ drop (length text) out
     go true more room done other = absurd (other (inl refl))
     go false true room done other = absurd (other (inr (inl refl)))

@@ -10,6 +10,9 @@ use Rattle.ascon.proofs.Rounds.{runs-total}
 use Rattle.ascon.proofs.Marks.{runs-marked}
 use Rattle.history.specs.History.{HistoryLaw}
 use Rattle.history.proofs.History.{history-law}
+use Rattle.lines.proofs.Laws.{reads-lines}
+use Rattle.record.proofs.Known as record-crate
+use Rattle.record.proofs.Laws.{reads-and-writes}
 use Rattle.judge.proofs.Laws.{judges}
 use Rattle.turns.proofs.Runs.{whole-reports}
 use Rattle.letter.specs.Model.{Reported}
@@ -38,6 +41,9 @@ letter =
       sealed-bytes = λ set K N A P key k h.
           (bytes-encrypted (rowOf set) (row-fits set) K key N A k P h, bytes-tag (rowOf set) (row-fits set) K key k (encrypted (rowOf set) K N A P .state));
       opened-bytes = λ set K N A C key k h. bytes-decrypted (rowOf set) (row-fits set) K key N A k C h;
+      lines = reads-lines;
+      records = reads-and-writes;
+      known-records = record-crate.known;
       judging = judges;
       program = whole-reports;
       worthless = worthless;

@@ -1,9 +1,9 @@
--- Records and their digits: what is said of their calls holds.
+-- Records, their lines and digits: what is said of their calls holds.
 use mathlib.Core.Path.{_≡_, refl, sym, ap}
 use mathlib.Core.Bool.{Bool, true, false, cond, not}
 use mathlib.Core.List.{List, [], _∷_, _++_}
-use mathlib.Core.Logic.{_⊎_, inl, inr}
-use Prim.Native.Nat.{ℕ, _≤_, _-_}
+use mathlib.Core.Logic.{_⊎_, inl, inr, ⊎-elim}
+use Prim.Native.Nat.{ℕ}
 use native.Mathlib.Omega.{arith}
 use lib.ListN.{length, drop}
 use lib.Dec.{eqb, leb}
@@ -11,14 +11,15 @@ use borrow.Author.Tests.{eqb-true}
 use Rattle.answers.specs.declared.Answer.the-variants.{Done, NoRoom, BrokenRecord}
 use Rattle.answers.specs.Numbers.{numberOf, isDone}
 use Rattle.answers.specs.Order.{first, _when_}
-use Rattle.record.specs.declared.lines.Record.{Record}
+use Rattle.answers.proofs.Numbers.{done-is}
+use Rattle.record.specs.declared.form.Record.{Record}
 use Rattle.record.specs.declared.reading.Reading.{Reading}
 use Rattle.record.specs.Form.{blank, broken}
 use Rattle.record.specs.Text.{textOf}
-use Rattle.record.specs.Calls.{refusedAt, readCall, WriteLeaves, writeLeaves, writeFaults, writeCall}
-use Rattle.record.specs.Laws.{Begun}
-use Rattle.record.proofs.Laws.{reads-and-writes, taken-inside}
+use Rattle.record.specs.Calls.{refusedAt, readAs, readCall, WriteLeaves, writeLeaves, writeFaults, writeCall}
+use Rattle.record.proofs.Laws.{reads-and-writes, refused-takes, taken-inside}
 use Rattle.digits.proofs as digits
+use Rattle.lines.proofs as lines
 use Rattle.record.proofs as record-crate
 use Rattle.letter.specs.Calls.{lent, Refused}
 use Rattle.letter.specs.Records.{IsRead, Model, ours, Keeps, EveryCall, Listed, Unchanged, Reported}
@@ -52,9 +53,13 @@ every-call =
       digits-put-bytes = answered (λ M. digits.put_bytes.Met.met) (λ κ a. tt) (λ κ a r e p. p);
       digits-put-text = answered (λ M. digits.put_text.Met.met) (λ κ a. tt) (λ κ a r e p. p);
       digits-put-line = answered (λ M. digits.put_line.Met.met) (λ κ a. tt) (λ κ a r e p. p);
-      digits-read-number = answered (λ M. digits.read_number.Met.met) (λ κ a. tt) (λ κ a r e p. p);
       digits-number-length = answered (λ M. digits.number_length.Met.met) (λ κ a. tt) (λ κ a r e p. p);
       digits-put-number = answered (λ M. digits.put_number.Met.met) (λ κ a. tt) (λ κ a r e p. p);
+      lines-named = answered (λ M. lines.named.Met.met) (λ κ a. tt) (λ κ a r e p. p);
+      lines-begun = answered (λ M. lines.begun.Met.met) (λ κ a. tt) (λ κ a r e p. p);
+      lines-advance = answered (λ M. lines.advance.Met.met) (λ κ a. tt) (λ κ a r e p. p);
+      lines-read = answered (λ M. lines.read.Met.met) (λ κ a. tt) (λ κ a r e p. p);
+      lines-either = answered (λ M. lines.either.Met.met) (λ κ a. tt) (λ κ a r e p. p);
       record-first-broken = answered (λ M. record-crate.first_broken.Met.met) (λ κ a. tt) (λ κ a r e p. p);
       record-read = answered (λ M. record-crate.read.Met.met) (λ κ a. tt) (λ κ a r e p. p);
       record-write = answered (λ M. record-crate.write.Met.met) (λ κ a. tt) (λ κ a r e p. p);
@@ -62,61 +67,59 @@ every-call =
 
 -- ---- what they answer, and what a refusal leaves
 
--- a reading that is not done is refused at its line
-read-said : (text : List ℕ) → let reading = readCall text in
-    IsRead text reading
-    ⊎ ((reading .answer ≡ BrokenRecord) × (1 ≤ reading .line) × (reading .line ≤ 8) × Begun (reading .line - 1) text × (Begun (reading .line) text → ⊥))
-unfolding refusedAt
-read-said text = go (reads-and-writes .answered text)
-  where
-    go : (readCall text .answer ≡ Done) ⊎ (readCall text ≡ refusedAt (readCall text .line))
-        → IsRead text (readCall text)
-        ⊎ ((readCall text .answer ≡ BrokenRecord)
-        × (1 ≤ readCall text .line)
-        × (readCall text .line ≤ 8)
-        × Begun (readCall text .line - 1) text
-        × (Begun (readCall text .line) text → ⊥))
-    go (inl d) = inl (record {
+-- a text that is read, in its parts
+is-read : (text : List ℕ) → readCall text ≡ readAs (readCall text .taken) (readCall text .content) → IsRead text (readCall text)
+unfolding readAs
+is-read text e =
+    let d = ap (λ (r : Reading). r .answer) e in
+    record {
       done = d;
-      no-line = reads-and-writes .no-line text d;
+      no-line = ap (λ (r : Reading). r .line) e;
+      no-column = ap (λ (r : Reading). r .column) e;
+      not-early = ap (λ (r : Reading). r .early) e;
       begun = reads-and-writes .exactly text .0 d;
       inside = taken-inside text d .1;
       spelled = reads-and-writes .spelled text d;
       in-form = reads-and-writes .read-in-form text d .0;
       typed = reads-and-writes .read-in-form text d .1;
-    })
-    go (inr e) =
-        let b = ap (λ (r : Reading). r .answer) e in
-        let f = reads-and-writes .first-line text b in
-        inr (b, f .0, f .1, f .2, f .3)
+    }
+
+-- a text is read, or it is 10
+read-said : (text : List ℕ) → IsRead text (readCall text) ⊎ (readCall text .answer ≡ BrokenRecord)
+unfolding refusedAt
+read-said text = ⊎-elim (λ e. inl (is-read text e)) (λ e. inr (ap (λ (r : Reading). r .answer) e)) (reads-and-writes .answered text)
 
 -- a refused reading hands back nothing
 read-kept : (text : List ℕ) → Refused (readCall text .answer) → (readCall text .taken ≡ 0) × (readCall text .content ≡ blank)
-unfolding refusedAt
-read-kept text r = go (reads-and-writes .answered text)
+read-kept text r = go (isDone (readCall text .answer)) refl
   where
-    go : (readCall text .answer ≡ Done) ⊎ (readCall text ≡ refusedAt (readCall text .line)) → (readCall text .taken ≡ 0) × (readCall text .content ≡ blank)
-    go (inl d) = absurd (r .0 d)
-    go (inr e) = (ap (λ (x : Reading). x .taken) e, ap (λ (x : Reading). x .content) e)
+    go : (b : Bool) → isDone (readCall text .answer) ≡ b → (readCall text .taken ≡ 0) × (readCall text .content ≡ blank)
+    go true e = absurd (r .0 (done-is (readCall text .answer) e))
+    go false e = refused-takes text e
 
 -- a writing, by its two tests
 record Writes (r : Record) (out : List ℕ) : Type 0 where
   said : Says (writeCall r out .outcome .answer) (first Done (writeFaults r (length out)))
       ((writeCall r out .out ≡ out) × (writeCall r out .outcome .written ≡ 0))
   line : writeCall r out .outcome .line ≡ broken r
+  column : writeCall r out .outcome .column ≡ 0
 
 -- a writing keeps its list
 write-said : (r : Record) (out : List ℕ) → Writes r out
 unfolding writeCall
-write-said r out = record { said = go (eqb (broken r) 0) (leb (length (textOf r)) (length out)); line = named (eqb (broken r) 0) (leb (length (textOf r)) (length out)) refl }
+write-said r out = record {
+  said = go (eqb (broken r) 0) (leb (length (textOf r)) (length out));
+  line = at-line (eqb (broken r) 0) (leb (length (textOf r)) (length out)) refl;
+  column = at-column (eqb (broken r) 0) (leb (length (textOf r)) (length out));
+}
   where
     done : WriteLeaves
-    done = writeLeaves (record { answer = Done; line = 0; written = length (textOf r) }) (textOf r ++ drop (length (textOf r)) out)
+    done = writeLeaves (record { answer = Done; line = 0; column = 0; written = length (textOf r) }) (textOf r ++ drop (length (textOf r)) out)
 
     leaves : Bool → Bool → WriteLeaves
     leaves t room =
         let answer = first Done (BrokenRecord when not t ∷ NoRoom when not room ∷ []) in
-        cond (isDone answer) done (writeLeaves (record { answer = answer; line = broken r; written = 0 }) out)
+        cond (isDone answer) done (writeLeaves (record { answer = answer; line = broken r; column = 0; written = 0 }) out)
 
     go : (t room : Bool) → Says (leaves t room .outcome .answer) (first Done (BrokenRecord when not t ∷ NoRoom when not room ∷ []))
         ((leaves t room .out ≡ out) × (leaves t room .outcome .written ≡ 0))
@@ -124,18 +127,27 @@ write-said r out = record { said = go (eqb (broken r) 0) (leb (length (textOf r)
     go true false = says _ _ (refl, refl)
     go false room = says _ _ (refl, refl)
 
-    named : (t room : Bool) → eqb (broken r) 0 ≡ t → leaves t room .outcome .line ≡ broken r
-    named true true e = sym (eqb-true (broken r) 0 e)
-    named true false e = refl
-    named false room e = refl
+    at-line : (t room : Bool) → eqb (broken r) 0 ≡ t → leaves t room .outcome .line ≡ broken r
+    at-line true true e = sym (eqb-true (broken r) 0 e)
+    at-line true false e = refl
+    at-line false room e = refl
+
+    at-column : (t room : Bool) → leaves t room .outcome .column ≡ 0
+    at-column true true = refl
+    at-column true false = refl
+    at-column false room = refl
 
 -- each answer is listed
 pub listed : Listed ours
 listed =
     record {
       read = read-said;
+      read-at = reads-and-writes .refused;
+      read-early = reads-and-writes .early;
+      read-decided = reads-and-writes .decided;
       write = λ r out. write-said r out .said .is;
       write-line = λ r out. write-said r out .line;
+      write-column = λ r out. write-said r out .column;
     }
 
 -- each refusal changes nothing
@@ -158,8 +170,8 @@ write-reports r out = go (eqb (broken r) 0) (leb (length (textOf r)) (length out
     text = textOf r
 
     go : (form room : Bool) → let answer = first Done (BrokenRecord when not form ∷ NoRoom when not room ∷ []) in
-        let leaves = cond (isDone answer) (writeLeaves (record { answer = Done; line = 0; written = length text }) (text ++ drop (length text) out))
-        (writeLeaves (record { answer = answer; line = broken r; written = 0 }) out) in
+        let leaves = cond (isDone answer) (writeLeaves (record { answer = Done; line = 0; column = 0; written = length text }) (text ++ drop (length text) out))
+        (writeLeaves (record { answer = answer; line = broken r; column = 0; written = 0 }) out) in
         leaves .outcome .answer ≡ Done → (leaves .outcome .written ≡ length text) × (leaves .out ≡ text ++ drop (length text) out)
     go true true e = (refl, refl)
     go true false e = absurd (let z : _≡_ {A = ℕ} 6 0 = ap numberOf e in omega arith)

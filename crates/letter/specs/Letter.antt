@@ -11,6 +11,9 @@ use Rattle.ascon.specs.Rounds.{runs, total, messageRounds, Marked}
 use Rattle.ascon.specs.Cases.{Cases}
 use Rattle.ascon.specs.Known as ascon
 use Rattle.history.specs.History.{HistoryLaw}
+use Rattle.lines.specs.Laws.{ReadsLines}
+use Rattle.record.specs.Known as record-crate
+use Rattle.record.specs.Laws.{ReadsAndWrites}
 use Rattle.judge.specs.Laws.{Judges}
 use Rattle.turns.specs.Laws.{WholeReports}
 use Rattle.letter.specs.Model.{Model, ours, Keeps, Reported}
@@ -44,6 +47,12 @@ pub record Letter : Type 2 where
   pub sealed-bytes : (set : ℕ) (K N A P : List ℕ) → length K ≡ rowOf set .key → Bytes K → Bytes P
       → Bytes (sealed (rowOf set) K N A P .cipher) × Bytes (sealed (rowOf set) K N A P .tag)
   pub opened-bytes : (set : ℕ) (K N A C : List ℕ) → length K ≡ rowOf set .key → Bytes K → Bytes C → Bytes (decrypted (rowOf set) K N A C .out)
+  -- the reader of lines: what it finds is a right line, or the first column with which none goes on, for every kind of line that fits; and nothing else that it could find is true
+  pub lines : ReadsLines
+  -- records: what was written is read and what was read is written, the line and column at which a text is wrong, and what decides a reading
+  pub records : ReadsAndWrites
+  -- and known answers of them, written down from the papers
+  pub known-records : record-crate.Known
   -- verdicts and reports: equal exactly where rounds, cipher and tag are ours, what the first difference of two texts is, and the report of an input, record by record
   pub judging : Judges
   -- the bench's program: it says its end only where all of its report is written, and there if no call fails

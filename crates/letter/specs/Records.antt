@@ -1,21 +1,25 @@
--- Records and their digits: all that is said of their calls.
+-- Records, their lines and digits: all that is said of their calls.
 use mathlib.Core.Path.{_≡_}
+use mathlib.Core.Bool.{true, false}
 use mathlib.Core.List.{List, _++_}
-use mathlib.Core.Logic.{_⊎_}
-use Prim.Native.Nat.{ℕ, _-_, _≤_}
+use mathlib.Core.Logic.{_↔_, _⊎_}
+use Prim.Native.Nat.{ℕ, _≤_}
 use lib.ListN.{length, drop, take}
 use Rattle.answers.specs.declared.Answer.the-variants.{Done, BrokenRecord}
 use Rattle.answers.specs.Order.{first}
-use Rattle.digits.specs.Hex.{digitOf, isValue, pairOf, hexOf}
+use Rattle.digits.specs.Hex.{digitIn, digitOf, isValue, pairOf, hexOf}
 use Rattle.digits.specs.Numbers as decimals
 use Rattle.digits.specs.Room.{lineOf, laid, put}
-use Rattle.record.specs.declared.lines.Record.{Record}
+use Rattle.lines.specs.Right.{named}
+use Rattle.lines.specs.Steps.{begin, stepOf, readOf, eitherOf}
+use Rattle.record.specs.declared.form.Record.{Record}
 use Rattle.record.specs.declared.reading.Reading.{Reading}
 use Rattle.record.specs.Form.{broken, blank}
 use Rattle.record.specs.Calls.{readCall, writeLeaves, writeCall, WriteLeaves, writeFaults}
-use Rattle.record.specs.Laws.{Begun, Typed}
+use Rattle.record.specs.Laws.{Begun, WrongAt, Typed}
 use Rattle.record.specs.Text.{textOf}
 use Rattle.digits.proofs as digits
+use Rattle.lines.proofs as lines
 use Rattle.record.proofs as record-crate
 use Rattle.letter.specs.Calls.{Answered, Lent, holding, Leaves, Gives, Refused}
 
@@ -36,12 +40,12 @@ pub record Keeps (m : Model) : Type 0 where
   pub write : (entry : Record) (out : Lent) → let leaves = m .write entry (out .now) in
       Leaves record-crate.write.Reads.Learnt (entry, (out, tt)) (leaves .outcome) (entry, (holding out (leaves .out), tt))
 
--- each public call, and its one outcome; those of digits first
+-- each public call, and its one outcome; those of digits and lines first
 pub record EveryCall : Type 2 where
   -- ---- digits
   pub digits-read-digit : Answered digits.read_digit.Statement.statement digits.read_digit.Reads.Asked digits.read_digit.Reads.Learnt (λ r e. r) (λ (character, _). digitOf character)
   pub digits-is-digit : Answered digits.is_digit.Statement.statement digits.is_digit.Reads.Asked digits.is_digit.Reads.Learnt
-      (λ r e. r) (λ (character, _). isValue (digitOf character))
+      (λ r e. r) (λ (case, (character, _)). isValue (digitIn case character))
   pub digits-read-pair : Answered digits.read_pair.Statement.statement digits.read_pair.Reads.Asked digits.read_pair.Reads.Learnt
       (λ r e. r) (λ (high, (low, _)). pairOf (digitOf high) (digitOf low))
   pub digits-put-bytes : Answered digits.put_bytes.Statement.statement digits.put_bytes.Reads.Asked digits.put_bytes.Reads.Learnt
@@ -50,11 +54,16 @@ pub record EveryCall : Type 2 where
       (λ r (text, (out, _)). laid r (out .now)) (λ (text, (out, _)). put (text .now) (out .now))
   pub digits-put-line : Answered digits.put_line.Statement.statement digits.put_line.Reads.Asked digits.put_line.Reads.Learnt
       (λ r (name, (value, (out, _))). laid r (out .now)) (λ (name, (value, (out, _))). put (lineOf (name .now) (value .now)) (out .now))
-  pub digits-read-number : Answered digits.read_number.Statement.statement digits.read_number.Reads.Asked digits.read_number.Reads.Learnt
-      (λ r e. r) (λ (text, _). decimals.decimalOf (text .now))
   pub digits-number-length : Answered digits.number_length.Statement.statement digits.number_length.Reads.Asked digits.number_length.Reads.Learnt (λ r e. r) (λ (n, _). decimals.places n)
   pub digits-put-number : Answered digits.put_number.Statement.statement digits.put_number.Reads.Asked digits.put_number.Reads.Learnt
       (λ r (n, (out, _)). laid r (out .now)) (λ (n, (out, _)). put (decimals.numeral n) (out .now))
+  -- ---- lines
+  pub lines-named : Answered lines.named.Statement.statement lines.named.Reads.Asked lines.named.Reads.Learnt (λ r e. r) (λ (text, _). named (text .now))
+  pub lines-begun : Answered lines.begun.Statement.statement lines.begun.Reads.Asked lines.begun.Reads.Learnt (λ r e. r) (λ _. begin)
+  pub lines-advance : Answered lines.advance.Statement.statement lines.advance.Reads.Asked lines.advance.Reads.Learnt
+      (λ r e. r) (λ (kind, (state, (character, _))). stepOf kind state character)
+  pub lines-read : Answered lines.read.Statement.statement lines.read.Reads.Asked lines.read.Reads.Learnt (λ r e. r) (λ (kind, (text, _)). readOf kind (text .now))
+  pub lines-either : Answered lines.either.Statement.statement lines.either.Reads.Asked lines.either.Reads.Learnt (λ r e. r) (λ (one, (other, _)). eitherOf one other)
   -- ---- record
   pub record-first-broken : Answered record-crate.first_broken.Statement.statement record-crate.first_broken.Reads.Asked record-crate.first_broken.Reads.Learnt
       (λ r e. r) (λ (entry, _). broken entry)
@@ -64,25 +73,32 @@ pub record EveryCall : Type 2 where
 
 -- ---- what they answer
 
--- a text that is read: its first eight lines are those of a record in form; what was taken is the text of that record, which is handed back
+-- a text that is read: it begins with the eight lines of a record in form; what was taken is the text of that record, which is handed back
 pub record IsRead (text : List ℕ) (reading : Reading) : Type 0 where
   pub done : reading .answer ≡ Done
   pub no-line : reading .line ≡ 0
+  pub no-column : reading .column ≡ 0
+  pub not-early : reading .early ≡ false
   pub begun : Begun 8 text
   pub inside : reading .taken ≤ length text
   pub spelled : take (reading .taken) text ≡ textOf (reading .content)
   pub in-form : broken (reading .content) ≡ 0
   pub typed : Typed (reading .content)
 
--- each answer, and the line that it names
+-- each answer, and the line and column that it names
 pub record Listed (m : Model) : Type 0 where
-  -- a text is read, or it is 10, with the first line that breaks a rule
-  pub read : (text : List ℕ) → let reading = m .read text in
-      IsRead text reading
-      ⊎ ((reading .answer ≡ BrokenRecord) × (1 ≤ reading .line) × (reading .line ≤ 8) × Begun (reading .line - 1) text × (Begun (reading .line) text → ⊥))
+  -- a text is read, or it is 10
+  pub read : (text : List ℕ) → IsRead text (m .read text) ⊎ (m .read text .answer ≡ BrokenRecord)
+  -- it is 10 with a line and column exactly where the lines before are right and behind them the text leaves the right lines at that column
+  pub read-at : (text : List ℕ) (line column : ℕ) → let reading = m .read text in
+      ((reading .answer ≡ BrokenRecord) × (reading .line ≡ line) × (reading .column ≡ column)) ↔ WrongAt text line column
+  -- a text ended too early exactly where it does not begin with a record, and some more of it makes it begin with one; nothing behind any other matters
+  pub read-early : (text : List ℕ) → (m .read text .early ≡ true) ↔ ((Begun 8 text → ⊥) × ((more : List ℕ) × Begun 8 (text ++ more)))
+  pub read-decided : (text more : List ℕ) → m .read text .early ≡ false → m .read (text ++ more) ≡ m .read text
   pub write : (r : Record) (out : List ℕ)
       → m .write r out .outcome .answer ≡ first Done (writeFaults r (length out))
   pub write-line : (r : Record) (out : List ℕ) → m .write r out .outcome .line ≡ broken r
+  pub write-column : (r : Record) (out : List ℕ) → m .write r out .outcome .column ≡ 0
 
 -- ---- what they leave
 

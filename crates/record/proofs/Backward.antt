@@ -1,64 +1,58 @@
 -- Lines that are read stand in the record after them as they were written.
-use mathlib.Core.Path.{_≡_, refl, sym, ap, _∙_}
+use mathlib.Core.Path.{_≡_, refl, sym, ap, _∙_, subst₂}
 use mathlib.Core.Bool.{Bool, true, false}
 use mathlib.Core.List.{List, _++_, append-assoc}
-use mathlib.Core.Option.{Option, some, none, Option·none-ne-some, Option·some-injective}
 use Prim.Native.Nat.{ℕ, zero, suc, _+_, _≤_, _<_}
 use native.Mathlib.Omega.{arith}
 use lib.Dec.{ltb}
 use lib.ListN.{length, drop, length-append}
 use lib.Seq.{drop-drop}
 use borrow.Author.Tests.{ltb-true, ltb-false}
+use Rattle.lines.specs.Tables.{whole}
+use Rattle.lines.proofs.Tables.{last-line}
+use Rattle.record.specs.declared.form.Record.{Record}
 use Rattle.record.specs.Form.{blank, keeps}
 use Rattle.record.specs.Text.{lineText, textFrom}
-use Rattle.record.specs.Calls.{Line, lineRead}
+use Rattle.record.specs.Calls.{readAt, given, linesOf}
 use Rattle.record.specs.Laws.{Typed}
 use Rattle.record.proofs.Places.{typed-blank}
-use Rattle.record.proofs.Steps.{Passed, line-passed}
+use Rattle.record.proofs.Lines.{Passed, line-passed}
 use Rattle.record.proofs.Chains.{text-snoc, text-alike, Sound}
-use Rattle.record.proofs.Reach.{onward, stepped, reach}
 
--- the first k lines of a text are those of the record that they were read into
-pub record Far (k : ℕ) (text : List ℕ) (s : Line) : Type 0 where
-  pub typed : Typed (s .next)
-  pub rule : Sound k 1 (s .next)
-  pub size : s .size ≡ length (textFrom k 1 (s .next))
-  pub there : text ≡ textFrom k 1 (s .next) ++ drop (s .size) text
+-- the first k lines of a text, of so many bytes, are those of the record that they were read into
+pub record Far (k : ℕ) (text : List ℕ) (size : ℕ) (r : Record) : Type 0 where
+  pub typed : Typed r
+  pub rule : Sound k 1 r
+  pub size-is : size ≡ length (textFrom k 1 r)
+  pub there : text ≡ textFrom k 1 r ++ drop size text
 
 -- and with one line more
-far-more : (k : ℕ) (text : List ℕ) (s l : Line) → Far k text s → Passed (suc k) (s .next) (drop (s .size) text) l
-    → Far (suc k) text (record { next = l .next; size = s .size + l .size })
-far-more k text s l f p =
-    let old : textFrom k 1 (l .next) ≡ textFrom k 1 (s .next) = text-alike k 1 (l .next) (s .next) (λ m a b. p .before m a (omega arith)) in
-    let new : textFrom (suc k) 1 (l .next) ≡ textFrom k 1 (s .next) ++ lineText (suc k) (l .next) =
-    text-snoc k 1 (suc k) (l .next) (omega arith) ∙ rw old in
+far-more : (k : ℕ) (text : List ℕ) (at size : ℕ) (r next : Record) → Far k text at r → Passed (1 + k) r (drop at text) size next → Far (suc k) text (at + size) next
+far-more k text at size r next f p =
+    let old : textFrom k 1 next ≡ textFrom k 1 r = text-alike k 1 next r (λ m a b. p .before m a (omega arith)) in
+    let new : textFrom (suc k) 1 next ≡ textFrom k 1 r ++ lineText (1 + k) next = text-snoc k 1 (1 + k) next refl ∙ rw old in
     record {
       typed = p .typed (f .typed);
-      rule = λ m a b. one m a b (ltb m (suc k)) refl;
-      size = rw (new, length-append) (omega (arith, f .size, p .size));
+      rule = λ m a b. one m a b (ltb m (1 + k)) refl;
+      size-is = rw (new, length-append) (omega (arith, f .size-is, p .size-is));
       there =
           f .there
-          ∙ ap (λ (t : List ℕ). textFrom k 1 (s .next) ++ t) (p .there ∙ ap (λ (t : List ℕ). lineText (suc k) (l .next) ++ t) (drop-drop (l .size) (s .size) text))
+          ∙ ap (λ (t : List ℕ). textFrom k 1 r ++ t) (p .there ∙ ap (λ (t : List ℕ). lineText (1 + k) next ++ t) (drop-drop size at text))
           ∙ rw (new, append-assoc);
     }
   where
-    one : (m : ℕ) → 1 ≤ m → m < 1 + suc k → (t : Bool) → ltb m (suc k) ≡ t → keeps m (l .next) ≡ true
-    one m a b true e = let c : m < suc k = ltb-true m (suc k) e in p .before m a c .rule ∙ f .rule m a (omega arith)
-    one m a b false e = let c : m ≡ suc k = omega (arith, ltb-false m (suc k) e) in rw c (p .rule)
+    one : (m : ℕ) → 1 ≤ m → m < 1 + suc k → (t : Bool) → ltb m (1 + k) ≡ t → keeps m next ≡ true
+    one m a b true e = let c : m < 1 + k = ltb-true m (1 + k) e in p .before m a c .rule ∙ f .rule m a (omega arith)
+    one m a b false e = let c : m ≡ 1 + k = omega (arith, ltb-false m (1 + k) e) in rw c (p .rule)
 
 -- lines that are read were written so
-pub reach-far : (k : ℕ) → k ≤ 8 → (text : List ℕ) (s : Line) → reach k text ≡ some s → Far k text s
-reach-far zero h text s e =
-    let p : s ≡ record { next = blank; size = 0 } = sym (Option·some-injective _ s e) in
-    rw p (record { typed = typed-blank; rule = λ m a b. absurd (omega arith); size = refl; there = refl })
-reach-far (suc k) h text s e = go (reach k text) refl e (λ t f. reach-far k (omega arith) text t f)
-  where
-    next : (t : Line) (o : Option Line) → lineRead (suc k) (t .next) (drop (t .size) text) ≡ o → onward t o ≡ some s → Far k text t → Far (suc k) text s
-    next t none g e f = absurd (Option·none-ne-some s e)
-    next t (some l) g e f =
-        let p : s ≡ record { next = l .next; size = t .size + l .size } = sym (Option·some-injective _ s e) in
-        rw p (far-more k text t l f (line-passed (suc k) (omega arith) h (t .next) (drop (t .size) text) l g))
-
-    go : (o : Option Line) → reach k text ≡ o → stepped (suc k) text o ≡ some s → ((t : Line) → reach k text ≡ some t → Far k text t) → Far (suc k) text s
-    go none f e rest = absurd (Option·none-ne-some s e)
-    go (some t) f e rest = next t (lineRead (suc k) (t .next) (drop (t .size) text)) refl e (rest t f)
+pub read-far : (k : ℕ) → k ≤ 8 → (text : List ℕ) (size : ℕ) (r : Record) → linesOf k text ≡ whole size r → Far k text size r
+read-far zero h text size r e =
+    let a : 0 ≡ size = cc in
+    let b : blank ≡ r = cc in
+    rw (← a, ← b) (record { typed = typed-blank; rule = λ m a b. absurd (omega arith); size-is = refl; there = refl })
+read-far (suc k) h text size r e =
+    let m = last-line readAt given 1 blank k size r text e in
+    subst₂ (Far (suc k) text) (sym (m .ends)) (sym (m .gives))
+    (far-more k text (m .at) (m .size) (m .earlier) _ (read-far k (omega arith) text (m .at) (m .earlier) (m .read))
+    (line-passed (1 + k) (omega arith) (omega arith) (m .earlier) (drop (m .at) text) (m .size) (m .says) (m .found)))

@@ -7,7 +7,7 @@ use native.Mathlib.Omega.{arith}
 use lib.Dec.{ltb}
 use lib.ListN.{length, length-append}
 use borrow.Author.Tests.{ltb-true, ltb-false}
-use Rattle.record.specs.declared.lines.Record.{Record}
+use Rattle.record.specs.declared.form.Record.{Record}
 use Rattle.record.specs.Form.{keeps, brokenFrom}
 use Rattle.record.specs.Text.{lineText, textFrom}
 use Rattle.record.proofs.Places.{Alike}

@@ -1,17 +1,15 @@
--- Laws of records.
-pub mod Names
-pub mod Walks
-pub mod Runs
+-- Laws of bench records.
 pub mod Fields
+pub mod Names
 pub mod Places
 pub mod Rules
-pub mod Values
-pub mod Steps
+pub mod Table
+pub mod Lines
 pub mod Chains
-pub mod Reach
 pub mod Forward
 pub mod Backward
-pub mod InForm
 pub mod Bounds
-pub mod Windows
+pub mod Right
+pub mod InForm
 pub mod Laws
+pub mod Known

@@ -7,8 +7,8 @@ use native.Mathlib.Omega.{arith}
 use lib.Dec.{eqb}
 use borrow.Author.Tests.{ne-eqb}
 use Rattle.record.specs.declared.field.Field.{Field}
-use Rattle.record.specs.declared.lines.Record.{Record}
-use Rattle.record.specs.Form.{isNumber, numberAt, fieldAt, withNumber, withField, blank, keeps}
+use Rattle.record.specs.declared.form.Record.{Record}
+use Rattle.record.specs.Form.{isNumber, numberAt, fieldAt, withNumber, withField, blank, valueKind, keeps}
 use Rattle.record.specs.Text.{valueText, lineText}
 use Rattle.record.specs.Laws.{Whole, Typed}
 use Rattle.record.proofs.Fields.{whole-field}
@@ -65,7 +65,7 @@ pub record Alike (line : ℕ) (r s : Record) : Type 0 where
 
 -- a number put into a line changes none before it
 pub number-before : (m : ℕ) → 1 ≤ m → m ≤ 8 → (line n : ℕ) (r : Record) → m < line → Alike m (withNumber line n r) r
-unfolding withNumber lineText valueText keeps
+unfolding withNumber lineText valueText keeps valueKind
 number-before =
     each-line (λ (m : ℕ). (line n : ℕ) (r : Record) → m < line → Alike m (withNumber line n r) r)
     (λ line n r h. let e = ne-eqb line 1 (omega arith) in record { text = rw e; rule = rw e })
@@ -79,7 +79,7 @@ number-before =
 
 -- bytes put into a line change none before it
 pub field-before : (m : ℕ) → 1 ≤ m → m ≤ 8 → (line : ℕ) (f : Field) (r : Record) → m < line → Alike m (withField line f r) r
-unfolding withField lineText valueText keeps
+unfolding withField lineText valueText keeps valueKind
 field-before =
     each-line (λ (m : ℕ). (line : ℕ) (f : Field) (r : Record) → m < line → Alike m (withField line f r) r)
     (λ line f r h. record { text = refl; rule = refl })

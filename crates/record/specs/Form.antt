@@ -1,13 +1,16 @@
 -- What a bench record holds, line by line, and the rule of each line.
-use mathlib.Core.Bool.{Bool, cond, not, _&&_, _||_}
+use mathlib.Core.Bool.{Bool, true, cond, _&&_, _||_}
 use mathlib.Core.List.{List, [], _∷_, _++_}
 use Prim.Native.Nat.{ℕ, zero, suc, _+_, _-_}
 use lib.Dec.{eqb, leb}
 use lib.ListN.{length, getD, take, drop}
-use Rattle.ascon.specs.Sets.{isSet, rowOf}
+use Rattle.ascon.specs.Sets.{table, rowOf}
+use Rattle.digits.specs.declared.hex.Case.the-variants.{Lower}
+use Rattle.lines.specs.declared.kinds.Value.{Value}
+use Rattle.lines.specs.declared.kinds.Value.the-variants.{Fixed, Number, Bytes}
 use Rattle.permutation.specs.Strings.{zeros, same}
 use Rattle.record.specs.declared.field.Field.{Field}
-use Rattle.record.specs.declared.lines.Record.{Record}
+use Rattle.record.specs.declared.form.Record.{Record}
 
 -- ---- fields
 
@@ -77,12 +80,21 @@ blank =
 
 -- ---- rules
 
--- the rule of a line: a known set; the key's length, or at most 256 bytes, with zeros behind them; at most seven digits
+-- what a line may hold, where the set is this: the number of a known set; a number of at most seven digits; as many bytes as the set's key has, or at most 256
+unfoldable pub valueKind : ℕ → ℕ → Value
+valueKind line set =
+    cond (eqb line 1) (Number 1 (length table))
+    (cond (eqb line 8) (Number 0 9_999_999) (cond (isKeyed line) (Bytes (rowOf set .key) (rowOf set .key) Lower) (Bytes 0 256 Lower)))
+
+-- a number or a field is what may be held: between two numbers; bytes, at least and at most so many, with zeros behind them
+abbrev pub allows : Value → ℕ → Field → Bool
+allows (Fixed own) n f = true
+allows (Number least most) n f = leb least n && leb n most
+allows (Bytes least most case) n f = isField f && (leb least (f .size) && leb (f .size) most)
+
+-- a line holds what it may
 unfoldable pub keeps : ℕ → Record → Bool
-keeps line r =
-    cond (eqb line 1) (isSet (r .set))
-    (cond (eqb line 8) (leb (r .rounds) 9_999_999)
-    (isField (fieldAt line r) && (not (isKeyed line) || eqb (fieldAt line r .size) (rowOf (r .set) .key))))
+keeps line r = allows (valueKind line (r .set)) (numberAt line r) (fieldAt line r)
 
 -- of `count` lines, from a line on, the first that breaks its rule; 0 where none does
 abbrev pub brokenFrom : ℕ → ℕ → Record → ℕ

@@ -3,3 +3,4 @@ pub mod Form
 pub mod Text
 pub mod Calls
 pub mod Laws
+pub mod Known

@@ -7,8 +7,10 @@ use Rattle.digits.specs.Ascii.{ascii}
 use Rattle.digits.specs.Hex.{hexOf}
 use Rattle.digits.specs.Numbers.{numeral}
 use Rattle.digits.specs.Room.{lineOf}
-use Rattle.record.specs.declared.lines.Record.{Record}
-use Rattle.record.specs.Form.{held, isNumber, numberAt, fieldAt}
+use Rattle.lines.specs.declared.kinds.Kind.{Kind}
+use Rattle.lines.specs.Right.{named}
+use Rattle.record.specs.declared.form.Record.{Record}
+use Rattle.record.specs.Form.{held, isNumber, numberAt, fieldAt, valueKind}
 
 -- the names of the lines
 unfoldable pub names : List (List ℕ)
@@ -17,6 +19,10 @@ names = ascii "set=" ∷ ascii "key=" ∷ ascii "nonce=" ∷ ascii "ad=" ∷ asc
 -- the name of a line
 unfoldable pub name : ℕ → List ℕ
 name line = getD names (line - 1) (getD names 0 [])
+
+-- the kind of a line, where the set is this
+unfoldable pub kindOf : ℕ → ℕ → Kind
+kindOf line set = record { name = named (name line); value = valueKind line set }
 
 -- what stands behind the name: a number in decimals, or bytes in hex
 unfoldable pub valueText : ℕ → Record → List ℕ

@@ -1,22 +1,15 @@
 // A field: up to 256 bytes, with zeros behind them.
 ghost use mathlib.Core.Path.{_≡_};
 ghost use mathlib.Core.List.{[]};
-ghost use mathlib.Core.Option.{none};
 ghost use Rattle.digits.specs.Hex.{fromHex};
 ghost use Rattle.record.specs.Form.{fieldOf, isField};
-ghost use Rattle.record.specs.Calls.{fitted, spelledAs};
+ghost use Rattle.record.specs.Calls.{fitted};
 use digits::Pair;
 
 // The bytes of a line: the first `size` of 256 places.
 pub struct Field {
     pub bytes: [u8; 256],
     pub size: usize,
-}
-
-// What digits are as a field: whether they are one, and the field, empty where they are not.
-pub struct Spelled {
-    pub ok: bool,
-    pub field: Field,
 }
 
 // A field with no bytes.
@@ -47,38 +40,27 @@ pub(crate) fn is_field(field: Field) -> bool
     true
 }
 
-// The field of digits, two a byte.
-pub(crate) fn read_field(text: &[u8]) -> Spelled
-    ensures { λ r. ⌜ r ≡ spelledAs (fitted (fromHex (now (text .entry)))) ⌝ }
+// The field of digits, two a byte; the empty one where they are no bytes, or more than 256.
+pub(crate) fn read_field(text: &[u8]) -> Field
+    ensures { λ r. ⌜ r ≡ fitted (fromHex (now (text .entry))) ⌝ }
 {
     let mut bytes = [0; 256];
     let mut size = 0;
     let mut at = 0;
     while at < text.len() {
         if size == 256 {
-            return no_spelling();
+            return no_field();
         }
         if text.len() - at == 1 {
-            return no_spelling();
+            return no_field();
         }
         let pair = digits::read_pair(text[at], text[at + 1]);
         let Pair::Byte(b) = pair else {
-            return no_spelling();
+            return no_field();
         };
         bytes[size] = b;
         size += 1;
         at += 2;
     }
-    Spelled {
-        ok: true,
-        field: Field { bytes, size },
-    }
-}
-
-// Digits that are no field.
-fn no_spelling() -> Spelled
-    ensures { λ r. ⌜ r ≡ spelledAs none ⌝ }
-{
-    let field = no_field();
-    Spelled { ok: false, field }
+    Field { bytes, size }
 }

@@ -1,12 +1,13 @@
-// Bench records: the record, its reader and its writer. Both take anything, and name the first line that breaks a rule.
+// Bench records: the record, its reader and its writer. Both take anything. The reader names the line and column at which a text is wrong, the writer the first line
+// that breaks its rule.
 mod field;
-mod lines;
+mod form;
 mod reading;
 mod writing;
 
 pub use field::Field;
-pub use lines::Record;
-pub use lines::first_broken;
+pub use form::Record;
+pub use form::first_broken;
 pub use reading::Reading;
 pub use reading::read;
 pub use writing::Writing;

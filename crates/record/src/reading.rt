@@ -1,130 +1,44 @@
-// Reading a record: line by line, each a name, digits and a line feed.
+// Reading a record: line by line, by the table of the lines' kinds.
 ghost use mathlib.Core.Path.{_≡_};
-ghost use mathlib.Core.Option.{some, none};
-ghost use lib.Dec.{eqb};
-ghost use lib.ListN.{getD};
-ghost use Rattle.digits.specs.Hex.{fromHex};
-ghost use Rattle.digits.specs.Numbers.{decimalOf};
-ghost use Rattle.record.specs.Calls.{begins, nameTaken, takenAs, kept, numbered, filled, fitted, valueRead, refusedAt, readCall};
+ghost use Rattle.record.specs.Calls.{withValue, refusedAt, readCall};
 use crate::field;
-use crate::lines;
-use crate::lines::Record;
+use crate::form;
+use crate::form::Record;
 use answers::Answer;
-use digits::Numeral;
+use lines::Step;
 
-// What reading answers: the answer, the line of a broken record, how many bytes were taken, and the record.
+// What reading answers: the answer; the line and column at which a text is wrong, and whether it only ended too early, so that more of it can make a record; how many
+// bytes were taken; and the record.
 pub struct Reading {
     pub answer: Answer,
     pub line: usize,
+    pub column: usize,
+    pub early: bool,
     pub taken: usize,
     pub content: Record,
 }
 
-// A record after a line's digits: whether they were taken, and the record, of zeros where they were not.
-struct Taken {
-    ok: bool,
-    content: Record,
-}
-
-// Whether a text begins with another.
-fn begins_with(start: &[u8], text: &[u8]) -> bool
-    ensures { λ r. ⌜ r ≡ begins (now (start .entry)) (now (text .entry)) ⌝ }
+// A record with a line's value: the number that the line says, or the bytes of its digits.
+fn with_value(line: usize, entry: Record, number: u64, digits: &[u8]) -> Record
+    ensures { λ r. ⌜ r ≡ withValue line entry number (now (digits .entry)) ⌝ }
 {
-    if text.len() < start.len() {
-        return false;
+    if form::is_number(line) {
+        return form::with_number(line, entry, number);
     }
-    let mut i = 0;
-    while i < start.len() {
-        if start[i] != text[i] {
-            return false;
-        }
-        i += 1;
-    }
-    true
+    let field = field::read_field(digits);
+    form::with_field(line, entry, field)
 }
 
-// How many bytes the name of a line takes where a text begins with it; 0 where it does not.
-fn take_name(line: usize, text: &[u8]) -> usize
-    ensures { λ r. ⌜ r ≡ nameTaken line (now (text .entry)) ⌝ }
+// Refused at a line and column.
+fn refusal(line: usize, column: usize, early: bool) -> Reading
+    ensures { λ r. ⌜ r ≡ refusedAt line column early ⌝ }
 {
-    let name = lines::name_of(line);
-    let bytes = name.bytes;
-    let size = name.size;
-    if begins_with(&bytes[..size], text) {
-        return size;
-    }
-    0
-}
-
-// A refused line.
-fn not_taken() -> Taken
-    ensures { λ r. ⌜ r ≡ takenAs none ⌝ }
-{
-    let content = lines::no_record();
-    Taken { ok: false, content }
-}
-
-// A record whose new line keeps its rule.
-fn keep(line: usize, content: Record) -> Taken
-    ensures { λ r. ⌜ r ≡ takenAs (kept line (some content)) ⌝ }
-{
-    if lines::keeps_rule(line, content) {
-        return Taken { ok: true, content };
-    }
-    not_taken()
-}
-
-// A record with the number of a line's digits.
-fn take_number(line: usize, entry: Record, text: &[u8]) -> Taken
-    ensures { λ r. ⌜ r ≡ takenAs (kept line (numbered line entry (decimalOf (now (text .entry))))) ⌝ }
-{
-    let numeral = digits::read_number(text);
-    let Numeral::Number(n) = numeral else {
-        return not_taken();
-    };
-    keep(line, lines::with_number(line, entry, n))
-}
-
-// A record with the bytes of a line's digits.
-fn take_field(line: usize, entry: Record, text: &[u8]) -> Taken
-    ensures { λ r. ⌜ r ≡ takenAs (kept line (filled line entry (fitted (fromHex (now (text .entry)))))) ⌝ }
-{
-    let spelled = field::read_field(text);
-    if !spelled.ok {
-        return not_taken();
-    }
-    let field = spelled.field;
-    keep(line, lines::with_field(line, entry, field))
-}
-
-// A record with a line's digits read.
-fn read_line(line: usize, entry: Record, text: &[u8]) -> Taken
-    ensures { λ r. ⌜ r ≡ takenAs (valueRead line entry (now (text .entry))) ⌝ }
-{
-    if lines::is_number(line) {
-        return take_number(line, entry, text);
-    }
-    take_field(line, entry, text)
-}
-
-// Whether a line feed stands at a place of a text.
-fn feed_at(text: &[u8], at: usize) -> bool
-    ensures { λ r. ⌜ r ≡ eqb (getD (now (text .entry)) at 0) 0x0a ⌝ }
-{
-    if text.len() <= at {
-        return false;
-    }
-    text[at] == b'\n'
-}
-
-// Refused at a line.
-fn refusal(line: usize) -> Reading
-    ensures { λ r. ⌜ r ≡ refusedAt line ⌝ }
-{
-    let content = lines::no_record();
+    let content = form::no_record();
     Reading {
         answer: Answer::BrokenRecord,
         line,
+        column,
+        early,
         taken: 0,
         content,
     }
@@ -134,42 +48,47 @@ fn refusal(line: usize) -> Reading
 pub fn read(text: &[u8]) -> Reading
     ensures { λ r. ⌜ r ≡ readCall (now (text .entry)) ⌝ }
 {
-    let mut entry = lines::no_record();
+    let mut entry = form::no_record();
     let mut at = 0;
     let mut line = 1;
+    let mut column = 0;
+    let mut early = false;
     let bad = loop {
         if line == 9 {
             break 0;
         }
-        let size = take_name(line, &text[at..]);
-        if size == 0 {
-            break line;
-        }
-        let from = at + size;
-        let mut end = from;
+        let kind = form::kind_of(line, entry.set);
+        let mut state = lines::begun();
+        let mut end = at;
         'digits: while end < text.len() {
-            if !digits::is_digit(text[end]) {
+            let next = lines::advance(kind, state, text[end]);
+            let Step::On(passed) = next else {
                 break 'digits;
-            }
+            };
+            state = passed;
             end += 1;
         }
-        if !feed_at(text, end) {
+        if !state.ended {
+            column = end - at + 1;
+            early = end == text.len();
             break line;
         }
-        let taken = read_line(line, entry, &text[from..end]);
-        if !taken.ok {
-            break line;
-        }
-        entry = taken.content;
-        at = end + 1;
+        let name = kind.name;
+        let from = at + name.size;
+        let feed = end - 1;
+        let next = with_value(line, entry, state.number, &text[from..feed]);
+        entry = next;
+        at = end;
         line += 1;
     };
     if bad != 0 {
-        return refusal(bad);
+        return refusal(bad, column, early);
     }
     Reading {
         answer: Answer::Done,
         line: 0,
+        column: 0,
+        early: false,
         taken: at,
         content: entry,
     }

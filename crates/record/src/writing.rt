@@ -7,14 +7,15 @@ ghost use Rattle.digits.specs.Room.{laid, put};
 ghost use Rattle.record.specs.Form.{keeps, broken};
 ghost use Rattle.record.specs.Text.{valueText, lineText, textOf};
 ghost use Rattle.record.specs.Calls.{writeLeaves, writeCall};
-use crate::lines;
-use crate::lines::Record;
+use crate::form;
+use crate::form::Record;
 use answers::Answer;
 
-// What writing answers: the answer, the line of a broken record, and how many bytes were written.
+// What writing answers: the answer, the line of a broken record, the column 0, since a record that is handed over has none, and how many bytes were written.
 pub struct Writing {
     pub answer: Answer,
     pub line: usize,
+    pub column: usize,
     pub written: usize,
 }
 
@@ -25,10 +26,10 @@ fn value_length(line: usize, entry: Record) -> usize
     requires { ⌜ line ≤ 8 ⌝ }
     ensures { λ r. ⌜ r ≡ length (valueText line entry) ⌝ }
 {
-    if lines::is_number(line) {
-        return digits::number_length(lines::number_at(line, entry));
+    if form::is_number(line) {
+        return digits::number_length(form::number_at(line, entry));
     }
-    let field = lines::field_at(line, entry);
+    let field = form::field_at(line, entry);
     2 * field.size
 }
 
@@ -39,10 +40,10 @@ fn put_value(line: usize, entry: Record, out: &mut [u8]) -> usize
     requires { ⌜ line ≤ 8 ⌝ }
     ensures { λ r. ⌜ laid r (now (out .exit)) ≡ put (valueText line entry) (now (out .entry)) ⌝ }
 {
-    if lines::is_number(line) {
-        return digits::put_number(lines::number_at(line, entry), out);
+    if form::is_number(line) {
+        return digits::put_number(form::number_at(line, entry), out);
     }
-    let field = lines::field_at(line, entry);
+    let field = form::field_at(line, entry);
     let bytes = field.bytes;
     let size = field.size;
     digits::put_bytes(&bytes[..size], out)
@@ -55,7 +56,7 @@ fn line_length(line: usize, entry: Record) -> usize
     requires { ⌜ line ≤ 8 ⌝ }
     ensures { λ r. ⌜ r ≡ length (lineText line entry) ⌝ }
 {
-    let name = lines::name_of(line);
+    let name = form::name_of(line);
     name.size + value_length(line, entry) + 1
 }
 
@@ -66,7 +67,7 @@ fn put_line(line: usize, entry: Record, out: &mut [u8]) -> usize
     requires { ⌜ line ≤ 8 ⌝ }
     ensures { λ r. ⌜ laid r (now (out .exit)) ≡ put (lineText line entry) (now (out .entry)) ⌝ }
 {
-    let name = lines::name_of(line);
+    let name = form::name_of(line);
     let bytes = name.bytes;
     let size = name.size;
     let mut value = [0; 512];
@@ -92,11 +93,12 @@ fn text_length(entry: Record) -> usize
 pub fn write(entry: Record, out: &mut [u8]) -> Writing
     ensures { λ r. ⌜ writeLeaves r (now (out .exit)) ≡ writeCall entry (now (out .entry)) ⌝ }
 {
-    let bad = lines::first_broken(entry);
+    let bad = form::first_broken(entry);
     if bad != 0 {
         return Writing {
             answer: Answer::BrokenRecord,
             line: bad,
+            column: 0,
             written: 0,
         };
     }
@@ -104,6 +106,7 @@ pub fn write(entry: Record, out: &mut [u8]) -> Writing
         return Writing {
             answer: Answer::NoRoom,
             line: 0,
+            column: 0,
             written: 0,
         };
     }
@@ -116,6 +119,7 @@ pub fn write(entry: Record, out: &mut [u8]) -> Writing
     Writing {
         answer: Answer::Done,
         line: 0,
+        column: 0,
         written: at,
     }
 }

@@ -20,9 +20,9 @@ unfolding reportText recordLine verdictLine fieldLine
 length-report number verdict = simp (length-append, length-line) (omega arith)
 
 -- a report has at most 70 bytes, where its numbers have 64 bits
-pub report-most : (number : ℕ) (verdict : Verdict) → number < 2 ^ 64 → ((line : ℕ) → verdict ≡ Unread line → line < 2 ^ 64) → length (reportText number verdict) ≤ 70
+pub report-most : (number : ℕ) (verdict : Verdict) → number < 2 ^ 64 → ((line column : ℕ) → verdict ≡ Unread line column → line < 2 ^ 64) → length (reportText number verdict) ≤ 70
 report-most number Equal h k = omega (arith, length-report number Equal, numeral-most number h)
 report-most number Rounds h k = omega (arith, length-report number Rounds, numeral-most number h)
 report-most number Cipher h k = omega (arith, length-report number Cipher, numeral-most number h)
 report-most number Tag h k = omega (arith, length-report number Tag, numeral-most number h)
-report-most number (Unread line) h k = omega (arith, length-report number (Unread line), numeral-most number h, numeral-most line (k line refl))
+report-most number (Unread line column) h k = omega (arith, length-report number (Unread line column), numeral-most number h, numeral-most line (k line column refl))

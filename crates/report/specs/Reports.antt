@@ -21,7 +21,7 @@ word Equal = ascii "equal"
 word Rounds = ascii "differs"
 word Cipher = ascii "differs"
 word Tag = ascii "differs"
-word (Unread line) = ascii "unread"
+word (Unread line column) = ascii "unread"
 
 -- `none`; the first differing field, `rounds`, `cipher` or `tag`; the number of the broken line
 abbrev pub part : Verdict → List ℕ
@@ -29,7 +29,7 @@ part Equal = ascii "none"
 part Rounds = ascii "rounds"
 part Cipher = ascii "cipher"
 part Tag = ascii "tag"
-part (Unread line) = numeral line
+part (Unread line column) = numeral line
 
 -- `record=` and the record's number
 unfoldable pub recordLine : ℕ → List ℕ

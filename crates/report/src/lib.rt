@@ -7,13 +7,14 @@ ghost use Rattle.digits.specs.Room.{lineOf, laid, put};
 ghost use Rattle.report.specs.Reports.{word, part, verdictLine, fieldLine, reportText, reportLeaves, reportCall};
 use answers::Answer;
 
-// What the bench says of a record: all agrees, or the first field that differs, or the first broken line of a record out of form.
+// What the bench says of a record: all agrees, or the first field that differs, or it can't be read.
 pub enum Verdict {
     Equal,
     Rounds,
     Cipher,
     Tag,
-    Unread(usize),
+    // The first broken line of a record out of form, and the column at which it is wrong; 0 where the record was handed over as a struct.
+    Unread { line: usize, column: usize },
 }
 
 // What reporting answers: the answer, and how many bytes were written.
@@ -42,7 +43,7 @@ fn put_verdict_line(verdict: Verdict, out: &mut [u8]) -> usize
             b"differs",
             out,
         ),
-        Verdict::Unread(_) => digits::put_line(b"verdict=", b"unread", out),
+        Verdict::Unread { .. } => digits::put_line(b"verdict=", b"unread", out),
     }
 }
 
@@ -55,7 +56,7 @@ fn put_field_line(verdict: Verdict, out: &mut [u8]) -> usize
         Verdict::Rounds => digits::put_line(b"field=", b"rounds", out),
         Verdict::Cipher => digits::put_line(b"field=", b"cipher", out),
         Verdict::Tag => digits::put_line(b"field=", b"tag", out),
-        Verdict::Unread(line) => put_number_line(b"field=", line as u64, out),
+        Verdict::Unread { line, .. } => put_number_line(b"field=", line as u64, out),
     }
 }
 
@@ -69,7 +70,7 @@ fn words_length(verdict: Verdict) -> usize
         Verdict::Rounds => 13,
         Verdict::Cipher => 13,
         Verdict::Tag => 10,
-        Verdict::Unread(line) => 6 + digits::number_length(line as u64),
+        Verdict::Unread { line, .. } => 6 + digits::number_length(line as u64),
     }
 }
 

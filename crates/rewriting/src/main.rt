@@ -72,6 +72,7 @@ fn say_writing(writing: Writing, before: &[u8], places: &[u8])
     let written = writing.written;
     say(b" answer=", answers::number(answer));
     say_count(b" line=", writing.line);
+    say_count(b" column=", writing.column);
     say_count(b" written=", written);
     say_rest(check::same(&before[written..], &places[written..]));
     io::write_all(STDOUT_FILENO, &places[..written]);
@@ -192,7 +193,8 @@ fn rewrite_all(text: &[u8])
         let content = reading.content;
         let taken = reading.taken;
         if taken == 0 {
-            say_line(b"unread: line=", reading.line as u64);
+            say_count(b"unread: line=", reading.line);
+            say_line(b" column=", reading.column as u64);
             return;
         }
         rewrite(content, taken);

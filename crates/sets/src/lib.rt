@@ -26,7 +26,7 @@ pub struct Row {
 }
 
 // How many sets there are.
-const ROWS: usize = 2;
+pub const ROWS: usize = 2;
 
 // The rows of the definition's table, set 1 first.
 const TABLE: [Row; ROWS] = [

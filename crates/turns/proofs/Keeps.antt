@@ -1,6 +1,6 @@
 -- What every turn of the program's run keeps.
 use mathlib.Core.Path.{_≡_, refl, sym, ap, ap₂, subst, _∙_}
-use mathlib.Core.Bool.{Bool, true, false, cond, _||_, false≢true, true≢false}
+use mathlib.Core.Bool.{Bool, true, false, cond, false≢true, true≢false}
 use mathlib.Core.List.{List, [], _∷_, _++_, append-nil, append-assoc}
 use Prim.Native.Nat.{ℕ, _+_, _≤_}
 use native.Mathlib.Omega.{arith}
@@ -23,10 +23,10 @@ use Rattle.turns.specs.declared.Ending.the-variants.{Said, ReadFailed, W
 use Rattle.turns.specs.declared.Stage.{Stage}
 use Rattle.turns.specs.declared.Stage.the-variants.{Judge, Close, Read, Write, Say, Over}
 use Rattle.turns.specs.declared.Tally.{Tally}
-use Rattle.turns.specs.Tallies.{none, countedWith, countedAll, recordsOf, largest, endLine}
+use Rattle.turns.specs.Tallies.{none, countedWith, countedAll, recordsOf, largest, lastWords}
 use Rattle.turns.specs.Run.{Standing, Reply, Came, Took, Again, Failed, begun, next, isJudging, isClosing, isReading, isWriting, withReport, looked, judged, closed, came, took, failed, behind, heard, turned, ranFrom, joined, fromInput, outputAt, toOutput, errorAt, toError}
 use Rattle.turns.proofs.Stages.{reading-is, judging-is, closing-is}
-use Rattle.turns.proofs.Tallies.{unread-stays, counted-behind, records-counted, line-some}
+use Rattle.turns.proofs.Tallies.{unread-stays, counted-behind, records-counted, words-some}
 
 -- ---- what is still to come
 
@@ -50,21 +50,21 @@ reportLeft Write left = left
 reportLeft Say left = []
 reportLeft (Over ending) left = leftOver ending left
 
--- what is left of the line that ends the run
-abbrev lineOver : Ending → List ℕ → List ℕ → List ℕ
-lineOver Said left line = []
-lineOver ReadFailed left line = line
-lineOver WriteFailed left line = line
-lineOver SayFailed left line = left
-lineOver TooMany left line = line
+-- what is left of the last words
+abbrev wordsOver : Ending → List ℕ → List ℕ → List ℕ
+wordsOver Said left words = []
+wordsOver ReadFailed left words = words
+wordsOver WriteFailed left words = words
+wordsOver SayFailed left words = left
+wordsOver TooMany left words = words
 
-abbrev pub lineLeft : Stage → List ℕ → List ℕ → List ℕ
-lineLeft Judge left line = line
-lineLeft Close left line = line
-lineLeft Read left line = line
-lineLeft Write left line = line
-lineLeft Say left line = left
-lineLeft (Over ending) left line = lineOver ending left line
+abbrev pub wordsLeft : Stage → List ℕ → List ℕ → List ℕ
+wordsLeft Judge left words = words
+wordsLeft Close left words = words
+wordsLeft Read left words = words
+wordsLeft Write left words = words
+wordsLeft Say left words = left
+wordsLeft (Over ending) left words = wordsOver ending left words
 
 -- the end is reached
 abbrev endedOver : Ending → Bool
@@ -101,13 +101,13 @@ isLeft (Over ending) = leftAt ending
 -- ---- what is kept
 
 -- the verdicts so far are counted; with those to come they are the input's, whatever is left of it; what is written and what is left of the last report are their reports; what
--- is said and what is left of the line are the line; at the end none is to come; an input that is read has not ended; what is left to write is not nothing
+-- is said and what is left of the last words are those words; at the end none is to come; an input that is read has not ended; what is left to write is not nothing
 pub record Keeps (r : Standing) (came wrote said : List ℕ) : Type 0 where
   pub verdicts : List Verdict
   pub counted : r .tally ≡ countedAll none verdicts
   pub ahead : (rest : List ℕ) → (r .ended ≡ true → rest ≡ []) → verdicts ++ remaining r rest ≡ verdictsOf (came ++ rest)
   pub output : wrote ++ reportLeft (r .stage) (r .left) ≡ reportsFrom 1 verdicts
-  pub line : said ++ lineLeft (r .stage) (r .left) (endLine (r .tally)) ≡ endLine (r .tally)
+  pub words : said ++ wordsLeft (r .stage) (r .left) (lastWords (r .tally)) ≡ lastWords (r .tally)
   pub ends : isEnd (r .stage) ≡ true → (rest : List ℕ) → (r .ended ≡ true → rest ≡ []) → remaining r rest ≡ []
   pub reads : isReading (r .stage) ≡ true → r .ended ≡ false
   pub leaves : isLeft (r .stage) ≡ true → 1 ≤ length (r .left)
@@ -121,7 +121,7 @@ keeps-begun =
       counted = refl;
       ahead = λ rest h. refl;
       output = refl;
-      line = refl;
+      words = refl;
       ends = λ e. absurd (false≢true e);
       reads = λ e. refl;
       leaves = λ e. absurd (false≢true e);
@@ -136,37 +136,37 @@ taken-left x left all n e = append-assoc x (take n left) (drop n left) ∙ ap (�
 -- the same window, end and counts, with another thing left and another stage
 keeps-with : (r : Standing) (came wrote said : List ℕ) → Keeps r came wrote said → (left : List ℕ) (stage : Stage) (wrote' said' : List ℕ)
     → wrote' ++ reportLeft stage left ≡ wrote ++ reportLeft (r .stage) (r .left)
-    → said' ++ lineLeft stage left (endLine (r .tally)) ≡ said ++ lineLeft (r .stage) (r .left) (endLine (r .tally))
+    → said' ++ wordsLeft stage left (lastWords (r .tally)) ≡ said ++ wordsLeft (r .stage) (r .left) (lastWords (r .tally))
     → (isEnd stage ≡ true → isEnd (r .stage) ≡ true) → (isReading stage ≡ true → r .ended ≡ false) → (isLeft stage ≡ true → 1 ≤ length left)
     → Keeps (record { window = r .window; ended = r .ended; tally = r .tally; left = left; stage = stage }) came wrote' said'
 unfolding remaining
-keeps-with r came wrote said k left stage wrote' said' output line ends reads leaves =
+keeps-with r came wrote said k left stage wrote' said' output words ends reads leaves =
     record {
       verdicts = k .verdicts;
       counted = k .counted;
       ahead = k .ahead;
       output = output ∙ k .output;
-      line = line ∙ k .line;
+      words = words ∙ k .words;
       ends = λ e. k .ends (ends e);
       reads = reads;
       leaves = leaves;
     }
 
 -- a stage that failed has the same left as before, and asks nothing
-failed-same : (stage : Stage) (left line : List ℕ)
-    → (reportLeft (failed stage) left ≡ reportLeft stage left) × (lineLeft (failed stage) left line ≡ lineLeft stage left line) × (isEnd (failed stage) ≡ isEnd stage)
+failed-same : (stage : Stage) (left words : List ℕ)
+    → (reportLeft (failed stage) left ≡ reportLeft stage left) × (wordsLeft (failed stage) left words ≡ wordsLeft stage left words) × (isEnd (failed stage) ≡ isEnd stage)
     × (isReading (failed stage) ≡ false) × (isLeft (failed stage) ≡ isLeft stage)
-failed-same Judge left line = (refl, refl, refl, refl, refl)
-failed-same Close left line = (refl, refl, refl, refl, refl)
-failed-same Read left line = (refl, refl, refl, refl, refl)
-failed-same Write left line = (refl, refl, refl, refl, refl)
-failed-same Say left line = (refl, refl, refl, refl, refl)
-failed-same (Over ending) left line = (refl, refl, refl, refl, refl)
+failed-same Judge left words = (refl, refl, refl, refl, refl)
+failed-same Close left words = (refl, refl, refl, refl, refl)
+failed-same Read left words = (refl, refl, refl, refl, refl)
+failed-same Write left words = (refl, refl, refl, refl, refl)
+failed-same Say left words = (refl, refl, refl, refl, refl)
+failed-same (Over ending) left words = (refl, refl, refl, refl, refl)
 
 -- a call that failed
 keeps-failed : (r : Standing) (came wrote said : List ℕ) → Keeps r came wrote said → Keeps (next (failed (r .stage)) r) came wrote said
 keeps-failed r came wrote said k =
-    let f = failed-same (r .stage) (r .left) (endLine (r .tally)) in
+    let f = failed-same (r .stage) (r .left) (lastWords (r .tally)) in
     keeps-with r came wrote said k (r .left) (failed (r .stage)) wrote said (ap (λ (l : List ℕ). wrote ++ l) (f .0)) (ap (λ (l : List ℕ). said ++ l) (f .1)) (λ e. sym (f .2) ∙ e)
     (λ e. absurd (false≢true (sym (f .3) ∙ e))) (λ e. k .leaves (sym (f .4) ∙ e))
 
@@ -181,7 +181,7 @@ keeps-came r had wrote said bytes k stage =
           rw (append-assoc (r .window) bytes rest, append-assoc had bytes rest)
           (k .ahead (bytes ++ rest) (λ e. absurd (true≢false (sym e ∙ k .reads (ap isReading stage)))));
       output = ap (λ (s : Stage). wrote ++ reportLeft s (r .left)) (sym stage) ∙ k .output;
-      line = ap (λ (s : Stage). said ++ lineLeft s (r .left) (endLine (r .tally))) (sym stage) ∙ k .line;
+      words = ap (λ (s : Stage). said ++ wordsLeft s (r .left) (lastWords (r .tally))) (sym stage) ∙ k .words;
       ends = λ e. absurd (false≢true e);
       reads = λ e. absurd (false≢true e);
       leaves = λ e. absurd (false≢true e);
@@ -205,27 +205,27 @@ silent Write bytes e = absurd (true≢false e)
 silent Say bytes e = absurd (true≢false e)
 silent (Over ending) bytes e = (refl, refl)
 
--- what a write takes of a report, or of the line, is no more left of it
-taking : (stage : Stage) → isWriting stage ≡ true → (wrote said left line : List ℕ) (n : ℕ)
+-- what a write takes of a report, or of the last words, is no more left of it
+taking : (stage : Stage) → isWriting stage ≡ true → (wrote said left words : List ℕ) (n : ℕ)
     → ((wrote ++ outputAt stage (take n left)) ++ reportLeft stage (drop n left) ≡ wrote ++ reportLeft stage left)
-    × ((said ++ errorAt stage (take n left)) ++ lineLeft stage (drop n left) line ≡ said ++ lineLeft stage left line)
-taking Judge w wrote said left line n = absurd (false≢true w)
-taking Close w wrote said left line n = absurd (false≢true w)
-taking Read w wrote said left line n = absurd (false≢true w)
-taking Write w wrote said left line n = (taken-left wrote left (wrote ++ left) n refl, append-assoc said [] line)
-taking Say w wrote said left line n = (append-assoc wrote [] [], taken-left said left (said ++ left) n refl)
-taking (Over ending) w wrote said left line n = absurd (false≢true w)
+    × ((said ++ errorAt stage (take n left)) ++ wordsLeft stage (drop n left) words ≡ said ++ wordsLeft stage left words)
+taking Judge w wrote said left words n = absurd (false≢true w)
+taking Close w wrote said left words n = absurd (false≢true w)
+taking Read w wrote said left words n = absurd (false≢true w)
+taking Write w wrote said left words n = (taken-left wrote left (wrote ++ left) n refl, append-assoc said [] words)
+taking Say w wrote said left words n = (append-assoc wrote [] [], taken-left said left (said ++ left) n refl)
+taking (Over ending) w wrote said left words n = absurd (false≢true w)
 
 -- behind all of a text nothing is left of it, and nothing is asked
-behind-same : (stage : Stage) → isWriting stage ≡ true → (left line : List ℕ) → left ≡ []
-    → (reportLeft (behind stage) left ≡ reportLeft stage left) × (lineLeft (behind stage) left line ≡ lineLeft stage left line) × (isEnd (behind stage) ≡ isEnd stage)
+behind-same : (stage : Stage) → isWriting stage ≡ true → (left words : List ℕ) → left ≡ []
+    → (reportLeft (behind stage) left ≡ reportLeft stage left) × (wordsLeft (behind stage) left words ≡ wordsLeft stage left words) × (isEnd (behind stage) ≡ isEnd stage)
     × (isReading (behind stage) ≡ false) × (isLeft (behind stage) ≡ false)
-behind-same Judge w left line e = absurd (false≢true w)
-behind-same Close w left line e = absurd (false≢true w)
-behind-same Read w left line e = absurd (false≢true w)
-behind-same Write w left line e = (sym e, refl, refl, refl, refl)
-behind-same Say w left line e = (refl, sym e, refl, refl, refl)
-behind-same (Over ending) w left line e = absurd (false≢true w)
+behind-same Judge w left words e = absurd (false≢true w)
+behind-same Close w left words e = absurd (false≢true w)
+behind-same Read w left words e = absurd (false≢true w)
+behind-same Write w left words e = (sym e, refl, refl, refl, refl)
+behind-same Say w left words e = (refl, sym e, refl, refl, refl)
+behind-same (Over ending) w left words e = absurd (false≢true w)
 
 -- a list of no length is empty
 no-length : (l : List ℕ) → length l ≡ 0 → l ≡ []
@@ -245,8 +245,8 @@ keeps-took r had wrote said n k w = go (eqb n 0) refl (eqb (length (drop n (r .l
     said' = said ++ errorAt (r .stage) (take n (r .left))
 
     part : (wrote' ++ reportLeft (r .stage) (drop n (r .left)) ≡ wrote ++ reportLeft (r .stage) (r .left))
-        × (said' ++ lineLeft (r .stage) (drop n (r .left)) (endLine (r .tally)) ≡ said ++ lineLeft (r .stage) (r .left) (endLine (r .tally)))
-    part = taking (r .stage) w wrote said (r .left) (endLine (r .tally)) n
+        × (said' ++ wordsLeft (r .stage) (drop n (r .left)) (lastWords (r .tally)) ≡ said ++ wordsLeft (r .stage) (r .left) (lastWords (r .tally)))
+    part = taking (r .stage) w wrote said (r .left) (lastWords (r .tally)) n
 
     go : (t : Bool) → eqb n 0 ≡ t → (u : Bool) → eqb (length (drop n (r .left))) 0 ≡ u
         → Keeps
@@ -261,7 +261,7 @@ keeps-took r had wrote said n k w = go (eqb n 0) refl (eqb (length (drop n (r .l
         (sym (eqb-true n 0 t))
         (rw (none .0, none .1, append-nil wrote, append-nil said) (keeps-failed r had wrote said k))
     go false t true v =
-        let b = behind-same (r .stage) w (drop n (r .left)) (endLine (r .tally)) (no-length (drop n (r .left)) (eqb-true _ 0 v)) in
+        let b = behind-same (r .stage) w (drop n (r .left)) (lastWords (r .tally)) (no-length (drop n (r .left)) (eqb-true _ 0 v)) in
         keeps-with r had wrote said k (drop n (r .left)) (behind (r .stage)) wrote' said' (ap (λ (l : List ℕ). wrote' ++ l) (b .0) ∙ part .0)
         (ap (λ (l : List ℕ). said' ++ l) (b .1) ∙ part .1) (λ e. sym (b .2) ∙ e) (λ e. absurd (false≢true (sym (b .3) ∙ e)))
         (λ e. absurd (false≢true (sym (b .4) ∙ e)))
@@ -296,17 +296,17 @@ keeps-heard r had wrote said k (Took n) = go (isWriting (r .stage)) refl
 
 -- another stage that has nothing left, where the stage is judging
 keeps-next : (r : Standing) (had wrote said : List ℕ) → Keeps r had wrote said → r .stage ≡ Judge → (stage : Stage)
-    → reportLeft stage (r .left) ≡ [] → lineLeft stage (r .left) (endLine (r .tally)) ≡ endLine (r .tally)
+    → reportLeft stage (r .left) ≡ [] → wordsLeft stage (r .left) (lastWords (r .tally)) ≡ lastWords (r .tally)
     → (isEnd stage ≡ true → (rest : List ℕ) → (r .ended ≡ true → rest ≡ []) → remaining r rest ≡ []) → (isReading stage ≡ true → r .ended ≡ false) → isLeft stage ≡ false
     → Keeps (next stage r) had wrote said
 unfolding remaining
-keeps-next r had wrote said k judging stage none line ends reads leaves =
+keeps-next r had wrote said k judging stage none words ends reads leaves =
     record {
       verdicts = k .verdicts;
       counted = k .counted;
       ahead = k .ahead;
       output = ap (λ (l : List ℕ). wrote ++ l) none ∙ ap (λ (s : Stage). wrote ++ reportLeft s (r .left)) (sym judging) ∙ k .output;
-      line = ap (λ (l : List ℕ). said ++ l) line ∙ ap (λ (s : Stage). said ++ lineLeft s (r .left) (endLine (r .tally))) (sym judging) ∙ k .line;
+      words = ap (λ (l : List ℕ). said ++ l) words ∙ ap (λ (s : Stage). said ++ wordsLeft s (r .left) (lastWords (r .tally))) (sym judging) ∙ k .words;
       ends = ends;
       reads = reads;
       leaves = λ e. absurd (false≢true (sym leaves ∙ e));
@@ -341,7 +341,7 @@ first-verdict r rest h unread some final =
         ≡ cond (eqb (countedWith (r .tally) (verdictRead (readCall (r .window))) .unread) 0) (verdictsOf (drop (readCall (r .window) .taken) (r .window) ++ rest)) []
     go true d =
         let done = done-is (readCall (r .window) .answer) d in
-        let stays = unread-stays (r .tally) (verdictRead (readCall (r .window))) (λ line. judges .read (r .window) line done) in
+        let stays = unread-stays (r .tally) (verdictRead (readCall (r .window))) (λ line column. judges .read (r .window) line column done) in
         rw (
           eq-eqb (countedWith (r .tally) (verdictRead (readCall (r .window))) .unread) 0 (stays ∙ unread),
           drop-append-le (readCall (r .window) .taken) (r .window) rest (taken-inside (r .window) done .1),
@@ -365,7 +365,7 @@ keeps-report r had wrote said k judging unread some final =
       output =
           ap₂ (λ (l : List ℕ) (n : ℕ). l ++ reportText n verdict) written number
           ∙ sym (reports-append 1 (k .verdicts) (verdict ∷ []) ∙ ap (λ (l : List ℕ). reportsFrom 1 (k .verdicts) ++ l) (append-nil _));
-      line = rw unsaid;
+      words = rw unsaid;
       ends = λ e. absurd (false≢true e);
       reads = λ e. absurd (false≢true e);
       leaves = λ e. omega (arith, length-report (recordsOf (r .tally) + 1) verdict);
@@ -381,16 +381,12 @@ keeps-report r had wrote said k judging unread some final =
     written = sym (append-nil wrote) ∙ ap (λ (s : Stage). wrote ++ reportLeft s (r .left)) (sym judging) ∙ k .output
 
     unsaid : said ≡ []
-    unsaid = no-front said (endLine (r .tally)) (ap (λ (s : Stage). said ++ lineLeft s (r .left) (endLine (r .tally))) (sym judging) ∙ k .line)
+    unsaid = no-front said (lastWords (r .tally)) (ap (λ (s : Stage). said ++ wordsLeft s (r .left) (lastWords (r .tally))) (sym judging) ∙ k .words)
 
 -- a window that is not final is not all of the input
 not-final : (window : List ℕ) (ended : Bool) → isFinal window ended ≡ false → ended ≡ false
-not-final window false = λ e. refl
-not-final window true = go (isDone (readCall window .answer))
-  where
-    go : (t : Bool) → (t || true) ≡ false → true ≡ false
-    go true e = e
-    go false e = e
+not-final window false e = refl
+not-final window true e = e
 
 -- none of two ways to none
 both-none : (t : Bool) (verdicts : List Verdict) → verdicts ≡ [] → cond t verdicts [] ≡ []
@@ -403,7 +399,7 @@ unfolding looked remaining
 keeps-looked r had wrote said k judging =
     go (eqb (r .tally .unread) 0) (eqb (recordsOf (r .tally) + 1) largest) (eqb (length (r .window)) 0) (r .ended) (isFinal (r .window) (r .ended)) refl refl refl refl
   where
-    after : (stage : Stage) → reportLeft stage (r .left) ≡ [] → lineLeft stage (r .left) (endLine (r .tally)) ≡ endLine (r .tally)
+    after : (stage : Stage) → reportLeft stage (r .left) ≡ [] → wordsLeft stage (r .left) (lastWords (r .tally)) ≡ lastWords (r .tally)
         → (isEnd stage ≡ true → (rest : List ℕ) → (r .ended ≡ true → rest ≡ []) → remaining r rest ≡ []) → (isReading stage ≡ true → r .ended ≡ false) → isLeft stage ≡ false
         → Keeps (next stage r) had wrote said
     after = keeps-next r had wrote said k judging
@@ -434,11 +430,11 @@ keeps-closed : (r : Standing) (had wrote said : List ℕ) → Keeps r had wrote 
 keeps-closed r had wrote said k = go (isClosing (r .stage)) refl
   where
     go : (t : Bool) → isClosing (r .stage) ≡ t
-        → Keeps (cond t (record { window = r .window; ended = r .ended; tally = r .tally; left = endLine (r .tally); stage = Say }) r) had wrote said
+        → Keeps (cond t (record { window = r .window; ended = r .ended; tally = r .tally; left = lastWords (r .tally); stage = Say }) r) had wrote said
     go true e =
         let stage = closing-is (r .stage) e in
-        keeps-with r had wrote said k (endLine (r .tally)) Say wrote said (ap (λ (s : Stage). wrote ++ reportLeft s (r .left)) (sym stage))
-        (ap (λ (s : Stage). said ++ lineLeft s (r .left) (endLine (r .tally))) (sym stage)) (λ z. ap isEnd stage) (λ z. absurd (false≢true z)) (λ z. line-some (r .tally))
+        keeps-with r had wrote said k (lastWords (r .tally)) Say wrote said (ap (λ (s : Stage). wrote ++ reportLeft s (r .left)) (sym stage))
+        (ap (λ (s : Stage). said ++ wordsLeft s (r .left) (lastWords (r .tally))) (sym stage)) (λ z. ap isEnd stage) (λ z. absurd (false≢true z)) (λ z. words-some (r .tally))
     go false e = k
 
 -- ---- turns

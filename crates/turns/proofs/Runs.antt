@@ -1,28 +1,36 @@
 -- The program's run keeps its promises.
 use mathlib.Core.Path.{_≡_, refl, sym, ap, ap₂, _∙_}
 use mathlib.Core.Bool.{Bool, true, false, cond, _||_, false≢true, true≢false}
-use mathlib.Core.List.{List, [], _∷_, _++_, append-nil, append-assoc}
+use mathlib.Core.List.{List, [], _∷_, _++_, map, append-nil, append-assoc}
 use mathlib.Core.Logic.{_⊎_, inl, inr, ⊎-elim}
 use Prim.Native.Nat.{ℕ, zero, suc, _+_, _≤_, _<_}
 use native.Mathlib.Omega.{arith}
 use lib.Dec.{eqb}
-use lib.ListN.{length, take, drop, length-append}
-use borrow.Author.Tests.{eqb-true, eqb-false, ne-eqb}
+use lib.ListN.{length, take, drop, length-append, length-map}
+use borrow.Author.Tests.{eqb-true, eqb-false, eq-eqb, ne-eqb}
 use Rattle.digits.specs.Ascii.{ascii}
 use Rattle.digits.specs.Numbers.{places, numeral}
+use Rattle.record.specs.declared.form.Record.{Record}
+use Rattle.record.specs.Laws.{WrongAt}
 use Rattle.report.specs.declared.Verdict.{Verdict}
+use Rattle.report.specs.declared.Verdict.the-variants.{Unread}
 use Rattle.judge.specs.Steps.{isFinal, verdictsOf, reportsFrom, outputFrom}
+use Rattle.judge.specs.Laws.{AllInForm, textsOf}
+use Rattle.judge.specs.Verdicts.{verdictOn}
+use Rattle.judge.proofs.Laws.{judges}
 use Rattle.judge.proofs.Outputs.{reports-append}
 use Rattle.turns.specs.declared.Ending.{Ending}
 use Rattle.turns.specs.declared.Ending.the-variants.{Said, ReadFailed, WriteFailed, SayFailed, TooMany}
 use Rattle.turns.specs.declared.Stage.{Stage}
 use Rattle.turns.specs.declared.Stage.the-variants.{Judge, Close, Read, Write, Say, Over}
-use Rattle.turns.specs.Tallies.{none, countedAll, recordsOf, largest, numbered, endLine}
+use Rattle.turns.specs.declared.Tally.{Tally}
+use Rattle.turns.specs.Tallies.{none, countedWith, countedAll, recordsOf, largest, numbered, endLine, faultLine, lastWords}
 use Rattle.turns.specs.Run.{Standing, Reply, Came, Took, Again, Failed, begun, next, isJudging, isClosing, isReading, isWriting, asks, behind, failed, withReport, looked, judged, closed, came, took, heard, turned, ranFrom, joined, fromInput, outputAt, toOutput, errorAt, toError, ran, delivered, written, said, Choice, Moves, Interrupts, Breaks, replyTo, playedFrom, played, moves, breaks}
-use Rattle.turns.specs.Laws.{Of, lineOn, enough, WholeReports}
-use Rattle.turns.proofs.Tallies.{records-counted, line-some}
+use Rattle.turns.specs.Laws.{Of, wordsOn, enough, WholeReports}
+use Rattle.turns.proofs.Tallies.{counted-more, counted-behind, records-counted, words-some}
 use Rattle.turns.proofs.Turns.{ran-append}
-use Rattle.turns.proofs.Keeps.{remaining, reportLeft, lineLeft, isLeft, isEnd, Keeps, keeps-begun, keeps-heard, keeps-turned, keeps-ran}
+use Rattle.turns.proofs.Waits.{at-once}
+use Rattle.turns.proofs.Keeps.{remaining, reportLeft, wordsLeft, isLeft, isEnd, Keeps, keeps-begun, keeps-heard, keeps-turned, keeps-ran}
 
 -- ---- what is written and said
 
@@ -42,21 +50,21 @@ output-of r had wrote said k rest h =
     ∙ append-assoc wrote (reportLeft (r .stage) (r .left)) more
 
 -- at the end all verdicts are counted
-line-of : (r : Standing) (had wrote said : List ℕ) (k : Keeps r had wrote said) (rest : List ℕ) → (r .ended ≡ true → rest ≡ []) → isEnd (r .stage) ≡ true
-    → endLine (r .tally) ≡ lineOn (had ++ rest)
-unfolding lineOn
-line-of r had wrote said k rest h e =
-    ap endLine (k .counted)
-    ∙ ap (λ (vs : List Verdict). endLine (countedAll none vs))
+words-of : (r : Standing) (had wrote said : List ℕ) (k : Keeps r had wrote said) (rest : List ℕ) → (r .ended ≡ true → rest ≡ []) → isEnd (r .stage) ≡ true
+    → lastWords (r .tally) ≡ wordsOn (had ++ rest)
+unfolding wordsOn
+words-of r had wrote said k rest h e =
+    ap lastWords (k .counted)
+    ∙ ap (λ (vs : List Verdict). lastWords (countedAll none vs))
     (sym (append-nil (k .verdicts)) ∙ ap (λ (vs : List Verdict). k .verdicts ++ vs) (sym (k .ends e rest h)) ∙ k .ahead rest h)
 
 -- what is written is the beginning of the output
 pub begins : (replies : List Reply) (input : List ℕ) → Of replies input → (more : List ℕ) × (outputFrom 1 input ≡ written replies ++ more)
 begins replies input o = (_, ap (outputFrom 1) (o .begins) ∙ output-of (ran replies) _ _ _ (kept replies) (o .rest) (o .whole))
 
--- where the end is said, all is written, and the line has the counts
+-- where the end is said, all is written, and the last words are those on the input
 pub whole : (replies : List Reply) (input : List ℕ) → Of replies input → ran replies .stage ≡ Over Said
-    → (written replies ≡ outputFrom 1 input) × (said replies ≡ lineOn input)
+    → (written replies ≡ outputFrom 1 input) × (said replies ≡ wordsOn input)
 whole replies input o stage =
     let k = kept replies in (
       sym
@@ -66,32 +74,32 @@ whole replies input o stage =
           (k .ends (ap isEnd stage) (o .rest) (o .whole))
           ∙ append-nil (written replies)),
       sym (append-nil (said replies))
-          ∙ ap (λ (s : Stage). said replies ++ lineLeft s (ran replies .left) (endLine (ran replies .tally))) (sym stage)
-          ∙ k .line
-          ∙ line-of (ran replies) _ _ _ k (o .rest) (o .whole) (ap isEnd stage)
-          ∙ ap lineOn (sym (o .begins)),
+          ∙ ap (λ (s : Stage). said replies ++ wordsLeft s (ran replies .left) (lastWords (ran replies .tally))) (sym stage)
+          ∙ k .words
+          ∙ words-of (ran replies) _ _ _ k (o .rest) (o .whole) (ap isEnd stage)
+          ∙ ap wordsOn (sym (o .begins)),
     )
 
--- where it is not, the line lacks its last byte at the least
+-- where it is not, the last words lack their last byte at the least
 pub unsaid : (replies : List Reply) → (ran replies .stage ≡ Over Said → ⊥)
-    → (more : List ℕ) × (endLine (ran replies .tally) ≡ said replies ++ more) × (1 ≤ length more)
-unsaid replies h = (lineLeft (ran replies .stage) (ran replies .left) (endLine (ran replies .tally)), sym (k .line), some (ran replies .stage) refl)
+    → (more : List ℕ) × (lastWords (ran replies .tally) ≡ said replies ++ more) × (1 ≤ length more)
+unsaid replies h = (wordsLeft (ran replies .stage) (ran replies .left) (lastWords (ran replies .tally)), sym (k .words), some (ran replies .stage) refl)
   where
     k : Keeps (ran replies) (delivered replies) (written replies) (said replies)
     k = kept replies
 
-    ended-some : (ending : Ending) → ran replies .stage ≡ Over ending → 1 ≤ length (lineLeft (Over ending) (ran replies .left) (endLine (ran replies .tally)))
+    ended-some : (ending : Ending) → ran replies .stage ≡ Over ending → 1 ≤ length (wordsLeft (Over ending) (ran replies .left) (lastWords (ran replies .tally)))
     ended-some Said e = absurd (h e)
-    ended-some ReadFailed e = line-some (ran replies .tally)
-    ended-some WriteFailed e = line-some (ran replies .tally)
+    ended-some ReadFailed e = words-some (ran replies .tally)
+    ended-some WriteFailed e = words-some (ran replies .tally)
     ended-some SayFailed e = k .leaves (ap isLeft e)
-    ended-some TooMany e = line-some (ran replies .tally)
+    ended-some TooMany e = words-some (ran replies .tally)
 
-    some : (stage : Stage) → ran replies .stage ≡ stage → 1 ≤ length (lineLeft stage (ran replies .left) (endLine (ran replies .tally)))
-    some Judge e = line-some (ran replies .tally)
-    some Close e = line-some (ran replies .tally)
-    some Read e = line-some (ran replies .tally)
-    some Write e = line-some (ran replies .tally)
+    some : (stage : Stage) → ran replies .stage ≡ stage → 1 ≤ length (wordsLeft stage (ran replies .left) (lastWords (ran replies .tally)))
+    some Judge e = words-some (ran replies .tally)
+    some Close e = words-some (ran replies .tally)
+    some Read e = words-some (ran replies .tally)
+    some Write e = words-some (ran replies .tally)
     some Say e = k .leaves (ap isLeft e)
     some (Over ending) e = ended-some ending e
 
@@ -188,7 +196,7 @@ judged-ended r = go (isJudging (r .stage)) (eqb (r .tally .unread) 0) (eqb (reco
 closed-ended : (r : Standing) → closed r .ended ≡ r .ended
 closed-ended r = go (isClosing (r .stage))
   where
-    go : (t : Bool) → cond t (record { window = r .window; ended = r .ended; tally = r .tally; left = endLine (r .tally); stage = Say }) r .ended ≡ r .ended
+    go : (t : Bool) → cond t (record { window = r .window; ended = r .ended; tally = r .tally; left = lastWords (r .tally); stage = Say }) r .ended ≡ r .ended
     go true = refl
     go false = refl
 
@@ -368,7 +376,7 @@ closed-fine r good judging = go (isClosing (r .stage)) refl
     fine (Over ending) g j c = g
 
     go : (t : Bool) → isClosing (r .stage) ≡ t
-        → isFine (cond t (record { window = r .window; ended = r .ended; tally = r .tally; left = endLine (r .tally); stage = Say }) r .stage) ≡ true
+        → isFine (cond t (record { window = r .window; ended = r .ended; tally = r .tally; left = lastWords (r .tally); stage = Say }) r .stage) ≡ true
     go true c = refl
     go false c = fine (r .stage) good judging c
 
@@ -435,7 +443,7 @@ goes-on r had wrote said =
 -- a run that has come so far as is enough has said the end
 far-enough : (r : Standing) (had wrote said rest : List ℕ) → Keeps r had wrote said → isFine (r .stage) ≡ true → (r .ended ≡ true → rest ≡ [])
     → enough (had ++ rest) ≤ far (r .ended) had wrote said → r .stage ≡ Over Said
-unfolding enough lineOn
+unfolding enough wordsOn
 far-enough r had wrote said rest k fine h here = go (r .stage) refl
   where
     one : (t : Bool) → cond t 1 0 ≤ 1
@@ -445,23 +453,23 @@ far-enough r had wrote said rest k fine h here = go (r .stage) refl
     output : length (outputFrom 1 (had ++ rest)) ≡ length wrote + length (reportLeft (r .stage) (r .left) ++ reportsFrom (1 + length (k .verdicts)) (remaining r rest))
     output = ap length (output-of r had wrote said k rest h) ∙ length-append wrote _
 
-    line : length said + length (lineLeft (r .stage) (r .left) (endLine (r .tally))) ≡ length (endLine (r .tally))
-    line = sym (length-append said _) ∙ ap length (k .line)
+    words : length said + length (wordsLeft (r .stage) (r .left) (lastWords (r .tally))) ≡ length (lastWords (r .tally))
+    words = sym (length-append said _) ∙ ap length (k .words)
 
-    not-yet : length said < length (lineOn (had ++ rest)) → ⊥
+    not-yet : length said < length (wordsOn (had ++ rest)) → ⊥
     not-yet less = omega (arith, length-append had rest, one (r .ended), output)
 
-    unsaid-yet : length (lineLeft (r .stage) (r .left) (endLine (r .tally))) ≡ length (endLine (r .tally)) → ⊥
-    unsaid-yet e = not-yet (omega (arith, line, line-some (countedAll none (verdictsOf (had ++ rest)))))
+    unsaid-yet : length (wordsLeft (r .stage) (r .left) (lastWords (r .tally))) ≡ length (lastWords (r .tally)) → ⊥
+    unsaid-yet e = not-yet (omega (arith, words, words-some (countedAll none (verdictsOf (had ++ rest)))))
 
     go : (s : Stage) → r .stage ≡ s → s ≡ Over Said
     go Judge e = absurd (false≢true (sym (ap isFine e) ∙ fine))
     go Close e = absurd (false≢true (sym (ap isFine e) ∙ fine))
-    go Read e = absurd (unsaid-yet (ap (λ (s : Stage). length (lineLeft s (r .left) (endLine (r .tally)))) e))
-    go Write e = absurd (unsaid-yet (ap (λ (s : Stage). length (lineLeft s (r .left) (endLine (r .tally)))) e))
+    go Read e = absurd (unsaid-yet (ap (λ (s : Stage). length (wordsLeft s (r .left) (lastWords (r .tally)))) e))
+    go Write e = absurd (unsaid-yet (ap (λ (s : Stage). length (wordsLeft s (r .left) (lastWords (r .tally)))) e))
     go Say e =
-        let left = ap (λ (s : Stage). length (lineLeft s (r .left) (endLine (r .tally)))) e in
-        absurd (not-yet (omega (arith, line, k .leaves (ap isLeft e), ap length (line-of r had wrote said k rest h (ap isEnd e)))))
+        let left = ap (λ (s : Stage). length (wordsLeft s (r .left) (lastWords (r .tally)))) e in
+        absurd (not-yet (omega (arith, words, k .leaves (ap isLeft e), ap length (words-of r had wrote said k rest h (ap isEnd e)))))
     go (Over Said) e = refl
     go (Over ReadFailed) e = absurd (false≢true (sym (ap isFine e) ∙ fine))
     go (Over WriteFailed) e = absurd (false≢true (sym (ap isFine e) ∙ fine))
@@ -526,12 +534,41 @@ pub ends : (input : List ℕ) (choices : List Choice) → length (verdictsOf inp
     → ran (played input choices) .stage ≡ Over Said
 ends input choices few unbroken h = ends-from choices begun [] [] [] input keeps-begun refl (λ e. absurd (false≢true e)) few unbroken (omega arith)
 
--- the line that ends a run, spelled out
-line-spelled : (endLine (record { equal = 5_990; differ = 9; unread = 1 }) ≡ ascii "bench: 6000 records: 5990 equal, 9 differ, 1 unread\n")
+-- the line that ends a run and the last words, spelled out
+spelled : (endLine (record { equal = 5_990; differ = 9; unread = 1; line = 4; column = 17 }) ≡ ascii "bench: 6000 records: 5990 equal, 9 differ, 1 unread\n")
     × (endLine none ≡ ascii "bench: 0 records: 0 equal, 0 differ, 0 unread\n")
-unfolding endLine numbered numeral places
-line-spelled = (refl, refl)
+    × (lastWords (record { equal = 1; differ = 1; unread = 1; line = 4; column = 17 })
+    ≡ ascii "bench: record 3: line 4, column 17\nbench: 3 records: 1 equal, 1 differ, 1 unread\n")
+unfolding lastWords faultLine endLine numbered numeral places
+spelled = (refl, refl, refl)
+
+-- without an unread record the line is said alone
+no-fault : (t : Tally) → t .unread ≡ 0 → lastWords t ≡ endLine t
+unfolding lastWords
+no-fault t none = rw (eq-eqb (t .unread) 0 none)
+
+-- where the last verdict is unread, its number, line and column are said first
+located : (input : List ℕ) (before : List Verdict) (line column : ℕ) → verdictsOf input ≡ before ++ Unread line column ∷ []
+    → wordsOn input ≡ faultLine (length before + 1) line column ++ endLine (countedAll none (verdictsOf input))
+unfolding wordsOn lastWords
+located input before line column e =
+    let t = countedAll none before in
+    let counted : countedAll none (verdictsOf input) ≡ countedWith t (Unread line column) = ap (countedAll none) e ∙ counted-behind none before (Unread line column) in
+    let number : recordsOf (countedWith t (Unread line column)) ≡ length before + 1 =
+    omega (arith, counted-more t (Unread line column), records-counted none before) in
+    rw counted
+    (ap (λ (b : Bool). cond b [] (faultLine (recordsOf (countedWith t (Unread line column))) line column) ++ endLine (countedWith t (Unread line column))) (ne-eqb (t .unread + 1) 0 (omega arith))
+    ∙ ap (λ (n : ℕ). faultLine n line column ++ endLine (countedWith t (Unread line column))) number)
+
+-- behind records in form, the place of a wrong text is said first
+place : (records : List Record) (text : List ℕ) (line column : ℕ) → AllInForm records → 1 ≤ length text → WrongAt text line column
+    → let input = textsOf records ++ text in
+    wordsOn input ≡ faultLine (length records + 1) line column ++ endLine (countedAll none (verdictsOf input))
+place records text line column sound some w =
+    let verdicts = judges .in-a-row records text sound ∙ ap (λ (vs : List Verdict). map verdictOn records ++ vs) (judges .wrong-at text line column some w) in
+    located (textsOf records ++ text) (map verdictOn records) line column verdicts
+    ∙ ap (λ (n : ℕ). faultLine (n + 1) line column ++ endLine (countedAll none (verdictsOf (textsOf records ++ text)))) (length-map records verdictOn)
 
 -- the run keeps its promises
 pub whole-reports : WholeReports
-whole-reports = record { line = line-spelled .0; no-line = line-spelled .1; counts = refl; begins = begins; whole = whole; unsaid = unsaid; fails = fails; no-byte = no-byte; answers = answers; ends = ends }
+whole-reports = record { line = spelled .0; no-line = spelled .1; counts = refl; fault = spelled .2; no-fault = no-fault; place = place; at-once = at-once; begins = begins; whole = whole; unsaid = unsaid; fails = fails; no-byte = no-byte; answers = answers; ends = ends }

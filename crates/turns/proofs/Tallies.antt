@@ -3,11 +3,11 @@ use mathlib.Core.Path.{_≡_, refl}
 use mathlib.Core.List.{List, [], _∷_, _++_}
 use Prim.Native.Nat.{ℕ, _+_, _≤_}
 use native.Mathlib.Omega.{arith}
-use lib.ListN.{length}
+use lib.ListN.{length, length-append}
 use Rattle.report.specs.declared.Verdict.{Verdict}
 use Rattle.report.specs.declared.Verdict.the-variants.{Equal, Rounds, Cipher, Tag, Unread}
 use Rattle.turns.specs.declared.Tally.{Tally}
-use Rattle.turns.specs.Tallies.{countedWith, countedAll, recordsOf, numbered, endLine}
+use Rattle.turns.specs.Tallies.{countedWith, countedAll, recordsOf, numbered, endLine, lastWords}
 
 -- one verdict more is one record more
 pub counted-more : (t : Tally) (verdict : Verdict) → recordsOf (countedWith t verdict) ≡ recordsOf t + 1
@@ -15,15 +15,15 @@ counted-more t Equal = omega arith
 counted-more t Rounds = omega arith
 counted-more t Cipher = omega arith
 counted-more t Tag = omega arith
-counted-more t (Unread line) = omega arith
+counted-more t (Unread line column) = omega arith
 
 -- a verdict that is not unread leaves the unread ones as many as they are
-pub unread-stays : (t : Tally) (verdict : Verdict) → ((line : ℕ) → verdict ≡ Unread line → ⊥) → countedWith t verdict .unread ≡ t .unread
+pub unread-stays : (t : Tally) (verdict : Verdict) → ((line column : ℕ) → verdict ≡ Unread line column → ⊥) → countedWith t verdict .unread ≡ t .unread
 unread-stays t Equal h = refl
 unread-stays t Rounds h = refl
 unread-stays t Cipher h = refl
 unread-stays t Tag h = refl
-unread-stays t (Unread line) h = absurd (h line refl)
+unread-stays t (Unread line column) h = absurd (h line column refl)
 
 -- verdicts, and one behind them
 pub counted-behind : (t : Tally) (verdicts : List Verdict) (verdict : Verdict) → countedAll t (verdicts ++ verdict ∷ []) ≡ countedWith (countedAll t verdicts) verdict
@@ -38,7 +38,7 @@ records-counted t (v ∷ verdicts) =
     let rest = records-counted (countedWith t v) verdicts in
     omega arith
 
--- the line that ends a run has a byte at the least
-pub line-some : (t : Tally) → 1 ≤ length (endLine t)
-unfolding endLine numbered
-line-some t = omega arith
+-- the last words have a byte at the least
+pub words-some : (t : Tally) → 1 ≤ length (lastWords t)
+unfolding lastWords endLine numbered
+words-some t = simp length-append (omega arith)

@@ -11,7 +11,7 @@ use Rattle.turns.specs.declared.Ending.the-variants.{Said, ReadFailed, W
 use Rattle.turns.specs.declared.Stage.{Stage}
 use Rattle.turns.specs.declared.Stage.the-variants.{Judge, Close, Read, Write, Say, Over}
 use Rattle.turns.specs.declared.Tally.{Tally}
-use Rattle.turns.specs.Tallies.{none, countedWith, recordsOf, largest, endLine}
+use Rattle.turns.specs.Tallies.{none, countedWith, recordsOf, largest, lastWords}
 
 -- ---- where the program stands
 
@@ -42,7 +42,7 @@ isJudging Write = false
 isJudging Say = false
 isJudging (Over ending) = false
 
--- the line that ends the run is to be put next
+-- the last words are to be put next
 abbrev pub isClosing : Stage → Bool
 isClosing Judge = false
 isClosing Close = true
@@ -110,9 +110,9 @@ looked r =
 abbrev pub judged : Standing → Standing
 judged r = cond (isJudging (r .stage)) (looked r) r
 
--- the line that ends the run is to be said, where that is next
+-- the last words are to be said, where that is next
 abbrev pub closed : Standing → Standing
-closed r = cond (isClosing (r .stage)) (record { window = r .window; ended = r .ended; tally = r .tally; left = endLine (r .tally); stage = Say }) r
+closed r = cond (isClosing (r .stage)) (record { window = r .window; ended = r .ended; tally = r .tally; left = lastWords (r .tally); stage = Say }) r
 
 -- ---- one answer
 
@@ -206,7 +206,7 @@ outputAt (Over ending) bytes = []
 abbrev pub toOutput : Standing → Reply → List ℕ
 toOutput r reply = outputAt (r .stage) (taken r reply)
 
--- those that go to standard error, in the stage that says the line which ends the run
+-- those that go to standard error, in the stage that says the last words
 abbrev pub errorAt : Stage → List ℕ → List ℕ
 errorAt Judge bytes = []
 errorAt Close bytes = []

@@ -1,6 +1,8 @@
--- How many records were judged, and how.
+-- How many records were judged, and how, and what a run says of it at its end.
+use mathlib.Core.Bool.{cond}
 use mathlib.Core.List.{List, [], _∷_, _++_}
 use Prim.Native.Nat.{ℕ, _+_}
+use lib.Dec.{eqb}
 use Rattle.digits.specs.Ascii.{ascii}
 use Rattle.digits.specs.Numbers.{numeral}
 use Rattle.report.specs.declared.Verdict.{Verdict}
@@ -9,15 +11,15 @@ use Rattle.turns.specs.declared.Tally.{Tally}
 
 -- no record yet
 abbrev pub none : Tally
-none = record { equal = 0; differ = 0; unread = 0 }
+none = record { equal = 0; differ = 0; unread = 0; line = 0; column = 0 }
 
 -- one verdict more
 abbrev pub countedWith : Tally → Verdict → Tally
-countedWith t Equal = record { equal = t .equal + 1; differ = t .differ; unread = t .unread }
-countedWith t Rounds = record { equal = t .equal; differ = t .differ + 1; unread = t .unread }
-countedWith t Cipher = record { equal = t .equal; differ = t .differ + 1; unread = t .unread }
-countedWith t Tag = record { equal = t .equal; differ = t .differ + 1; unread = t .unread }
-countedWith t (Unread line) = record { equal = t .equal; differ = t .differ; unread = t .unread + 1 }
+countedWith t Equal = record { equal = t .equal + 1; differ = t .differ; unread = t .unread; line = t .line; column = t .column }
+countedWith t Rounds = record { equal = t .equal; differ = t .differ + 1; unread = t .unread; line = t .line; column = t .column }
+countedWith t Cipher = record { equal = t .equal; differ = t .differ + 1; unread = t .unread; line = t .line; column = t .column }
+countedWith t Tag = record { equal = t .equal; differ = t .differ + 1; unread = t .unread; line = t .line; column = t .column }
+countedWith t (Unread line column) = record { equal = t .equal; differ = t .differ; unread = t .unread + 1; line = line; column = column }
 
 -- verdicts one after another
 abbrev pub countedAll : Tally → List Verdict → Tally
@@ -42,3 +44,12 @@ endLine t =
     numbered (ascii "bench: ") (recordsOf t)
     ++ (numbered (ascii " records: ") (t .equal)
     ++ (numbered (ascii " equal, ") (t .differ) ++ (numbered (ascii " differ, ") (t .unread) ++ ascii " unread\n")))
+
+-- where a record broke: its number, line and column
+unfoldable pub faultLine : ℕ → ℕ → ℕ → List ℕ
+faultLine number line column =
+    numbered (ascii "bench: record ") number ++ (numbered (ascii ": line ") line ++ (numbered (ascii ", column ") column ++ ascii "\n"))
+
+-- what a run says at its end: where the unread record broke, if there is one, which is the last; and the line that ends the run
+unfoldable pub lastWords : Tally → List ℕ
+lastWords t = cond (eqb (t .unread) 0) [] (faultLine (recordsOf t) (t .line) (t .column)) ++ endLine t

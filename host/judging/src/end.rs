@@ -1,10 +1,33 @@
-//! The line with which a whole report ends, and what the command says when it is missing.
+//! What is left when a report is whole, and what the command says of one that isn't.
 
 use crate::program::Tried;
+use second::judge::{fault_line, judge_all};
 use std::process::ExitStatus;
 
 /// What the command says of a report that broke off.
 pub const NOT_WHOLE: &str = "bench: the report is not whole";
+
+/// What a whole run leaves, by the second program.
+pub struct Whole {
+    pub report: Vec<u8>,
+    /// What is said on standard error: the place of an unread record, and the counts.
+    pub words: String,
+    /// The command's status.
+    pub status: i32,
+}
+
+impl Whole {
+    /// Gives what a run on this input leaves.
+    pub fn on(input: &[u8]) -> Whole {
+        let report = judge_all(input);
+        let counts = Counts::of(&report);
+        Whole {
+            report,
+            words: fault_line(input) + &counts.line(),
+            status: counts.status(),
+        }
+    }
+}
 
 /// How many records of a report have each verdict.
 pub struct Counts {
@@ -39,15 +62,15 @@ impl Counts {
     }
 
     /// Gives the command's status.
-    pub fn status(&self) -> i32 {
+    fn status(&self) -> i32 {
         i32::from(self.differ + self.unread > 0)
     }
 }
 
-/// Panics unless a run has this end, on standard error and in its status, by which its report is whole.
-pub fn ends_whole(tried: Tried, status: ExitStatus, said: &str, report: &[u8]) {
-    let counts = Counts::of(report);
-    assert_eq!(said, counts.line(), "{tried:?}, on standard error");
-    let wanted = tried.status(counts.status());
+/// Panics unless a run on this input has the end, on standard error and in its status, by which its report is whole.
+pub fn ends_whole(tried: Tried, status: ExitStatus, said: &str, input: &[u8]) {
+    let whole = Whole::on(input);
+    assert_eq!(said, whole.words, "{tried:?}, on standard error");
+    let wanted = tried.status(whole.status);
     assert_eq!(status.code(), Some(wanted), "{tried:?}");
 }

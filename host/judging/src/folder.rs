@@ -1,7 +1,7 @@
 //! The folder of inputs: a folder for each class, a file for each input.
 
 use crate::classes::CLASSES;
-use second::judge::judge_all;
+use second::judge::{fault_line, judge_all};
 use std::fs::{self, File};
 use std::io::Write;
 use std::path::{Path, PathBuf};
@@ -24,9 +24,12 @@ pub fn write(folder: &Path) {
         let room = folder.join(file_name(class.name));
         fs::create_dir_all(&room).expect("a folder for the class");
         for input in inputs {
-            let told = judge_all(&input.bytes);
             if let Some(output) = input.output {
+                let told = judge_all(&input.bytes);
                 assert_eq!(String::from_utf8_lossy(&told), output, "{}", input.name);
+            }
+            if let Some(fault) = input.fault {
+                assert_eq!(fault_line(&input.bytes), fault, "{}", input.name);
             }
             let file = File::create_new(room.join(file_name(&input.name)));
             file.and_then(|mut file| file.write_all(&input.bytes))

@@ -1,20 +1,25 @@
-//! One input of the program, and the output that it was made for.
+//! One input of the program, and what it was made for: its output and the place where a record breaks.
 
 /// What is said of one record, written down when an input is made.
 #[derive(Clone, Copy)]
 pub enum Said {
     Equal,
     Differs(&'static str),
+    /// It breaks in this line, at a column that only the second program tells.
     Unread(usize),
+    /// It breaks in this line, at this column.
+    UnreadAt(usize, usize),
 }
 
 use Said::*;
 
-/// An input: its name, its bytes and, where no program has to be asked, its whole output.
+/// An input: its name, its bytes and, where no program has to be asked, its whole output and the line that tells where a record
+/// breaks, which is empty where none does.
 pub struct Input {
     pub name: String,
     pub bytes: Vec<u8>,
     pub output: Option<String>,
+    pub fault: Option<String>,
 }
 
 impl Input {
@@ -25,6 +30,7 @@ impl Input {
             name: name.into(),
             bytes: bytes.into(),
             output: Some(reports.collect()),
+            fault: fault(said),
         }
     }
 
@@ -47,12 +53,23 @@ impl Input {
         Input::of(name, bytes, &[Unread(line)])
     }
 
+    /// Gives an input whose first record is broken in this line, at this column.
+    pub fn unread_at(
+        name: impl Into<String>,
+        bytes: impl Into<Vec<u8>>,
+        line: usize,
+        column: usize,
+    ) -> Input {
+        Input::of(name, bytes, &[UnreadAt(line, column)])
+    }
+
     /// Gives an input whose output only the second program tells.
     pub fn told(name: impl Into<String>, bytes: impl Into<Vec<u8>>) -> Input {
         Input {
             name: name.into(),
             bytes: bytes.into(),
             output: None,
+            fault: None,
         }
     }
 }
@@ -62,7 +79,19 @@ fn report(number: usize, said: Said) -> String {
     let rest = match said {
         Equal => "equal\nfield=none".to_string(),
         Differs(field) => format!("differs\nfield={field}"),
-        Unread(line) => format!("unread\nfield={line}"),
+        Unread(line) | UnreadAt(line, _) => format!("unread\nfield={line}"),
     };
     format!("record={number}\nverdict={rest}\n")
+}
+
+/// Gives the line that tells where the last record breaks, unless its column is not known; it is empty where no record breaks.
+fn fault(said: &[Said]) -> Option<String> {
+    let number = said.len();
+    match said.last() {
+        Some(Unread(_)) => None,
+        Some(UnreadAt(line, column)) => Some(format!(
+            "bench: record {number}: line {line}, column {column}\n"
+        )),
+        Some(Equal | Differs(_)) | None => Some(String::new()),
+    }
 }

@@ -56,11 +56,17 @@ impl Lines {
         self.with_line(line, [LABELS[line - 1], value.as_ref(), b"\n"].concat())
     }
 
+    /// Gives the lines with this character at one place of a value.
+    pub fn with_character(&self, line: usize, place: usize, character: u8) -> Lines {
+        let mut value = self.value(line).to_vec();
+        value[place] = character;
+        self.with_value(line, value)
+    }
+
     /// Gives the lines with another digit at one place of a value.
     pub fn with_other_digit(&self, line: usize, place: usize) -> Lines {
-        let mut value = self.value(line).to_vec();
-        value[place] = if value[place] == b'0' { b'1' } else { b'0' };
-        self.with_value(line, value)
+        let digit = self.value(line)[place];
+        self.with_character(line, place, if digit == b'0' { b'1' } else { b'0' })
     }
 
     /// Gives the lines with two of them in each other's place.
@@ -74,6 +80,11 @@ impl Lines {
     pub fn bytes(&self) -> Vec<u8> {
         self.0.concat()
     }
+}
+
+/// Gives the column, counted from 1, at which a place of a line's value stands.
+pub fn column(line: usize, place: usize) -> usize {
+    LABELS[line - 1].len() + place + 1
 }
 
 impl From<Lines> for Vec<u8> {

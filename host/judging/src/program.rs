@@ -1,6 +1,7 @@
 //! What is tried, the program or the command that runs it: how it is found, started and waited for.
 
 use crate::layout::lay_out;
+use std::ffi::{OsStr, OsString};
 use std::io::Read;
 use std::path::{Path, PathBuf};
 use std::process::{Child, Command, ExitStatus, Output, Stdio};
@@ -39,7 +40,26 @@ fn words_in(folder: &Path) -> Vec<PathBuf> {
 
 /// Gives the command that starts the program of another checkout.
 pub fn program_of(folder: &Path) -> Command {
-    started_by(&words_in(folder))
+    program_by(&words_in(folder))
+}
+
+/// Gives the command that starts a program by these words, and says where the kit is: to ask for it takes as long as a small input.
+fn program_by(words: &[PathBuf]) -> Command {
+    let mut command = started_by(words);
+    command.env("RATTLE_HOME", kit());
+    command
+}
+
+/// Gives the folder of the kit that runs programs.
+pub fn kit() -> &'static OsStr {
+    static KIT: OnceLock<OsString> = OnceLock::new();
+    let asked = || {
+        let output = Command::new("rt").arg("doc").output().expect("the kit");
+        let guide = String::from_utf8(output.stdout).expect("a path");
+        let docs = Path::new(guide.trim()).parent().expect("a folder");
+        docs.parent().expect("a folder").into()
+    };
+    KIT.get_or_init(|| std::env::var_os("RATTLE_HOME").unwrap_or_else(asked))
 }
 
 /// Gives the command of these words.
@@ -91,7 +111,10 @@ impl Tried {
 
     /// Gives the command that starts it.
     pub fn start(self) -> Command {
-        started_by(&self.words())
+        match self {
+            Tried::Program => program_by(&self.words()),
+            Tried::Command => started_by(&self.words()),
+        }
     }
 
     /// Gives the command that has a shell run the script, in which `"$@"` are the words that start it.

@@ -4,6 +4,7 @@ use crate::end::ends_whole;
 use crate::program::{ended, Tried, LIMIT};
 use std::fs::{read_dir, read_to_string};
 use std::io::{Read, Write};
+use std::mem::take;
 use std::process::{Child, Command, ExitStatus, Stdio};
 use std::sync::mpsc::{channel, Receiver};
 use std::thread::spawn;
@@ -14,6 +15,7 @@ pub struct Session {
     tried: Tried,
     child: Child,
     input: Option<Box<dyn Write>>,
+    fed: Vec<u8>,
     output: Receiver<Vec<u8>>,
     printed: Vec<u8>,
     errors: Receiver<Vec<u8>>,
@@ -40,6 +42,7 @@ impl Session {
         Session {
             tried,
             input: None,
+            fed: Vec::new(),
             output: pieces(child.stdout.take()),
             printed: Vec::new(),
             errors: pieces(child.stderr.take()),
@@ -51,6 +54,7 @@ impl Session {
     pub fn feed(&mut self, bytes: &[u8]) {
         let input = self.input.as_mut().expect("the input is still open");
         input.write_all(bytes).expect("the input is taken");
+        self.fed.extend(bytes);
     }
 
     /// Waits until as many bytes are printed, or the limit is past, and gives how many are.
@@ -113,11 +117,19 @@ impl Session {
         send(name, &self.child.id().to_string());
     }
 
-    /// Closes the input, panics unless the report then ends as a whole one does, and gives all of it.
-    pub fn close(self) -> String {
-        let tried = self.tried;
+    /// Closes the input, panics unless the report then ends as a whole one on all that was fed does, and gives all of it.
+    pub fn close(mut self) -> String {
+        let (tried, fed) = (self.tried, take(&mut self.fed));
         let (status, printed, said) = self.end();
-        ends_whole(tried, status, &said, printed.as_bytes());
+        ends_whole(tried, status, &said, &fed);
+        printed
+    }
+
+    /// Does what closing does, but leaves the input open until the end has come by itself.
+    pub fn ended_by_itself(mut self) -> String {
+        let open = self.input.take();
+        let printed = self.close();
+        drop(open);
         printed
     }
 

@@ -1,7 +1,7 @@
 //! The words of the command for people, `./bench`, and its status.
 
-use judging::end::Counts;
-use judging::layout::place;
+use judging::end::Whole;
+use judging::layout::{file_of, place};
 use judging::program::{root, run, Tried};
 use second::judge::judge_all;
 use std::fs::{self, File};
@@ -41,7 +41,7 @@ fn sample() -> Vec<u8> {
 /// Says that the sample is judged as it was made, however the command is given it.
 #[test]
 fn the_sample() {
-    let wanted = judge_all(&sample());
+    let wanted = Whole::on(&sample());
     let opened = || Stdio::from(File::open(root().join("samples/records.txt")).expect("it opens"));
     let mut ran = 0;
     for (command, input) in [
@@ -55,13 +55,13 @@ fn the_sample() {
         (bench("", &[]), opened()),
     ] {
         let output = ends(command, input, 1);
-        assert!(output.stdout == wanted);
-        assert_eq!(output.stderr, Counts::of(&wanted).line().as_bytes());
+        assert!(output.stdout == wanted.report);
+        assert_eq!(output.stderr, wanted.words.as_bytes());
         ran += 1;
     }
     assert_eq!(ran, 8);
 
-    let reports = String::from_utf8(wanted).expect("plain text");
+    let reports = String::from_utf8(wanted.report).expect("plain text");
     let lines: Vec<&str> = reports.lines().collect();
     assert_eq!(lines.len(), 3 * SAMPLE.len());
     for (number, (report, said)) in (1..).zip(lines.chunks(3).zip(SAMPLE)) {
@@ -85,6 +85,35 @@ fn the_cut_off_sample() {
     command.arg(&path);
     let output = ends(command, Stdio::null(), 0);
     assert_eq!(output.stdout, b"record=1\nverdict=equal\nfield=none\n");
+}
+
+/// Says that the sample with a letter for a digit is unread there, by line and column, in a file and on standard input, and is equal without it.
+#[test]
+fn the_broken_sample() {
+    let report = "record=1\nverdict=equal\nfield=none\nrecord=2\nverdict=equal\nfield=none\nrecord=3\nverdict=unread\nfield=4\n";
+    let words =
+        "bench: record 3: line 4, column 17\nbench: 3 records: 2 equal, 0 differ, 1 unread\n";
+    let path = root().join("samples/broken.txt");
+    let opened = || Stdio::from(File::open(&path).expect("it opens"));
+    let mut ran = 0;
+    for (command, input) in [
+        (bench("", &["samples/broken.txt"]), Stdio::null()),
+        (bench("", &["judge", "samples/broken.txt"]), Stdio::null()),
+        (bench("", &["-"]), opened()),
+        (bench("", &[]), opened()),
+    ] {
+        let output = ends(command, input, 1);
+        assert_eq!(String::from_utf8_lossy(&output.stdout), report);
+        assert_eq!(String::from_utf8_lossy(&output.stderr), words);
+        ran += 1;
+    }
+    assert_eq!(ran, 4);
+
+    let broken = fs::read_to_string(&path).expect("it can be read");
+    let whole = file_of("unbroken", broken.replace('l', "1").as_bytes());
+    let output = ends(bench("", &[]), whole.into(), 0);
+    let words = b"bench: 3 records: 3 equal, 0 differ, 0 unread\n";
+    assert_eq!(output.stderr, words);
 }
 
 /// Says which status each kind of report has, and that what stands behind `&&` is done for no other than 0.
@@ -172,7 +201,9 @@ fn what_cannot_be_done() {
 fn help() {
     for words in [&["-h"][..], &["--help"], &["judge", "-h"]] {
         let output = ends(bench("", words), Stdio::null(), 0);
-        assert!(output.stdout.starts_with(b"usage: bench [judge] [FILE]\n"));
+        let usage = String::from_utf8_lossy(&output.stdout);
+        assert!(usage.starts_with("usage: bench [judge] [FILE]\n"));
+        assert!(usage.contains("bench: record 3: line 4, column 17"));
         let full = File::options().write(true).open("/dev/full");
         let full = full.expect("the device opens");
         let output = run(bench("", words), Stdio::null(), full).expect("it ends");

@@ -1,7 +1,7 @@
 //! How the program and the command end: with the end's line behind every report, and never with it when they were broken off.
 
 use judging::classes::many;
-use judging::end::{ends_whole, Counts, NOT_WHOLE};
+use judging::end::{ends_whole, Whole, NOT_WHOLE};
 use judging::layout::file_of;
 use judging::lines::Lines;
 use judging::program::{run_on, Tried};
@@ -29,7 +29,7 @@ fn record() -> Vec<u8> {
     Lines::right(&SETS[0], 9, 20).bytes()
 }
 
-/// Says that on one pipe for both streams the end's line comes behind every report.
+/// Says that on one pipe for both streams the place of an unread record and the end's line come behind every report.
 #[test]
 fn the_line_comes_last() {
     let mut ran = 0;
@@ -50,13 +50,13 @@ fn the_line_comes_last() {
             let input = file_of(&format!("last-{name}"), &records);
             let output = run_on(tried.start(), input, writer, both).expect("it ends");
             let found = all.join().expect("it ends").expect("it can be read");
-            let counts = Counts::of(&judge_all(&records));
-            let wanted = [judge_all(&records), counts.line().into_bytes()].concat();
+            let whole = Whole::on(&records);
+            let wanted = [whole.report, whole.words.into_bytes()].concat();
             assert_eq!(
                 String::from_utf8_lossy(&found),
                 String::from_utf8_lossy(&wanted)
             );
-            assert_eq!(output.status.code(), Some(tried.status(counts.status())));
+            assert_eq!(output.status.code(), Some(tried.status(whole.status)));
             ran += 1;
         }
     }
@@ -132,7 +132,9 @@ fn stopped_while_it_reads() {
         let wanted = String::from_utf8(judge_all(&bytes)).expect("plain text");
         assert_eq!(session.printed(wanted.len()), wanted);
         drop(ours);
-        assert_eq!(session.close(), wanted);
+        let (status, printed, said) = session.end();
+        ends_whole(tried, status, &said, &bytes);
+        assert_eq!(printed, wanted);
     }
 }
 
@@ -158,6 +160,6 @@ fn stopped_while_it_writes() {
         }
         assert!(found == wanted, "{tried:?}");
         let (status, _, said) = session.end();
-        ends_whole(tried, status, &said, &wanted);
+        ends_whole(tried, status, &said, &records);
     }
 }

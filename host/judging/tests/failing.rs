@@ -1,7 +1,7 @@
 //! The program and the command with streams that fail: they say so, report no more, end by themselves, and never say the end's line.
 
 use judging::classes::many;
-use judging::end::{Counts, NOT_WHOLE};
+use judging::end::{Whole, NOT_WHOLE};
 use judging::layout::{file_of, place};
 use judging::lines::Lines;
 use judging::program::{run, run_on, Tried};
@@ -237,19 +237,18 @@ fn a_file_that_may_not_grow() {
             ("limited-last", equal(15), false),
             ("unlimited", equal(14), true),
         ] {
-            let (path, wanted) = (place(name), judge_all(&records));
+            let (path, wanted) = (place(name), Whole::on(&records));
             let output = File::create(&path).expect("a file for the test");
             let limited = tried.in_shell(&format!("ulimit -f 1; {UNDISTURBED}"));
             let input = file_of("limited-input", &records);
             let output = run(limited, input, output).expect("it ends");
             let left = fs::read(&path).expect("the file can be read");
             if whole {
-                let line = Counts::of(&wanted).line();
-                assert_eq!(String::from_utf8_lossy(&output.stderr), line);
-                assert!(output.status.success() && left == wanted);
+                assert_eq!(String::from_utf8_lossy(&output.stderr), wanted.words);
+                assert!(output.status.success() && left == wanted.report);
             } else {
                 broke_off(tried, &output, "bench: writing failed");
-                assert_eq!((left.len(), &left[..]), (512, &wanted[..512]));
+                assert_eq!((left.len(), &left[..]), (512, &wanted.report[..512]));
             }
             ran += 1;
         }

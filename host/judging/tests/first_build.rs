@@ -1,11 +1,11 @@
 //! The first run of the command, which has the kit prove and build the program; a script stands in for the kit.
 
 use judging::layout::lay_out;
-use judging::program::{ended, root, Tried, LIMIT};
+use judging::program::{ended, kit, root, Tried, LIMIT};
 use second::judge::judge_all;
 use std::fs;
 use std::io::{BufRead, BufReader, Read};
-use std::path::{Path, PathBuf};
+use std::path::PathBuf;
 use std::process::{Child, ChildStderr, Command, Output, Stdio};
 use std::time::Instant;
 
@@ -86,10 +86,9 @@ impl Repository {
 
     /// Starts the command on the sample, with the tools of this path.
     fn start_with(&self, path: String) -> Child {
-        let rattle = std::env::var_os("RATTLE_HOME").unwrap_or_else(kit_folder);
         let mut command = Command::new(self.0.join("bench"));
         command.arg(root().join("samples/records.txt"));
-        command.env("PATH", path).env("RATTLE_HOME", rattle);
+        command.env("PATH", path).env("RATTLE_HOME", kit());
         command.stdin(Stdio::null());
         command.stdout(Stdio::piped()).stderr(Stdio::piped());
         command.spawn().expect("the command starts")
@@ -106,14 +105,6 @@ impl Repository {
         assert!(asked.lines().all(|words| words == "check bench"), "{asked}");
         asked.lines().count()
     }
-}
-
-/// Gives the folder of the kit that runs the program.
-fn kit_folder() -> std::ffi::OsString {
-    let output = Command::new("rt").arg("doc").output().expect("the kit");
-    let guide = text(&output.stdout);
-    let docs = Path::new(guide.trim()).parent().expect("a folder");
-    docs.parent().expect("a folder").into()
 }
 
 /// Gives the status with which a command ends and all that it says on standard error; panics unless it reports exactly when it doesn't fail.

@@ -2,10 +2,9 @@
 //! program says.
 
 use judging::classes::{Class, CLASSES};
-use judging::end::Counts;
+use judging::end::Whole;
 use judging::folder::{cases, write, Case};
 use judging::program::{run, Tried};
-use second::judge::judge_all;
 use std::collections::BTreeMap;
 use std::fs::{self, File};
 use std::io::{self, Write};
@@ -31,11 +30,11 @@ struct Tally {
     failures: Vec<String>,
 }
 
-/// Says that the program prints for each input what the second program says, ends with the line that counts it, and says nothing else;
-/// and that the command passes both on, with the status that they give.
+/// Says that the program prints for each input what the second program says, ends with the place of an unread record and the line that
+/// counts all, and says nothing else; and that the command passes all on, with the status that it gives.
 #[test]
 fn the_program_says_what_the_second_program_says() {
-    let folder = Path::new(env!("CARGO_TARGET_TMPDIR")).join("records");
+    let folder = Path::new(env!("CARGO_TARGET_TMPDIR")).join("inputs");
     write(&folder);
     let cases = cases(&folder);
     let tallies = run_all(&cases);
@@ -134,17 +133,20 @@ fn compare(tried: Tried, path: &Path) -> Result<(), Failure> {
     let input = fs::read(path).expect("the input can be read");
     let file = File::open(path).expect("the input can be opened");
     let output = run(tried.start(), file, Stdio::piped()).map_err(Failure::Unended)?;
-    let wanted = judge_all(&input);
-    let end = Counts::of(&wanted);
-    if output.status.code() != Some(tried.status(end.status())) {
+    let wanted = Whole::on(&input);
+    if output.status.code() != Some(tried.status(wanted.status)) {
         return Err(Failure::Other(format!("it ended with {}", output.status)));
     }
-    if output.stdout != wanted {
-        return Err(Failure::Other(difference(&wanted, &output.stdout)));
+    if output.stdout != wanted.report {
+        return Err(Failure::Other(difference(&wanted.report, &output.stdout)));
     }
-    if output.stderr != end.line().as_bytes() {
-        let said = String::from_utf8_lossy(&output.stderr).into_owned();
-        return Err(Failure::Other(format!("on standard error: {said:?}")));
+    if output.stderr != wanted.words.as_bytes() {
+        let said = String::from_utf8_lossy(&output.stderr);
+        let why = format!(
+            "on standard error wanted {:?}, found {said:?}",
+            wanted.words
+        );
+        return Err(Failure::Other(why));
     }
     Ok(())
 }

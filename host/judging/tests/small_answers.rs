@@ -1,10 +1,9 @@
 //! The program where each read delivers one byte, each write takes few, and signals come in between: the report and the end's line are the same.
 
 use judging::classes::many;
-use judging::end::Counts;
+use judging::end::Whole;
 use judging::layout::file_of;
 use judging::program::{run, Tried};
-use second::judge::judge_all;
 use std::path::{Path, PathBuf};
 use std::process::{Command, Stdio};
 
@@ -48,9 +47,8 @@ fn the_report_is_the_same() {
         many(20),
         [many(5), b"set=3\n".to_vec()].concat(),
     ] {
-        let wanted = judge_all(&records);
-        let line = Counts::of(&wanted).line();
-        let wanted = [String::from_utf8_lossy(&wanted).into_owned(), line];
+        let Whole { report, words, .. } = Whole::on(&records);
+        let wanted = [String::from_utf8_lossy(&report).into_owned(), words];
         for takes in TAKES {
             let found = printed_and_said(&library, &records, takes);
             assert_eq!(found, wanted, "writes of at most {takes} bytes");

@@ -19,6 +19,12 @@ exit "${STATUS-0}""#;
 /// The end's line of that report.
 const RIGHT: &str = "bench: 2 records: 2 equal, 0 differ, 0 unread\n";
 
+/// The last lines of a report with an unread record: its place, and the end's line.
+const UNREAD: [&str; 2] = [
+    "bench: record 3: line 4, column 17\n",
+    "bench: 3 records: 2 equal, 0 differ, 1 unread\n",
+];
+
 /// Gives the command with that program, which says this.
 fn saying(command: &PathBuf, said: &str) -> Command {
     let mut command = Command::new(command);
@@ -57,39 +63,123 @@ fn right_lines() {
         ("bench: 0 records: 0 equal, 0 differ, 0 unread\n", 0),
         ("bench: 1 records: 1 equal, 0 differ, 0 unread\n", 0),
         ("bench: 1 records: 0 equal, 1 differ, 0 unread\n", 1),
-        ("bench: 1 records: 0 equal, 0 differ, 1 unread\n", 1),
-        ("bench: 6000 records: 5990 equal, 9 differ, 1 unread\n", 1),
+        (
+            "bench: record 1: line 1, column 1\nbench: 1 records: 0 equal, 0 differ, 1 unread\n",
+            1,
+        ),
+        (
+            "bench: record 6000: line 8, column 15\nbench: 6000 records: 5990 equal, 9 differ, 1 unread\n",
+            1,
+        ),
         ("bench: 1000 records: 999 equal, 1 differ, 0 unread\n", 1),
         (
             "bench: 18446744073709551615 records: 18446744073709551615 equal, 0 differ, 0 unread\n",
             0,
         ),
         (
-            "bench: 18446744073709551615 records: 18446744073709551613 equal, 1 differ, 1 unread\n",
+            "bench: record 18446744073709551615: line 2, column 18446744073709551615\n\
+             bench: 18446744073709551615 records: 18446744073709551613 equal, 1 differ, 1 unread\n",
             1,
         ),
         (
             "a loader's warning\nbench: 2 records: 2 equal, 0 differ, 0 unread\n",
             0,
         ),
+        (&format!("a loader's warning\n{}", UNREAD.concat()), 1),
     ] {
         ends(saying(&command, said), said, status);
         ran += 1;
     }
-    assert_eq!(ran, 10);
+    assert_eq!(ran, 11);
 }
 
-/// Says that the end's line cut at any byte is none.
+/// Says that the end's line cut at any byte is none, and that the place of an unread record before it is none either.
 #[test]
 fn cut_lines() {
     let command = lay_out("unfinished-cut", PROGRAM);
+    let [place, end] = UNREAD;
+    let mut cut = Vec::new();
+    cut.extend((0..RIGHT.len()).map(|length| RIGHT[..length].to_string()));
+    cut.extend((0..end.len()).map(|length| [place, &end[..length]].concat()));
+    cut.extend((0..place.len()).map(|length| [&place[..length], end].concat()));
+    // With its line feed, and without the last digit alone, it is another place.
+    cut.extend((0..place.len() - 2).map(|length| [&place[..length], "\n", end].concat()));
     let mut ran = 0;
-    for length in 0..RIGHT.len() {
-        let said = &RIGHT[..length];
+    for said in &cut {
         ends(saying(&command, said), said, 2);
         ran += 1;
     }
-    assert_eq!(ran, RIGHT.len());
+    assert_eq!(ran, 160);
+}
+
+/// Says that the place of an unread record has one form, stands once and right before the end's line, and only where that counts one.
+#[test]
+fn wrong_places() {
+    let command = lay_out("unfinished-places", PROGRAM);
+    let [place, end] = UNREAD;
+    let mut ran = 0;
+    for said in [
+        "",
+        "bench: record 2: line 4, column 17\n",
+        "bench: record 4: line 4, column 17\n",
+        "bench: record 03: line 4, column 17\n",
+        "bench: record 30: line 4, column 17\n",
+        "bench: record : line 4, column 17\n",
+        "bench: record *: line 4, column 17\n",
+        "bench: record 3: line 0, column 17\n",
+        "bench: record 3: line 9, column 17\n",
+        "bench: record 3: line 04, column 17\n",
+        "bench: record 3: line 14, column 17\n",
+        "bench: record 3: line 44, column 17\n",
+        "bench: record 3: line , column 17\n",
+        "bench: record 3: line ?, column 17\n",
+        "bench: record 3: line 4, column 0\n",
+        "bench: record 3: line 4, column 00\n",
+        "bench: record 3: line 4, column 017\n",
+        "bench: record 3: line 4, column -1\n",
+        "bench: record 3: line 4, column +1\n",
+        "bench: record 3: line 4, column 1 7\n",
+        "bench: record 3: line 4, column 0x11\n",
+        "bench: record 3: line 4, column \n",
+        "bench: record 3: line 4, column 17 \n",
+        "bench: record 3: line 4, column 17.\n",
+        "bench: record 3: line 4, column 17\r\n",
+        "bench: record 3: line 4, column  17\n",
+        "bench: record 3: line 4 column 17\n",
+        "bench: record 3, line 4, column 17\n",
+        "bench: record 3: column 17, line 4\n",
+        "bench: record 3: line 4\n",
+        "bench: Record 3: line 4, column 17\n",
+        "bench:  record 3: line 4, column 17\n",
+        " bench: record 3: line 4, column 17\n",
+        "record 3: line 4, column 17\n",
+        "17\n",
+        "bench: reading failed: Input/output error\n",
+        // Another line stands between the two.
+        "bench: record 3: line 4, column 17\n\n",
+        "bench: record 3: line 4, column 17\na loader's warning\n",
+        // The program says more than that.
+        "bench: record 3: line 4, column 17\nbench: record 3: line 4, column 17\n",
+        "bench: record 3: line 4, column 18\nbench: record 3: line 4, column 17\n",
+        "bench: writing failed: Broken pipe\nbench: record 3: line 4, column 17\n",
+        "bench: 3 records: 2 equal, 0 differ, 1 unread\nbench: record 3: line 4, column 17\n",
+    ] {
+        let said = [said, end].concat();
+        ends(saying(&command, &said), &said, 2);
+        ran += 1;
+    }
+    for said in [
+        [place, RIGHT].concat(),
+        [&place.replace('3', "2"), RIGHT].concat(),
+        [end, place].concat(),
+        [place, end, place].concat(),
+        [RIGHT, place].concat(),
+        place.to_string(),
+    ] {
+        ends(saying(&command, &said), &said, 2);
+        ran += 1;
+    }
+    assert_eq!(ran, 48);
 }
 
 /// Says that lines which are no end's line, or not the last, or whose counts don't fit, are status 2.

@@ -12,22 +12,31 @@ pub fn written(bytes: &[u8]) -> Vec<u8> {
     digits
 }
 
-/// Gives the bytes that the digits stand for, or none when they aren't lower-case hex in pairs.
-pub fn read(digits: &[u8]) -> Option<Vec<u8>> {
-    if digits.len() % 2 == 1 {
-        return None;
-    }
-    let mut bytes = Vec::new();
-    for pair in digits.chunks(2) {
-        bytes.push(value(pair[0])? * 16 + value(pair[1])?);
-    }
-    Some(bytes)
+/// Which digit of a pair is at fault.
+#[derive(Clone, Copy, Debug, PartialEq, Eq)]
+pub enum BadDigit {
+    /// The first is wrong or missing, whatever the second is.
+    First,
+    /// The first is right, but the second is wrong or missing.
+    Second,
 }
 
-/// Gives the value of one digit, or none when it is no lower-case hex digit.
-fn value(digit: u8) -> Option<u8> {
+/// Gives the byte that the two digits at the front stand for, or which of them is at fault.
+pub fn pair(digits: &[u8]) -> Result<u8, BadDigit> {
+    let high = value(digits.first()).ok_or(BadDigit::First)?;
+    let low = value(digits.get(1)).ok_or(BadDigit::Second)?;
+    Ok(high * 16 + low)
+}
+
+/// Gives the bytes that the digits stand for, or none when they aren't lower-case hex in pairs.
+pub fn read(digits: &[u8]) -> Option<Vec<u8>> {
+    digits.chunks(2).map(|two| pair(two).ok()).collect()
+}
+
+/// Gives the value of one digit, or none when it is missing or no lower-case hex digit.
+fn value(digit: Option<&u8>) -> Option<u8> {
     DIGITS
         .iter()
-        .position(|known| *known == digit)
+        .position(|known| Some(known) == digit)
         .map(|v| v as u8)
 }

@@ -1,7 +1,7 @@
 //! Judging records against our own sealing, and the report on them.
 
 use crate::calls::seal;
-use crate::record::{first_broken_line, read, Record};
+use crate::record::{first_broken_line, read, Broken, Record};
 
 /// What the bench says of one record.
 #[derive(Clone, Copy, Debug, PartialEq, Eq)]
@@ -10,8 +10,8 @@ pub enum Verdict {
     Equal,
     /// The named field is the first that isn't ours.
     Differs(&'static str),
-    /// The record breaks its form, first in this line.
-    Unread(u64),
+    /// The record breaks its form, first at this line and column.
+    Unread(Broken),
 }
 
 /// How a found text stands beside the wanted one.
@@ -44,7 +44,7 @@ fn differs(wanted: &[u8], found: &[u8]) -> bool {
 /// Gives the verdict on a record; one that has no right form counts as unread.
 pub fn verdict(record: &Record) -> Verdict {
     if let Some(line) = first_broken_line(record) {
-        return Verdict::Unread(line);
+        return Verdict::Unread(Broken { line, column: 0 });
     }
     let text = record.text.held();
     let mut cipher = vec![0; text.len()];
@@ -76,28 +76,44 @@ pub fn report(number: u64, verdict: Verdict) -> String {
     let (word, field) = match verdict {
         Verdict::Equal => ("equal", "none".to_string()),
         Verdict::Differs(field) => ("differs", field.to_string()),
-        Verdict::Unread(line) => ("unread", line.to_string()),
+        Verdict::Unread(broken) => ("unread", broken.line.to_string()),
     };
     format!("record={number}\nverdict={word}\nfield={field}\n")
 }
 
-/// Gives the whole output of the program for the given input.
-pub fn judge_all(input: &[u8]) -> Vec<u8> {
-    let mut output = String::new();
+/// Gives the records of the input up to its end or its first broken record, and where that breaks.
+fn records(input: &[u8]) -> (Vec<Record>, Option<Broken>) {
+    let mut records = Vec::new();
     let mut place = 0;
-    let mut number = 1;
     while place < input.len() {
         match read(&input[place..]) {
             Ok((record, taken)) => {
-                output += &report(number, verdict(&record));
+                records.push(record);
                 place += taken;
-                number += 1;
             }
-            Err(line) => {
-                output += &report(number, Verdict::Unread(line));
-                break;
-            }
+            Err(broken) => return (records, Some(broken)),
         }
     }
-    output.into_bytes()
+    (records, None)
+}
+
+/// Gives the whole standard output of the program for the given input.
+pub fn judge_all(input: &[u8]) -> Vec<u8> {
+    let (records, broken) = records(input);
+    let verdicts = records.iter().map(verdict);
+    let all = verdicts.chain(broken.map(Verdict::Unread));
+    let reports = (1..).zip(all).map(|(number, one)| report(number, one));
+    reports.collect::<String>().into_bytes()
+}
+
+/// Gives the line that tells where the input's broken record breaks, or nothing when there is none.
+pub fn fault_line(input: &[u8]) -> String {
+    let (records, broken) = records(input);
+    let number = records.len() + 1;
+    match broken {
+        Some(Broken { line, column }) => {
+            format!("bench: record {number}: line {line}, column {column}\n")
+        }
+        None => String::new(),
+    }
 }

@@ -2,7 +2,7 @@
 
 use second::calls::{open, seal, Answer, AD_LIMIT, TEXT_LIMIT};
 use second::cipher::set_of;
-use second::judge::judge_all;
+use second::judge::{fault_line, judge_all};
 use second::make::{lines_of, right_record, Unmade};
 use second::random::Random;
 use second::{hex, vectors};
@@ -47,7 +47,7 @@ fn work() -> Result<(), Trouble> {
     }
     let parts: Vec<&str> = arguments.iter().map(String::as_str).collect();
     match parts.as_slice() {
-        ["judge"] => say(&judge_all(&input()?)),
+        ["judge"] => print_judged(&input()?),
         ["seal", set, key, nonce, ad, text] => {
             let parts = [bytes(key)?, bytes(nonce)?, bytes(ad)?, bytes(text)?];
             print_sealed(number(set)?, parts)
@@ -84,12 +84,9 @@ fn input() -> Result<Vec<u8>, Trouble> {
     Ok(all)
 }
 
-/// Gives standard output as a plain file, because that reports every failed write.
-fn output() -> Result<BufWriter<File>, Trouble> {
-    let own = io::stdout()
-        .as_fd()
-        .try_clone_to_owned()
-        .map_err(unwritten)?;
+/// Gives standard output or error as a plain file, because that reports every failed write.
+fn plain(stream: impl AsFd) -> Result<BufWriter<File>, Trouble> {
+    let own = stream.as_fd().try_clone_to_owned().map_err(unwritten)?;
     Ok(BufWriter::new(File::from(own)))
 }
 
@@ -105,9 +102,20 @@ fn refused(answer: u64) -> Trouble {
 
 /// Writes the bytes to standard output and gives the trouble met, if any.
 fn say(bytes: &[u8]) -> Result<(), Trouble> {
-    let mut out = output()?;
+    write_all(io::stdout(), bytes)
+}
+
+/// Writes the bytes to standard output or error and gives the trouble met, if any.
+fn write_all(stream: impl AsFd, bytes: &[u8]) -> Result<(), Trouble> {
+    let mut out = plain(stream)?;
     out.write_all(bytes).map_err(unwritten)?;
     out.flush().map_err(unwritten)
+}
+
+/// Prints the report and then, on standard error, where a record breaks, and gives the trouble met.
+fn print_judged(input: &[u8]) -> Result<(), Trouble> {
+    say(&judge_all(input))?;
+    write_all(io::stderr(), fault_line(input).as_bytes())
 }
 
 /// Prints the record of one message and gives the trouble met, if any.
@@ -140,7 +148,7 @@ fn print_opened(
 /// Prints pseudo-random right records one after another and gives the trouble met, if any.
 fn print_vectors(count: u64, seed: u64) -> Result<(), Trouble> {
     let mut random = Random::new(seed);
-    let mut out = output()?;
+    let mut out = plain(io::stdout())?;
     for index in 0..count {
         let record = vectors::record(&mut random, index);
         let lines = lines_of(&record).expect("a right record can be written");

@@ -31,6 +31,14 @@ fn done(arguments: &[&str], input: &[u8]) -> String {
     String::from_utf8(output.stdout).expect("plain text")
 }
 
+/// Gives standard output and standard error of judging an input with a broken record.
+fn judged_broken(input: &[u8]) -> (String, String) {
+    let output = run(&["judge"], input);
+    assert_eq!(output.status.code(), Some(0));
+    let text = |bytes| String::from_utf8(bytes).expect("plain text");
+    (text(output.stdout), text(output.stderr))
+}
+
 /// Says that made records are right, the same for the same seed, and of both sets.
 #[test]
 fn vectors_and_judge() {
@@ -56,8 +64,76 @@ fn the_printed_case() {
         format!("set=1\nkey={zeros}\nnonce={zeros}\nad=\ntext=\ncipher=\ntag={zeros}\nrounds=25\n");
     let report = done(&["judge"], input.as_bytes());
     assert_eq!(report, "record=1\nverdict=differs\nfield=rounds\n");
-    let report = done(&["judge"], b"set=1\nkey");
-    assert_eq!(report, "record=1\nverdict=unread\nfield=2\n");
+}
+
+/// Says that a broken record is reported as ever, and its line and column told on standard error.
+#[test]
+fn broken_records() {
+    let key = "00".repeat(12);
+    let right = done(&["seal", "2", &key, &key, "", ""], b"");
+    let equal = |number| format!("record={number}\nverdict=equal\nfield=none\n");
+    let unread = |number, line| format!("record={number}\nverdict=unread\nfield={line}\n");
+    let cases = [
+        (
+            "set=1\nkey".to_string(),
+            unread(1, 2),
+            "bench: record 1: line 2, column 4\n",
+        ),
+        (
+            right.clone() + "set=12\n" + &right,
+            equal(1) + &unread(2, 1),
+            "bench: record 2: line 1, column 6\n",
+        ),
+        (
+            right.repeat(2) + &right.replace("ad=\n", "ad=0011223344556G77\n"),
+            equal(1) + &equal(2) + &unread(3, 4),
+            "bench: record 3: line 4, column 17\n",
+        ),
+        (
+            right.replace("rounds=24", "rounds=024"),
+            unread(1, 8),
+            "bench: record 1: line 8, column 9\n",
+        ),
+        (
+            right.replace('\n', "\r\n"),
+            unread(1, 1),
+            "bench: record 1: line 1, column 6\n",
+        ),
+    ];
+    let mut ran = 0;
+    for (input, report, said) in cases {
+        let wanted = (report, said.to_string());
+        assert_eq!(judged_broken(input.as_bytes()), wanted);
+        ran += 1;
+    }
+    assert_eq!(ran, 5);
+}
+
+/// Says that standard error out of use is a failed write only when there is something to tell on it.
+#[test]
+fn nowhere_to_tell_a_fault() {
+    let key = "00".repeat(12);
+    let right = done(&["seal", "2", &key, &key, "", ""], b"");
+    let broken = right.clone() + "set=3\n";
+    let equal = "record=1\nverdict=equal\nfield=none\n".to_string();
+    let unread = equal.clone() + "record=2\nverdict=unread\nfield=1\n";
+    let mut ran = 0;
+    for (input, report, status) in [(right, equal, 0), (broken, unread, 1)] {
+        let path = std::path::Path::new(env!("CARGO_TARGET_TMPDIR")).join("records");
+        std::fs::write(&path, input).expect("a file for the test");
+        let output = Command::new(env!("CARGO_BIN_EXE_second"))
+            .arg("judge")
+            .stdin(Stdio::from(File::open(&path).expect("the file opens")))
+            .stdout(Stdio::piped())
+            // A file opened for reading takes no output.
+            .stderr(Stdio::from(File::open(&path).expect("the file opens")))
+            .output()
+            .expect("the program starts");
+        assert_eq!(output.stdout, report.as_bytes());
+        assert_eq!(output.status.code(), Some(status));
+        ran += 1;
+    }
+    assert_eq!(ran, 2);
 }
 
 /// Gives the value of a line of the given label in the text.

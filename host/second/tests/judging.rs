@@ -1,10 +1,10 @@
 //! Verdicts and whole outputs of the program.
 
 use second::hex;
-use second::judge::{judge_all, report, verdict, Verdict};
+use second::judge::{fault_line, judge_all, report, verdict, Verdict};
 use second::make::{lines_of, right_record};
 use second::random::Random;
-use second::record::{Field, Record};
+use second::record::{Broken, Field, Record};
 use second::vectors;
 
 /// Gives right records of both sets in turn.
@@ -25,6 +25,16 @@ fn three(number: usize, verdict: &str, field: &str) -> String {
     format!("record={number}\nverdict={verdict}\nfield={field}\n")
 }
 
+/// Gives the verdict on a record that breaks its form there.
+fn unread(line: u64, column: u64) -> Verdict {
+    Verdict::Unread(Broken { line, column })
+}
+
+/// Gives the line on a broken record as it must stand on standard error.
+fn fault(number: usize, line: u64, column: u64) -> String {
+    format!("bench: record {number}: line {line}, column {column}\n")
+}
+
 /// Says that the whole case printed in the rules gives the printed output.
 #[test]
 fn the_printed_case() {
@@ -33,6 +43,7 @@ fn the_printed_case() {
         format!("set=1\nkey={zeros}\nnonce={zeros}\nad=\ntext=\ncipher=\ntag={zeros}\nrounds=25\n");
     let output = judge_all(input.as_bytes());
     assert_eq!(output, b"record=1\nverdict=differs\nfield=rounds\n");
+    assert_eq!(fault_line(input.as_bytes()), "");
 }
 
 /// Says that right records are equal and the first changed field is the one named.
@@ -269,7 +280,7 @@ fn tags_of_another_length() {
                 let mut other = record.clone();
                 other.tag.len = length;
                 other.tag.bytes[length.min(16)..].fill(0);
-                assert_eq!(verdict(&other), Verdict::Unread(7));
+                assert_eq!(verdict(&other), unread(7, 0));
                 ran += 1;
             }
         }
@@ -290,35 +301,40 @@ fn tag_lines_of_another_length() {
             let line = format!("tag={digits}");
             let mut all: Vec<&str> = whole.lines().collect();
             all[6] = &line;
-            let wanted = if length == own {
-                three(1, "equal", "none")
+            let (wanted, said) = if length == own {
+                (three(1, "equal", "none"), String::new())
             } else {
-                three(1, "unread", "7")
+                // One past the digits that there are, or that there may be, and the label's four.
+                let column = length.min(own) as u64 * 2 + 5;
+                (three(1, "unread", "7"), fault(1, 7, column))
             };
-            let output = judge_all((all.join("\n") + "\n").as_bytes());
+            let input = all.join("\n") + "\n";
+            let output = judge_all(input.as_bytes());
             assert_eq!(String::from_utf8(output), Ok(wanted));
+            assert_eq!(fault_line(input.as_bytes()), said);
             ran += 1;
         }
     }
     assert_eq!(ran, 2 * 21);
 }
 
-/// Says that a record of no right form is unread, with its first such line.
+/// Says that a record of no right form is unread, with its first such line and column 0.
 #[test]
 fn records_of_no_right_form() {
     let mut ran = 0;
     for right in samples(20) {
         let mut record = right.clone();
         record.rounds = 10_000_000;
-        assert_eq!(verdict(&record), Verdict::Unread(8));
+        assert_eq!(verdict(&record), unread(8, 0));
         record.text.len = 257;
-        assert_eq!(verdict(&record), Verdict::Unread(5));
+        assert_eq!(verdict(&record), unread(5, 0));
         record.set = 3;
-        assert_eq!(verdict(&record), Verdict::Unread(1));
+        assert_eq!(verdict(&record), unread(1, 0));
         ran += 1;
     }
     assert_eq!(ran, 20);
-    assert_eq!(report(7, Verdict::Unread(5)), three(7, "unread", "5"));
+    assert_eq!(report(7, unread(5, 0)), three(7, "unread", "5"));
+    assert_eq!(report(7, unread(5, 19)), three(7, "unread", "5"));
 }
 
 /// Says that records in a row get numbers in a row and each its own verdict.
@@ -354,12 +370,48 @@ fn several_records_in_a_row() {
     }
     assert_eq!(ran, 300);
     assert_eq!(String::from_utf8(judge_all(&input)), Ok(wanted));
+    assert_eq!(fault_line(&input), "");
 }
 
 /// Says that empty input gives empty output.
 #[test]
 fn empty_input() {
     assert_eq!(judge_all(b""), b"");
+    assert_eq!(fault_line(b""), "");
+}
+
+/// Says that the line on a broken record is what the bench is to say, letter for letter.
+#[test]
+fn the_line_on_a_broken_record() {
+    let zeros = "00".repeat(12);
+    let front = format!("set=2\nkey={zeros}\nnonce={zeros}\n");
+    let back = format!("text=\ncipher=\ntag={zeros}\nrounds=24\n");
+    let right = format!("{front}ad=\n{back}");
+    let broken = format!("{front}ad=00112233445566x7\n{back}");
+    let cases = [
+        (broken.clone(), "bench: record 1: line 4, column 18\n"),
+        (
+            right.clone() + &broken,
+            "bench: record 2: line 4, column 18\n",
+        ),
+        (
+            format!("{right}{right}{front}ad=0011223344556 77\n{back}{broken}"),
+            "bench: record 3: line 4, column 17\n",
+        ),
+        (
+            right.repeat(11) + "set=1\n",
+            "bench: record 12: line 2, column 1\n",
+        ),
+        (right.clone() + "\n", "bench: record 2: line 1, column 1\n"),
+        ("set=1".to_string(), "bench: record 1: line 1, column 6\n"),
+        (right.repeat(3), ""),
+    ];
+    let mut ran = 0;
+    for (input, wanted) in cases {
+        assert_eq!(fault_line(input.as_bytes()), wanted);
+        ran += 1;
+    }
+    assert_eq!(ran, 7);
 }
 
 /// Says that bytes after the last record are a broken record, the last one reported.
@@ -370,28 +422,30 @@ fn trailing_bytes() {
     let equal: String = (1..=3)
         .map(|number| three(number, "equal", "none"))
         .collect();
-    let cases: [(&[u8], u64); 8] = [
-        (b"\n", 1),
-        (b" ", 1),
-        (b"\0", 1),
-        (b"set=1", 1),
-        (b"set=1\n", 2),
-        (b"set=2\nkey=000000000000000000000000\n", 3),
-        (b"\r\n", 1),
-        (b"rounds=24\n", 1),
+    let cases: [(&[u8], u64, u64); 8] = [
+        (b"\n", 1, 1),
+        (b" ", 1, 1),
+        (b"\0", 1, 1),
+        (b"set=1", 1, 6),
+        (b"set=1\n", 2, 1),
+        (b"set=2\nkey=000000000000000000000000\n", 3, 1),
+        (b"\r\n", 1, 1),
+        (b"rounds=24\n", 1, 1),
     ];
     let mut ran = 0;
-    for (rest, line) in cases {
+    for (rest, line, column) in cases {
         for after in [&b""[..], &lines(&records[0])] {
             let input = [&front, rest, after].concat();
             // Right lines after the broken one change nothing.
             let wanted = format!("{equal}{}", three(4, "unread", &line.to_string()));
             assert_eq!(String::from_utf8(judge_all(&input)), Ok(wanted));
+            assert_eq!(fault_line(&input), fault(4, line, column));
             ran += 1;
         }
     }
     assert_eq!(ran, 16);
     assert_eq!(String::from_utf8(judge_all(&front)), Ok(equal));
+    assert_eq!(fault_line(&front), "");
 }
 
 /// Says that a broken record ends the report even when right records follow.
@@ -414,6 +468,7 @@ fn a_broken_record_is_the_last() {
         }
         wanted += &three(place + 1, "unread", "2");
         assert_eq!(String::from_utf8(judge_all(&input)), Ok(wanted));
+        assert_eq!(fault_line(&input), fault(place + 1, 2, 1));
         ran += 1;
     }
     assert_eq!(ran, 6);
@@ -433,9 +488,14 @@ fn every_cut_of_two_records() {
         let mut wanted: String = (1..=done)
             .map(|number| three(number, "equal", "none"))
             .collect();
+        let mut said = String::new();
         if end != 0 && end != first.len() && end != whole.len() {
-            wanted += &three(done + 1, "unread", &(feeds % 8 + 1).to_string());
+            let line = feeds as u64 % 8 + 1;
+            let begun = part.rsplit(|byte| *byte == b'\n').next().expect("a part");
+            wanted += &three(done + 1, "unread", &line.to_string());
+            said = fault(done + 1, line, begun.len() as u64 + 1);
         }
+        assert_eq!(fault_line(part), said, "cut at {end}");
         assert_eq!(
             String::from_utf8(judge_all(part)),
             Ok(wanted),

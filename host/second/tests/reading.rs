@@ -2,7 +2,7 @@
 
 use second::make::{lines_of, right_record};
 use second::random::Random;
-use second::record::{read, Record, LABELS, LONGEST};
+use second::record::{read, Broken, Record, LABELS, LONGEST};
 use second::vectors;
 
 /// Gives records of both sets: empty, middling and longest.
@@ -47,6 +47,11 @@ fn with_value(lines: &[Vec<u8>], number: usize, value: &[u8]) -> Vec<u8> {
     joined(&other)
 }
 
+/// Gives what reading says, of a broken record only the line.
+fn read_by_line(bytes: &[u8]) -> Result<(Record, usize), u64> {
+    read(bytes).map_err(|broken| broken.line)
+}
+
 /// Says that each right record comes back equal and takes just its own bytes.
 #[test]
 fn right_records_come_back() {
@@ -73,7 +78,7 @@ fn right_records_come_back() {
     assert!(longest > 1_600 && longest <= LONGEST);
 }
 
-/// Says that every cut of a record is broken in the line where the bytes end.
+/// Says that every cut of a record is broken where the bytes end.
 #[test]
 fn every_cut_is_broken() {
     let mut ran = 0;
@@ -81,8 +86,10 @@ fn every_cut_is_broken() {
         let bytes = lines_of(&record).expect("a right record");
         for end in 0..bytes.len() {
             let part = &bytes[..end];
-            let line = part.iter().filter(|byte| **byte == b'\n').count() as u64 + 1;
-            assert_eq!(read(part), Err(line), "cut at {end}");
+            let ends: Vec<&[u8]> = part.split(|byte| *byte == b'\n').collect();
+            let line = ends.len() as u64;
+            let column = ends[ends.len() - 1].len() as u64 + 1;
+            assert_eq!(read(part), Err(Broken { line, column }), "cut at {end}");
             ran += 1;
         }
     }
@@ -133,7 +140,7 @@ fn each_line_broken_in_the_same_ways() {
                 let number = place as u64 + 1;
                 // An empty line more than there should be is the next line's fault.
                 let wanted = if way == 18 { number + 1 } else { number };
-                let found = read(&joined(&other));
+                let found = read_by_line(&joined(&other));
                 if wanted == 9 {
                     let length = joined(&lines).len();
                     assert_eq!(found, Ok((record.clone(), length)));
@@ -158,15 +165,15 @@ fn lines_out_of_order() {
 
             let mut lost = lines.clone();
             lost.remove(place);
-            assert_eq!(read(&joined(&lost)), Err(number));
+            assert_eq!(read_by_line(&joined(&lost)), Err(number));
 
             let mut doubled = lines.clone();
             doubled.insert(place, lines[place].clone());
             if place < 7 {
-                assert_eq!(read(&joined(&doubled)), Err(number + 1));
+                assert_eq!(read_by_line(&joined(&doubled)), Err(number + 1));
             } else {
                 assert_eq!(
-                    read(&joined(&doubled)).map(|(found, _)| found),
+                    read_by_line(&joined(&doubled)).map(|(found, _)| found),
                     Ok(record.clone())
                 );
             }
@@ -175,14 +182,14 @@ fn lines_out_of_order() {
             if place < 7 {
                 let next = one.remove(place + 1);
                 one[place].extend(next);
-                assert_eq!(read(&joined(&one)), Err(number));
+                assert_eq!(read_by_line(&joined(&one)), Err(number));
                 let mut exchanged = lines.clone();
                 exchanged.swap(place, place + 1);
-                assert_eq!(read(&joined(&exchanged)), Err(number));
+                assert_eq!(read_by_line(&joined(&exchanged)), Err(number));
             } else {
                 let mut whole = joined(&one);
                 whole.pop();
-                assert_eq!(read(&whole), Err(8));
+                assert_eq!(read_by_line(&whole), Err(8));
             }
             ran += 1;
         }
@@ -202,7 +209,7 @@ fn two_broken_lines() {
                     let mut other = lines.clone();
                     other[first] = broken(&lines[first], LABELS[first], way);
                     other[second] = broken(&lines[second], LABELS[second], 15);
-                    assert_eq!(read(&joined(&other)), Err(first as u64 + 1));
+                    assert_eq!(read_by_line(&joined(&other)), Err(first as u64 + 1));
                     ran += 1;
                 }
             }
@@ -221,12 +228,12 @@ fn values_of_the_set_line() {
             b"", b"0", b"3", b"9", b"01", b"12", b"1 ", b"+1", b"-1", b"a", b"1.", b"11", b"\x01",
         ];
         for value in bad {
-            assert_eq!(read(&with_value(&lines, 1, value)), Err(1));
+            assert_eq!(read_by_line(&with_value(&lines, 1, value)), Err(1));
             ran += 1;
         }
         // The other set is a right first line, but the key then has a wrong length.
         let other = if record.set == 1 { b"2" } else { b"1" };
-        assert_eq!(read(&with_value(&lines, 1, other)), Err(2));
+        assert_eq!(read_by_line(&with_value(&lines, 1, other)), Err(2));
         ran += 1;
     }
     assert_eq!(ran, 10 * 14);
@@ -242,7 +249,7 @@ fn values_of_key_nonce_and_tag() {
         for number in [2, 3, 7] {
             for digits in 0..=70 {
                 let value = vec![b'c'; digits];
-                let found = read(&with_value(&lines, number, &value));
+                let found = read_by_line(&with_value(&lines, number, &value));
                 if digits == right {
                     assert!(found.is_ok());
                 } else {
@@ -254,7 +261,7 @@ fn values_of_key_nonce_and_tag() {
                 for place in [0, 1, right - 1] {
                     let mut value = vec![b'0'; right];
                     value[place] = bad;
-                    let found = read(&with_value(&lines, number, &value));
+                    let found = read_by_line(&with_value(&lines, number, &value));
                     assert_eq!(found.map(|_| ()), Err(number as u64));
                     ran += 1;
                 }
@@ -273,7 +280,7 @@ fn values_of_ad_text_and_cipher() {
         for number in [4, 5, 6] {
             for digits in (0..=20).chain(505..=530).chain([1_000, 100_000]) {
                 let value = vec![b'7'; digits];
-                let found = read(&with_value(&lines, number, &value));
+                let found = read_by_line(&with_value(&lines, number, &value));
                 if digits % 2 == 0 && digits <= 512 {
                     assert!(found.is_ok(), "{digits} digits");
                 } else {
@@ -292,7 +299,7 @@ fn values_of_ad_text_and_cipher() {
                 b":0",
                 b"0`",
             ] {
-                let found = read(&with_value(&lines, number, bad));
+                let found = read_by_line(&with_value(&lines, number, bad));
                 assert_eq!(found.map(|_| ()), Err(number as u64));
                 ran += 1;
             }
@@ -311,7 +318,7 @@ fn values_of_the_rounds_line() {
             let bytes = with_value(&lines, 8, good.to_string().as_bytes());
             let mut wanted = record.clone();
             wanted.rounds = good;
-            assert_eq!(read(&bytes), Ok((wanted, bytes.len())));
+            assert_eq!(read_by_line(&bytes), Ok((wanted, bytes.len())));
             ran += 1;
         }
         let bad: [&[u8]; 17] = [
@@ -334,7 +341,7 @@ fn values_of_the_rounds_line() {
             b"\xd9\xa1",
         ];
         for value in bad {
-            assert_eq!(read(&with_value(&lines, 8, value)), Err(8));
+            assert_eq!(read_by_line(&with_value(&lines, 8, value)), Err(8));
             ran += 1;
         }
     }
@@ -342,30 +349,41 @@ fn values_of_the_rounds_line() {
 }
 
 /// Gives what reading must say of right bytes in which the byte at `place` became `new`.
-fn after_change(bytes: &[u8], place: usize, new: u8) -> Result<(), u64> {
-    let line = bytes[..place].iter().filter(|byte| **byte == b'\n').count();
-    let start = bytes[..place]
-        .iter()
-        .rposition(|byte| *byte == b'\n')
-        .map_or(0, |p| p + 1);
+fn after_change(bytes: &[u8], place: usize, new: u8) -> Result<(), Broken> {
+    let before = bytes[..place].iter().rposition(|byte| *byte == b'\n');
+    let start = before.map_or(0, |p| p + 1);
+    let line = bytes[..start].iter().filter(|byte| **byte == b'\n').count();
     let number = line as u64 + 1;
+    let column = (place - start) as u64 + 1;
+    let broken = |line, column| Err(Broken { line, column });
     if bytes[place] == new {
         return Ok(());
     }
-    let column = place - start;
-    if column < LABELS[line].len() || bytes[place] == b'\n' {
-        return Err(number);
+    if place - start < LABELS[line].len() {
+        return broken(number, column);
     }
-    let offset = column - LABELS[line].len();
     let is_hex = new.is_ascii_digit() || (b'a'..=b'f').contains(&new);
+    if bytes[place] == b'\n' {
+        return match number {
+            4 | 6 if is_hex => broken(number, column + 1),
+            // The digit and the first character of the next line, `cipher=`, are a pair.
+            5 if is_hex => broken(number, column + 2),
+            8 if new.is_ascii_digit() => broken(number, column + 1),
+            _ => broken(number, column),
+        };
+    }
+    let offset = place - start - LABELS[line].len();
     match number {
-        1 if new == b'1' || new == b'2' => Err(2),
+        // The key has the digits of one set, and breaks after 24 of them in the other.
+        1 if new == b'1' || new == b'2' => broken(2, 29),
         2..=7 if is_hex => Ok(()),
         // A line feed after whole bytes ends the line well; the rest is a broken next line.
-        4..=6 if new == b'\n' && offset % 2 != 1 => Err(number + 1),
+        5 if new == b'\n' && offset % 2 != 1 && bytes[place + 1] == b'c' => broken(6, 2),
+        4..=6 if new == b'\n' && offset % 2 != 1 => broken(number + 1, 1),
         8 if new == b'\n' && offset > 0 => Ok(()),
-        8 if new.is_ascii_digit() && (new != b'0' || offset > 0) => Ok(()),
-        _ => Err(number),
+        8 if new == b'0' && offset == 0 => broken(number, column + 1),
+        8 if new.is_ascii_digit() => Ok(()),
+        _ => broken(number, column),
     }
 }
 
@@ -380,7 +398,7 @@ fn every_change_of_one_byte() {
                 let mut bytes = right.clone();
                 bytes[place] = new;
                 let found = read(&bytes);
-                let plain = found.as_ref().map(|_| ()).map_err(|line| *line);
+                let plain = found.as_ref().map(|_| ()).map_err(|broken| *broken);
                 assert_eq!(
                     plain,
                     after_change(&right, place, new),
@@ -422,7 +440,11 @@ fn any_bytes_at_all() {
                 assert_eq!(lines_of(&record), Ok(bytes[..taken].to_vec()));
                 read_well += 1;
             }
-            Err(line) => assert!((1..=8).contains(&line)),
+            Err(Broken { line, column }) => {
+                assert!((1..=8).contains(&line));
+                // At most one past the longest right line there is, `cipher=` and 512 digits.
+                assert!((1..=520).contains(&column));
+            }
         }
         ran += 1;
     }

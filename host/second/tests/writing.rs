@@ -2,7 +2,7 @@
 
 use second::make::right_record;
 use second::random::Random;
-use second::record::{first_broken_line, read, write, Field, Record, Refused, LONGEST};
+use second::record::{first_broken_line, read, write, Broken, Field, Record, Refused, LONGEST};
 use second::vectors;
 
 /// Gives a small right record of the given set.
@@ -77,10 +77,8 @@ fn every_short_output() {
     }
     // The lengths of the two records, worked out from the record form.
     assert_eq!(ran, 201 + 177);
-    assert_eq!(
-        (Refused::Short.number(), Refused::Broken(3).number()),
-        (6, 10)
-    );
+    let broken = Refused::Broken(Broken { line: 3, column: 0 });
+    assert_eq!((Refused::Short.number(), broken.number()), (6, 10));
 }
 
 /// Gives the ways in which line `line` of a record of set 1 or 2 is broken below.
@@ -130,12 +128,13 @@ fn break_line(record: &mut Record, line: u64, way: usize) {
     }
 }
 
-/// Checks that the record is refused with 10 and the line, whatever the output, which stays.
+/// Checks that the record is refused with 10, the line and column 0, whatever the output, which stays.
 fn check_broken(record: &Record, line: u64) {
     assert_eq!(first_broken_line(record), Some(line));
+    let refused = Refused::Broken(Broken { line, column: 0 });
     for size in [0, 1, 300, LONGEST] {
         let mut out = vec![0x33; size];
-        assert_eq!(write(record, &mut out), Err(Refused::Broken(line)));
+        assert_eq!(write(record, &mut out), Err(refused));
         assert!(out.iter().all(|byte| *byte == 0x33));
     }
 }

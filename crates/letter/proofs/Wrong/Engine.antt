@@ -7,7 +7,7 @@ use Rattle.permutation.specs.declared.State.{State}
 use Rattle.permutation.specs.Round.{_⋙_, addConstant, sBox, bit, fromBits, column, substituted, substitute, Σ₀, Σ₁, Σ₂, Σ₃, Σ₄, diffuse, round}
 use Rattle.permutation.specs.Runs.{constants, constantsOf, roundsOf, rounds, permute, permuteWords}
 use Rattle.permutation.specs.Strings.{bytesOf, valueOf, stringOf, stateOf}
-use Rattle.digits.specs.Hex.{digitOf}
+use Rattle.digits.specs.Hex.{digitIn}
 use Rattle.timing.specs.Call.{Called, permuteCall}
 use Rattle.ascon.specs.Sets.{table, isSet, rowOf}
 use Rattle.ascon.specs.Mode.{p, firstBlock, initialise, separate, finalise}
@@ -17,7 +17,7 @@ use Rattle.letter.specs.Wrong.Engine.{Wrong}
 use Rattle.letter.proofs.Calls.{off}
 
 pub wrong : Wrong
-unfolding permuteWords finalise absorbed given cryptedOf tagOf isSet rowOf table roundsOf constantsOf constants permuteCall digitOf adClosed separate started initialise firstBlock p permute rounds round diffuse Σ₀ Σ₁ Σ₂ Σ₃ Σ₄ _⋙_ substitute substituted column fromBits bit sBox addConstant stringOf stateOf bytesOf valueOf sixteenOf givenTag
+unfolding permuteWords finalise absorbed given cryptedOf tagOf isSet rowOf table roundsOf constantsOf constants permuteCall digitIn adClosed separate started initialise firstBlock p permute rounds round diffuse Σ₀ Σ₁ Σ₂ Σ₃ Σ₄ _⋙_ substitute substituted column fromBits bit sBox addConstant stringOf stateOf bytesOf valueOf sixteenOf givenTag
 wrong = record {
   number-done = λ κ e p. off (cc p);
   is-done-differs = λ κ e p. off (cc p);

@@ -1,63 +1,107 @@
--- The contracts rule out the wrong answers of the calls of records and digits: each is computed in the checker, but for two that are laws.
+-- The contracts rule out the wrong answers of the calls of records, lines and digits: each is computed in the checker, but for four that are laws.
 use mathlib.Core.Path.{_≡_, sym, ap, _∙_}
-use Prim.Native.Nat.{ℕ, _<_}
+use mathlib.Core.List.{List}
+use Prim.Native.Nat.{ℕ, suc, _<_}
 use native.Mathlib.Omega.{arith}
 use lib.ListN.{getD}
 use Rattle.answers.specs.declared.Answer.the-variants.{NoRoom, BrokenRecord}
-use Rattle.ascon.specs.Sets.{table, isSet, rowOf}
-use Rattle.ascon.specs.Mode.{p}
+use Rattle.ascon.specs.Sets.{table, rowOf}
+use Rattle.digits.specs.declared.hex.Case.the-variants.{Lower}
 use Rattle.digits.specs.declared.hex.Digit.the-variants.{Value, NoDigit}
-use Rattle.digits.specs.Hex.{digitOf, hexDigit}
-use Rattle.digits.specs.Numbers.{isNumeral, places, numeral}
-use Rattle.digits.specs.Numbers as decimal
+use Rattle.digits.specs.Hex.{digitIn, digitOf, hexDigitIn, hexDigit}
+use Rattle.digits.specs.Numbers.{places, numeral}
 use Rattle.digits.specs.Room.{lineOf, Laid, put}
 use Rattle.digits.proofs.Spelling.{digit-spells, spelled-digit}
+use Rattle.lines.specs.declared.kinds.Name.{Name}
+use Rattle.lines.specs.declared.step.State.{State}
+use Rattle.lines.specs.Right.{named}
+use Rattle.lines.specs.Steps.{nameStep, feedStep, valueStep, stepOf, readOf}
 use Rattle.record.specs.declared.reading.Reading.{Reading}
-use Rattle.record.specs.Form.{fieldOf, isField, blank, withNumber, withField, keeps, broken}
-use Rattle.record.specs.Text.{names, name}
-use Rattle.record.specs.Calls.{begins, valueRead, lineRead, refusedAt, readCall, WriteLeaves, writeCall}
+use Rattle.record.specs.Form.{fieldOf, isField, blank, withNumber, withField, valueKind, keeps, broken}
+use Rattle.record.specs.Text.{names, name, kindOf}
+use Rattle.record.specs.Calls.{withValue, given, refusedAt, readCall, WriteLeaves, writeCall}
+use Rattle.record.specs.Laws.{WrongAt}
+use Rattle.record.proofs.Laws.{reads-and-writes}
 use Rattle.letter.specs.Wrong.Records.{Wrong}
 use Rattle.letter.proofs.Calls.{off}
 
 -- a character that is read as a value is its digit
 other : (c v : ℕ) → (v < 16 → hexDigit v ≡ c → ⊥) → Value v ≡ digitOf c → ⊥
-other c v none p = let spells = digit-spells c v (sym p) in none (spells .0) (spells .1)
+other c v none p = let spells = digit-spells Lower c v (sym p) in none (spells .0) (spells .1)
 
 -- a digit is read as its value
 digit : (v : ℕ) → v < 16 → NoDigit ≡ digitOf (hexDigit v) → ⊥
-digit v h p = let taken : NoDigit ≡ Value v = p ∙ spelled-digit v h in off cc
+digit v h p = let taken : NoDigit ≡ Value v = p ∙ spelled-digit Lower v h in off cc
+
+-- a text that is refused has a line and a column
+place : (text : List ℕ) (r : Reading) → r .answer ≡ BrokenRecord → r ≡ readCall text → WrongAt text (r .line) (r .column)
+place text r refused p =
+    reads-and-writes .refused text (r .line) (r .column) .0
+    (sym (ap (λ (q : Reading). q .answer) p) ∙ refused, sym (ap (λ (q : Reading). q .line) p), sym (ap (λ (q : Reading). q .column) p))
 
 pub wrong : Wrong
-unfolding writeCall blank withField readCall lineRead begins refusedAt valueRead name names withNumber keeps decimal.decimalOf isNumeral broken isField fieldOf isSet rowOf table digitOf hexDigit places numeral lineOf put
+unfolding writeCall blank withField readCall readOf stepOf nameStep feedStep valueStep kindOf named valueKind withValue given refusedAt name names withNumber keeps broken isField fieldOf rowOf table digitIn hexDigitIn places numeral lineOf put
 wrong = record {
   read-digit-other = λ c v none κ e p. other c v none p;
   read-digit-none = λ v h κ e p. digit v h p;
   is-digit-upper = λ κ e p. off (cc p);
+  is-digit-lower = λ κ e p. off (cc p);
   is-digit-f = λ κ e p. off (cc p);
+  is-digit-F = λ κ e p. off (cc p);
   read-pair-low = λ κ e p. off (cc p);
   read-pair-half = λ κ e p. off (cc p);
+  read-pair-first = λ κ e p. off (cc p);
+  read-pair-second = λ κ e p. off (cc p);
+  read-pair-neither = λ κ e p. off (cc p);
   put-bytes-low = λ κ p. let first : _≡_ {A = ℕ} 0x66 0x31 = ap (λ (x : Laid). getD (x .out) 0 0) p in absurd (omega arith);
   put-bytes-room = λ κ e p. off (cc (ap (λ (x : Laid). x .count) p));
   put-text-room = λ κ e p. off (cc (ap (λ (x : Laid). x .count) p));
   put-text-beyond = λ κ p. off (cc (ap (λ (x : Laid). x .out) p));
   put-line-feed = λ κ e p. off (cc (ap (λ (x : Laid). x .count) p));
   put-line-room = λ κ e p. off (cc (ap (λ (x : Laid). x .count) p));
-  read-number-eight = λ κ e p. off (cc p);
-  read-number-zero = λ κ e p. off (cc p);
-  read-number-nine = λ κ e p. off (cc p);
   number-length-ten = λ κ e p. off (cc p);
   number-length-nought = λ κ e p. off (cc p);
   put-number-ten = λ κ p. let first : _≡_ {A = ℕ} 0x30 0x31 = ap (λ (x : Laid). getD (x .out) 0 0) p in absurd (omega arith);
   put-number-room = λ κ e p. off (cc (ap (λ (x : Laid). x .count) p));
   put-number-high = λ κ p. let first : _≡_ {A = ℕ} 0x32 0x31 = ap (λ (x : Laid). getD (x .out) 0 0) p in absurd (omega arith);
-  read-nothing = λ κ e p. let line : _≡_ {A = ℕ} 8 1 = ap (λ (x : Reading). x .line) p in absurd (omega arith);
-  read-line-nought = λ κ e p. let line : _≡_ {A = ℕ} 0 1 = ap (λ (x : Reading). x .line) p in absurd (omega arith);
-  read-odd = λ κ e p. let line : _≡_ {A = ℕ} 3 2 = ap (λ (x : Reading). x .line) p in absurd (omega arith);
-  read-feed = λ κ e p. let line : _≡_ {A = ℕ} 2 1 = ap (λ (x : Reading). x .line) p in absurd (omega arith);
-  write-no-line = λ κ e p. let line : _≡_ {A = ℕ} 0 1 = ap (λ (x : WriteLeaves). x .outcome .line) p in absurd (omega arith);
+  named-long = λ κ e p. let size : _≡_ {A = ℕ} 17 0 = ap (λ (x : Name). x .size) p in absurd (omega arith);
+  named-size = λ κ e p. let size : _≡_ {A = ℕ} 16 2 = ap (λ (x : Name). x .size) p in absurd (omega arith);
+  begun-ended = λ place count number κ e p. off (cc (ap (λ (x : State). x .ended) p));
+  begun-digit = λ place number κ e p. let count : _≡_ {A = ℕ} 1 0 = ap (λ (x : State). x .digits) p in absurd (omega arith);
+  advance-name = λ κ e p. off (cc p);
+  advance-behind = λ κ e p. off (cc p);
+  line-zero = λ κ e p. off (cc p);
+  line-zero-end = λ κ e p. off (cc p);
+  line-nought = λ κ e p. off (cc p);
+  line-bound = λ κ e p. off (cc p);
+  line-bound-early = λ κ e p. off (cc p);
+  line-empty = λ κ e p. off (cc p);
+  line-from-nought = λ κ e p. off (cc p);
+  line-first-digit = λ κ e p. off (cc p);
+  line-second-digit = λ κ e p. off (cc p);
+  line-odd = λ κ e p. off (cc p);
+  line-byte-too-many = λ κ e p. off (cc p);
+  line-byte-too-few = λ κ e p. off (cc p);
+  either-later = λ κ e p. off (cc p);
+  either-line = λ κ e p. off (cc p);
+  read-nothing = λ column early κ e p. let line : _≡_ {A = ℕ} 8 1 = ap (λ (x : Reading). x .line) p in absurd (omega arith);
+  read-line-nought = λ text r refused none κ e p. absurd (omega (arith, place text r refused p .first));
+  read-column-nought = λ text r refused none κ e p. absurd (omega (arith, place text r refused p .wrong .first));
+  read-taken = λ line column early κ e p. let taken : _≡_ {A = ℕ} 1 0 = ap (λ (x : Reading). x .taken) p in absurd (omega arith);
+  read-odd = λ column early κ e p. let line : _≡_ {A = ℕ} 3 2 = ap (λ (x : Reading). x .line) p in absurd (omega arith);
+  read-feed = λ column early κ e p. let line : _≡_ {A = ℕ} 2 1 = ap (λ (x : Reading). x .line) p in absurd (omega arith);
+  read-decided = λ κ e p. off (cc (ap (λ (x : Reading). x .early) p));
+  read-mended = λ κ e p. off (cc (ap (λ (x : Reading). x .early) p));
+  read-name = λ column early κ e p. let line : _≡_ {A = ℕ} 4 3 = ap (λ (x : Reading). x .line) p in absurd (omega arith);
+  read-end = λ early κ e p. let column : _≡_ {A = ℕ} 39 4 = ap (λ (x : Reading). x .column) p in absurd (omega arith);
+  read-key-end = λ early κ e p. let column : _≡_ {A = ℕ} 37 29 = ap (λ (x : Reading). x .column) p in absurd (omega arith);
+  read-key-in-record = λ early κ e p. let column : _≡_ {A = ℕ} 35 29 = ap (λ (x : Reading). x .column) p in absurd (omega arith);
+  read-first-digit = λ early κ e p. let column : _≡_ {A = ℕ} 6 5 = ap (λ (x : Reading). x .column) p in absurd (omega arith);
+  read-zero = λ early κ e p. let column : _≡_ {A = ℕ} 8 9 = ap (λ (x : Reading). x .column) p in absurd (omega arith);
+  write-no-line = λ column κ e p. let line : _≡_ {A = ℕ} 0 1 = ap (λ (x : WriteLeaves). x .outcome .line) p in absurd (omega arith);
+  write-column = λ line column κ e p. let none : suc column ≡ 0 = ap (λ (x : WriteLeaves). x .outcome .column) p in absurd (omega arith);
   write-touched = λ κ p. let byte : _≡_ {A = ℕ} 1 0 = ap (λ (x : WriteLeaves). getD (x .out) 0 0) p in absurd (omega arith);
-  write-room = λ line κ e p. let answer : NoRoom ≡ BrokenRecord = ap (λ (x : WriteLeaves). x .outcome .answer) p in off (cc answer);
-  read-name = λ κ e p. let line : _≡_ {A = ℕ} 4 3 = ap (λ (x : Reading). x .line) p in absurd (omega arith);
+  write-room = λ line column κ e p. let answer : NoRoom ≡ BrokenRecord = ap (λ (x : WriteLeaves). x .outcome .answer) p in off (cc answer);
   first-broken-text = λ κ e p. let line : _≡_ {A = ℕ} 6 5 = p in absurd (omega arith);
   first-broken-long = λ κ e p. let line : _≡_ {A = ℕ} 0 5 = p in absurd (omega arith);
   first-broken-key = λ κ e p. let line : _≡_ {A = ℕ} 0 2 = p in absurd (omega arith);

@@ -2,18 +2,20 @@
 use mathlib.Core.Path.{_≡_}
 use mathlib.Core.Bool.{true, false}
 use mathlib.Core.List.{[], _∷_}
+use Prim.Native.Nat.{ℕ, suc}
 use Rattle.answers.specs.declared.Answer.the-variants.{Done}
 use Rattle.permutation.specs.Strings.{zeros}
-use Rattle.record.specs.declared.lines.Record.{Record}
-use Rattle.record.specs.Form.{fieldOf, held, withField}
-use Rattle.report.specs.declared.Verdict.the-variants.{Equal, Tag}
+use Rattle.digits.specs.Ascii.{ascii}
+use Rattle.record.specs.declared.form.Record.{Record}
+use Rattle.record.specs.Form.{fieldOf, held, withField, blank}
+use Rattle.report.specs.declared.Verdict.the-variants.{Equal, Tag, Unread}
 use Rattle.judge.specs.declared.difference.Comparison.{Comparison}
 use Rattle.judge.specs.declared.difference.Difference.the-variants.{Same, At}
 use Rattle.judge.specs.declared.stepping.Step.the-variants.{Stopped, Wait}
 use Rattle.judge.specs.Verdicts.{ourSealing}
 use Rattle.report.proofs as report
 use Rattle.judge.proofs as judge
-use Rattle.letter.specs.Calls.{Lent, lent, Never}
+use Rattle.letter.specs.Calls.{Lent, lent, Never, NeverLeaves}
 use Rattle.letter.specs.Judging.{compareLearnt}
 use Rattle.letter.specs.Wrong.Records.{caseOf}
 
@@ -58,9 +60,20 @@ pub record Wrong : Type 0 where
   pub judge-rounds : Never judge.judge.Reads.Learnt (caseOf 25, tt) Tag
   -- a record whose tag is not our own sealing's is not equal
   pub judge-tag : (r : Record) → (held (r .tag) ≡ ourSealing r .tag → ⊥) → Never judge.judge.Reads.Learnt (r, tt) Equal
+  -- a record that is handed over has no column
+  pub judge-column : (line column : ℕ) → Never judge.judge.Reads.Learnt (blank, tt) (Unread line (suc column))
+  -- and its line is told
+  pub judge-line : Never judge.judge.Reads.Learnt (blank, tt) (Unread 0 0)
   -- at the end of the input nothing is waited for
   pub step-end : Never judge.judge_window.Reads.Learnt (lent [], (true, (1, (lent [], tt)))) Wait
-  -- a window of 1,687 bytes is not final
-  pub step-window : Never judge.judge_window.Reads.Learnt (lent (zeros 1_687), (false, (1, (lent (zeros 32), tt)))) (Stopped 1 32)
+  -- a window that is wrong at its first column is not stopped at its second
+  pub step-column : (written : ℕ) → Never judge.judge_window.Reads.Learnt (lent (ascii "x"), (true, (1, (lent (zeros 32), tt)))) (Stopped 1 2 written)
+  -- what no input can mend is not waited on
+  pub step-at-once : Never judge.judge_window.Reads.Learnt (lent (ascii "x"), (false, (1, (lent (zeros 32), tt)))) Wait
+  -- what can still become a record is not called broken
+  pub step-early : (line column written : ℕ) → Never judge.judge_window.Reads.Learnt (lent (ascii "set=1\nkey=0"), (false, (1, (lent (zeros 32), tt)))) (Stopped line column written)
   -- a report without room is not done
   pub report-room : Never report.report.Reads.Learnt (1, (Equal, (lent [], tt))) (record { answer = Done; written = 0 })
+  -- the field of an unread record is its line, and not its column
+  pub report-column : NeverLeaves report.report.Reads.Learnt (1, (Unread 4 7, (lent (zeros 32), tt))) (record { answer = Done; written = 32 })
+      (1, (Unread 4 7, (lent (ascii "record=1\nverdict=unread\nfield=7\n"), tt)))

@@ -22,7 +22,7 @@ differs Equal k = absurd (miss (1 ∷ 2 ∷ 3 ∷ []) 0 tt k)
 differs Rounds k = refl
 differs Cipher k = refl
 differs Tag k = refl
-differs (Unread line) k = absurd (miss (1 ∷ 2 ∷ 3 ∷ []) 4 tt k)
+differs (Unread line column) k = absurd (miss (1 ∷ 2 ∷ 3 ∷ []) 4 tt k)
 
 -- what was put, where the verdict's line is this
 by-line : (s : tie.Start) {line : List ℕ} {r : Laid} → r ≡ put line (now (s .args .out)) → verdictLine (s .args .verdict) ≡ line

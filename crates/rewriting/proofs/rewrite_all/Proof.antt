@@ -8,10 +8,10 @@ use Rattle.rewriting.proofs.rewrite_all.Statement.{statement}
 use Rattle.rewriting.proofs.rewrite_all.Tie as tie
 
 abbrev Inv-loop : tie.InvT-loop
-Inv-loop text at₀ number₀ t7 t8 at number = Unit {0}
+Inv-loop text at₀ number₀ t7 t8 t9 at number = Unit {0}
 
 abbrev μ-loop : tie.MeasureT-loop
-μ-loop text at₀ number₀ t7 t8 at number = length text - at
+μ-loop text at₀ number₀ t7 t8 t9 at number = length text - at
 
 loop-holds : tie.Need-loop-holds Inv-loop μ-loop
 loop-holds c = search needs
@@ -33,6 +33,12 @@ part-read-end c = search needs
 
 read-requires : tie.Need-read-requires Inv-loop μ-loop
 read-requires c κs = search needs
+
+slice-aggregate-say-count : tie.Need-slice-aggregate-say-count Inv-loop μ-loop
+slice-aggregate-say-count c = search needs
+
+say-count-requires : tie.Need-say-count-requires Inv-loop μ-loop
+say-count-requires c κs = search needs
 
 slice-aggregate-say-line-2 : tie.Need-slice-aggregate-say-line-2 Inv-loop μ-loop
 slice-aggregate-say-line-2 c = search needs
@@ -78,6 +84,8 @@ rewrite-all-spec =
     part-read-start
     part-read-end
     read-requires
+    slice-aggregate-say-count
+    say-count-requires
     slice-aggregate-say-line-2
     say-line-requires-2
     returns

@@ -14,7 +14,7 @@ use Rattle.io.proofs.Counting.{counts}
 use Rattle.answers.specs.declared.Answer.the-variants.{Done, NoRoom, BrokenRecord}
 use Rattle.answers.specs.Numbers.{isDone}
 use Rattle.answers.specs.Order.{_when_, first}
-use Rattle.record.specs.declared.lines.Record.{Record}
+use Rattle.record.specs.declared.form.Record.{Record}
 use Rattle.record.specs.Form.{broken}
 use Rattle.record.specs.Text.{textOf}
 use Rattle.record.specs.Calls.{WriteLeaves, writeLeaves, writeCall}
@@ -29,8 +29,8 @@ written-inside r out = go (eqb (broken r) 0) (leb (length (textOf r)) (length ou
     go : (t u : Bool) → leb (length (textOf r)) (length out) ≡ u
         → let answer = first Done (BrokenRecord when not t ∷ NoRoom when not u ∷ []) in
         cond (isDone answer)
-        (writeLeaves (record { answer = Done; line = 0; written = length (textOf r) }) (textOf r ++ drop (length (textOf r)) out))
-        (writeLeaves (record { answer = answer; line = broken r; written = 0 }) out) .outcome .written ≤ length out
+        (writeLeaves (record { answer = Done; line = 0; column = 0; written = length (textOf r) }) (textOf r ++ drop (length (textOf r)) out))
+        (writeLeaves (record { answer = answer; line = broken r; column = 0; written = 0 }) out) .outcome .written ≤ length out
     go true true u = leb-true (length (textOf r)) (length out) u
     go true false u = omega arith
     go false _ u = omega arith

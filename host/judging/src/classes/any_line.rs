@@ -42,12 +42,12 @@ fn name(line: usize) -> &'static [u8] {
     LABELS[line - 1].strip_suffix(b"=").expect("a label")
 }
 
-/// Gives each line damaged in each way.
-pub fn damaged() -> Vec<Input> {
+/// Gives each line damaged in each way; the sets take turns from this one on.
+pub fn damaged(turn: usize) -> Vec<Input> {
     let mut inputs = Vec::new();
     for line in 1..=8 {
         for (number, (way, damaged)) in WAYS.iter().enumerate() {
-            let lines = Lines::short(line + number);
+            let lines = Lines::short(turn + line + number);
             let there = damaged(name(line), lines.value(line));
             let what = format!("line {line} {way}");
             inputs.push(Input::unread(what, lines.with_line(line, there), line));
@@ -56,11 +56,11 @@ pub fn damaged() -> Vec<Input> {
     inputs
 }
 
-/// Gives records in which a line stands twice or two lines have changed places.
-pub fn moved() -> Vec<Input> {
+/// Gives records in which a line stands twice or two lines have changed places; the sets take turns from this one on.
+pub fn moved(turn: usize) -> Vec<Input> {
     let mut inputs = Vec::new();
     for line in 1..=8 {
-        let lines = Lines::short(line);
+        let lines = Lines::short(turn + line);
         let twice = lines.with_line(line, lines.line(line).repeat(2));
         let what = format!("line {line} doubled");
         inputs.push(match line {
@@ -70,7 +70,7 @@ pub fn moved() -> Vec<Input> {
     }
     let neighbours = (1..8).map(|line| (line, line + 1));
     for (one, other) in neighbours.chain([(1, 8), (2, 7), (4, 6), (5, 7)]) {
-        let lines = Lines::short(one).swapped(one, other);
+        let lines = Lines::short(turn + one).swapped(one, other);
         let what = format!("lines {one} and {other} swapped");
         inputs.push(Input::unread(what, lines, one));
     }

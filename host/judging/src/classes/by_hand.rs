@@ -1,4 +1,4 @@
-//! Whole cases written out with their output, so that both programs are held to the rules themselves.
+//! Cases written out with their output or with the place where they break, so that both programs are held to the rules themselves.
 
 use crate::input::Input;
 
@@ -24,12 +24,11 @@ tag=da672106d0b341a823aa0ef5
 rounds=32
 ";
 
-/// Gives the cases.
+/// Gives the cases with their output.
 pub fn whole_cases() -> Vec<Input> {
     let case = |name: &str, bytes: String, output: &str| Input {
-        name: name.to_string(),
-        bytes: bytes.into_bytes(),
         output: Some(output.to_string()),
+        ..Input::told(name, bytes)
     };
     let rounds = "record=1\nverdict=differs\nfield=rounds\n";
     vec![
@@ -105,6 +104,133 @@ pub fn whole_cases() -> Vec<Input> {
             "a lone line feed",
             "\n".to_string(),
             "record=1\nverdict=unread\nfield=1\n",
+        ),
+    ]
+}
+
+/// Gives the cases with the line that says where they break.
+pub fn faults() -> Vec<Input> {
+    let case = |name: &str, bytes: String, fault: &str| Input {
+        fault: Some(format!("{fault}\n")),
+        ..Input::told(name, bytes)
+    };
+    let key = "key=00000000000000000000000000000000\n";
+    let no_text = ZEROS.replace("text=\n", "");
+    vec![
+        case(
+            "a letter for a digit of the key",
+            CLOSE.replace("key=0001", "key=000l"),
+            "bench: record 1: line 2, column 8",
+        ),
+        case(
+            "an upper-case digit",
+            CLOSE.replace("tag=da", "tag=dA"),
+            "bench: record 1: line 7, column 6",
+        ),
+        case(
+            "a blank behind the text",
+            CLOSE.replace("636c6f7365", "636c6f7365 "),
+            "bench: record 1: line 5, column 16",
+        ),
+        case(
+            "a carriage return",
+            CLOSE.replace("set=2", "set=2\r"),
+            "bench: record 1: line 1, column 6",
+        ),
+        case(
+            "no such set",
+            ZEROS.replace("set=1", "set=3"),
+            "bench: record 1: line 1, column 5",
+        ),
+        case(
+            "two digits for the set",
+            ZEROS.replace("set=1", "set=12"),
+            "bench: record 1: line 1, column 6",
+        ),
+        case(
+            "the 25th digit of a key in set 2",
+            ZEROS.replace("set=1", "set=2"),
+            "bench: record 1: line 2, column 29",
+        ),
+        case(
+            "a key of 24 digits in set 1",
+            CLOSE.replace("set=2", "set=1"),
+            "bench: record 1: line 2, column 29",
+        ),
+        case(
+            "a digit alone",
+            ZEROS.replace("ad=", "ad=0"),
+            "bench: record 1: line 4, column 5",
+        ),
+        case(
+            "the 513th digit of a text",
+            ZEROS.replace("text=", &format!("text={}", "00".repeat(257))),
+            "bench: record 1: line 5, column 518",
+        ),
+        case(
+            "a needless zero",
+            ZEROS.replace("25", "024"),
+            "bench: record 1: line 8, column 9",
+        ),
+        case(
+            "eight digits",
+            ZEROS.replace("25", "12345678"),
+            "bench: record 1: line 8, column 15",
+        ),
+        case(
+            "no digit",
+            ZEROS.replace("25", ""),
+            "bench: record 1: line 8, column 8",
+        ),
+        case(
+            "a name with a letter too many",
+            ZEROS.replace("cipher", "chipher"),
+            "bench: record 1: line 6, column 2",
+        ),
+        case(
+            "a line left out",
+            no_text,
+            "bench: record 1: line 5, column 1",
+        ),
+        case(
+            "a line twice",
+            ZEROS.replace(key, &key.repeat(2)),
+            "bench: record 1: line 3, column 1",
+        ),
+        case(
+            "the end before a line",
+            format!("set=1\n{key}"),
+            "bench: record 1: line 3, column 1",
+        ),
+        case(
+            "the end in a name",
+            format!("set=1\n{key}non"),
+            "bench: record 1: line 3, column 4",
+        ),
+        case(
+            "the end before the last line feed",
+            ZEROS.trim_end().to_string(),
+            "bench: record 1: line 8, column 10",
+        ),
+        case(
+            "two broken lines",
+            ZEROS.replace("cipher=", "cipher=x").replace("25", "x"),
+            "bench: record 1: line 6, column 8",
+        ),
+        case(
+            "an empty line between two records",
+            format!("{ZEROS}\n{ZEROS}"),
+            "bench: record 2: line 1, column 1",
+        ),
+        case(
+            "the third record",
+            format!("{CLOSE}{ZEROS}{}", CLOSE.replace("76616c", "7661g")),
+            "bench: record 3: line 4, column 8",
+        ),
+        case(
+            "the tenth record",
+            format!("{}set=1\nkey=\n", CLOSE.repeat(9)),
+            "bench: record 10: line 2, column 5",
         ),
     ]
 }

@@ -1,7 +1,7 @@
 //! Hex values with every character in place of a digit, and with half a byte too few or too many.
 
 use crate::input::Input;
-use crate::lines::Lines;
+use crate::lines::{column, Lines};
 use second::make::right_record;
 
 /// The lines that hold bytes.
@@ -45,15 +45,15 @@ pub fn wrong() -> Vec<Input> {
     for line in LINES {
         for (number, (what, place, digit)) in WRONG.into_iter().enumerate() {
             let lines = Lines::short(line + number);
-            let mut value = lines.value(line).to_vec();
+            let digits = lines.value(line).len();
             let place = match place {
                 First => 0,
-                Middle => value.len() / 2,
-                Last => value.len() - 1,
+                Middle => digits / 2,
+                Last => digits - 1,
             };
-            value[place] = digit;
             let what = format!("line {line} {what}");
-            inputs.push(Input::unread(what, lines.with_value(line, value), line));
+            let lines = lines.with_character(line, place, digit);
+            inputs.push(Input::unread_at(what, lines, line, column(line, place)));
         }
     }
     inputs
@@ -70,14 +70,11 @@ pub fn each_character() -> Vec<Input> {
             inputs.push(match value {
                 Some((value, _)) => Input::equal(what, right_with([value << 4, value][place])),
                 None => {
-                    let lines = Lines::short(line);
-                    let mut value = lines.value(line).to_vec();
-                    value[place] = character;
-                    let lines = lines.with_value(line, value);
+                    let lines = Lines::short(line).with_character(line, place, character);
                     match character {
                         // A line feed may leave a right line, and break the next one.
                         b'\n' => Input::told(what, lines),
-                        _ => Input::unread(what, lines, line),
+                        _ => Input::unread_at(what, lines, line, column(line, place)),
                     }
                 }
             });
@@ -92,11 +89,11 @@ fn right_with(byte: u8) -> Lines {
     Lines::of(&record.expect("the message fits a record"))
 }
 
-/// Gives each line with a digit fewer, a digit more, a digit alone, and a sign of hex in front.
-pub fn odd() -> Vec<Input> {
+/// Gives each line with a digit fewer, a digit more, a digit alone, and a sign of hex in front; the sets take turns from this one on.
+pub fn odd(turn: usize) -> Vec<Input> {
     let mut inputs = Vec::new();
     for line in LINES {
-        let lines = Lines::short(line);
+        let lines = Lines::short(turn + line);
         let right = lines.value(line);
         for (what, value) in [
             ("one digit fewer", right[1..].to_vec()),

@@ -1,5 +1,6 @@
 //! Records that meet the ends of likely buffers.
 
+use super::in_a_row::two_right;
 use crate::input::Input;
 use crate::lines::Lines;
 use second::cipher::SETS;
@@ -9,7 +10,7 @@ const BUFFERS: [usize; 6] = [2_048, 4_096, 8_192, 16_384, 32_768, 65_536];
 
 /// Gives rows in which a record ends, the input ends, is cut or is damaged at a buffer's end or beside it.
 pub fn around() -> Vec<Input> {
-    let pair = [0, 1].map(|number| Lines::short(number).bytes()).concat();
+    let pair = two_right().concat();
     let mut inputs = Vec::new();
     for buffer in BUFFERS {
         for place in [buffer - 1, buffer, buffer + 1] {

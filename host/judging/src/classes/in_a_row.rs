@@ -23,6 +23,20 @@ pub fn broken() -> Vec<Input> {
     inputs
 }
 
+/// Gives two right records, one of each set.
+pub fn two_right() -> [Vec<u8>; 2] {
+    [0, 1].map(|number| Lines::short(number).bytes())
+}
+
+/// Gives the inputs behind two right records; only the second program tells their output.
+pub fn behind_two(inputs: Vec<Input>) -> Vec<Input> {
+    let third = |Input { name, bytes, .. }| {
+        let rows = [two_right().concat(), bytes].concat();
+        Input::told(name, rows)
+    };
+    inputs.into_iter().map(third).collect()
+}
+
 /// Gives one record and three, with bytes behind them that are no record.
 pub fn trailing() -> Vec<Input> {
     let whole = Lines::right(&SETS[1], 2, 3).bytes();

@@ -1,7 +1,7 @@
-//! The largest record, and what is larger.
+//! The largest record, what is larger, and faults far to the right in it.
 
 use crate::input::{Input, Said};
-use crate::lines::Lines;
+use crate::lines::{column, Lines};
 use second::cipher::SETS;
 use second::record::LONGEST;
 
@@ -36,6 +36,25 @@ pub fn around() -> Vec<Input> {
         let longer = [largest.value(line), b"00"].concat();
         let what = format!("too long in line {line}");
         inputs.push(Input::unread(what, largest.with_value(line, longer), line));
+    }
+    inputs
+}
+
+/// Gives records as large with a wrong character among the 512 digits of a line, or right behind them.
+pub fn wrong_digits() -> Vec<Input> {
+    let mut inputs = Vec::new();
+    for set in &SETS {
+        let lines = Lines::right(set, 256, 256);
+        for line in 4..=6 {
+            for place in [0, 1, 255, 256, 511, 512] {
+                let column = column(line, place);
+                let mut there = lines.line(line).to_vec();
+                there[column - 1] = b'G';
+                let what = format!("set {} line {line} column {column}", set.number);
+                let lines = lines.with_line(line, there);
+                inputs.push(Input::unread_at(what, lines, line, column));
+            }
+        }
     }
     inputs
 }

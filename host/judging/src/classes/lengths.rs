@@ -1,7 +1,7 @@
 //! Fields and lines of other lengths than the rules give them.
 
 use crate::input::Input;
-use crate::lines::Lines;
+use crate::lines::{column, Lines};
 use second::cipher::SETS;
 use second::record::LABELS;
 
@@ -20,7 +20,8 @@ pub fn exact() -> Vec<Input> {
             ] {
                 let what = format!("set {} line {line} {what}", set.number);
                 let lines = lines.with_value(line, "a5".repeat(length));
-                inputs.push(Input::unread(what, lines, line));
+                let column = column(line, 2 * length.min(set.key));
+                inputs.push(Input::unread_at(what, lines, line, column));
             }
         }
         let what = format!("set {} called the other", set.number);
@@ -49,7 +50,8 @@ pub fn up_to_256() -> Vec<Input> {
         ] {
             let what = format!("line {line} {what}");
             let lines = Lines::short(line).with_value(line, "c".repeat(digits));
-            inputs.push(Input::unread(what, lines, line));
+            let column = column(line, digits.min(512));
+            inputs.push(Input::unread_at(what, lines, line, column));
         }
     }
     let all = (4..=6).fold(Lines::short(0), |lines, line| {

@@ -1,11 +1,11 @@
 //! Values of the set line and the rounds line.
 
 use crate::input::Input;
-use crate::lines::Lines;
+use crate::lines::{column, Lines};
 use second::cipher::SETS;
 
-/// Gives set lines that name neither set, and the two that name one.
-pub fn sets() -> Vec<Input> {
+/// Gives set lines that name neither set, and the two that name one; the sets of the other lines take turns from this one on.
+pub fn sets(turn: usize) -> Vec<Input> {
     let values: [(&str, &[u8]); 24] = [
         ("empty", b""),
         ("0", b"0"),
@@ -34,11 +34,34 @@ pub fn sets() -> Vec<Input> {
     ];
     let mut inputs = Vec::new();
     for (number, (what, value)) in values.into_iter().enumerate() {
-        let lines = Lines::short(number).with_value(1, value);
+        let lines = Lines::short(turn + number).with_value(1, value);
         inputs.push(Input::unread(what, lines, 1));
     }
     inputs.push(Input::equal("1", Lines::right(&SETS[0], 3, 5)));
     inputs.push(Input::equal("2", Lines::right(&SETS[1], 3, 5)));
+    inputs
+}
+
+/// Gives each of the 256 characters as the set, and as the first and the second digit of the rounds.
+pub fn each_character() -> Vec<Input> {
+    const PLACES: [(usize, usize, &str); 3] = [
+        (1, 0, "set"),
+        (8, 0, "first digit of the rounds"),
+        (8, 1, "second digit of the rounds"),
+    ];
+    let mut inputs = Vec::new();
+    for character in 0..=u8::MAX {
+        for (line, place, name) in PLACES {
+            let lines = Lines::short(usize::from(character) + place);
+            let lines = lines.with_character(line, place, character);
+            let what = format!("character {character} as the {name}");
+            inputs.push(match character {
+                // These may leave a right line.
+                b'0'..=b'9' | b'\n' => Input::told(what, lines),
+                _ => Input::unread_at(what, lines, line, column(line, place)),
+            });
+        }
+    }
     inputs
 }
 

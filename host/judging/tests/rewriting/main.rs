@@ -77,8 +77,8 @@ fn run_class(class: &Class, answers: &mut Answers) -> usize {
 
 /// Panics when one of the writer's answers was never given.
 fn every_answer_was_given(answers: &Answers) {
-    let broken = (1..=8).map(|line| format!("10 line={line}"));
-    let all: Vec<String> = ["0 line=0", "6 line=0"]
+    let broken = (1..=8).map(|line| format!("10 line={line} column=0"));
+    let all: Vec<String> = ["0 line=0 column=0", "6 line=0 column=0"]
         .map(String::from)
         .into_iter()
         .chain(broken)

@@ -1,12 +1,15 @@
 //! What the program has to print, by the second program's reader and writer.
 
-use second::record::{read, write, Field, Record, Refused, MOST_ROUNDS};
+use second::record::{read, write, Broken, Field, Record, Refused, MOST_ROUNDS};
 
 /// How many places the program writes in.
 const PLACES: usize = 1_700;
 
 /// How much of its input the program takes.
 pub const TAKEN: usize = 65_536;
+
+/// What is said of the place where every other answer than 10 breaks.
+const NOWHERE: Broken = Broken { line: 0, column: 0 };
 
 /// How a line of a record is changed.
 #[derive(Clone, Copy)]
@@ -33,8 +36,8 @@ pub fn wanted(input: &[u8]) -> Vec<u8> {
                 output.extend(rewritten(&record, taken));
                 rest = &rest[taken..];
             }
-            Err(line) => {
-                output.extend(format!("unread: line={line}\n").bytes());
+            Err(Broken { line, column }) => {
+                output.extend(format!("unread: line={line} column={column}\n").bytes());
                 break;
             }
         }
@@ -71,13 +74,15 @@ fn rewritten(record: &Record, taken: usize) -> Vec<u8> {
 /// Gives what is printed of one writing: its name and answer, that the rest is kept, and what was written.
 fn attempt(name: &str, record: &Record, room: usize) -> Vec<u8> {
     let mut places = [0; PLACES];
-    let (answer, line, written) = match write(record, &mut places[..room]) {
-        Ok(written) => (0, 0, written),
-        Err(refused @ Refused::Broken(line)) => (refused.number(), line, 0),
-        Err(refused @ Refused::Short) => (refused.number(), 0, 0),
+    let (answer, place, written) = match write(record, &mut places[..room]) {
+        Ok(written) => (0, NOWHERE, written),
+        Err(refused @ Refused::Broken(place)) => (refused.number(), place, 0),
+        Err(refused @ Refused::Short) => (refused.number(), NOWHERE, 0),
     };
-    let said =
-        format!("{name}: room={room} answer={answer} line={line} written={written} rest=kept\n");
+    let Broken { line, column } = place;
+    let said = format!(
+        "{name}: room={room} answer={answer} line={line} column={column} written={written} rest=kept\n"
+    );
     [said.as_bytes(), &places[..written]].concat()
 }
 

@@ -1,9 +1,11 @@
-//! Bench records: what they hold, which of their lines break a rule, reading and writing.
+//! Bench records: what they hold, where they break a rule, reading and writing.
 
+mod beginning;
 mod field;
 mod reading;
 mod writing;
 
+pub use beginning::may_begin;
 pub use field::Field;
 pub use reading::read;
 pub use writing::{write, Refused};
@@ -32,6 +34,15 @@ pub struct Record {
     pub cipher: Field<256>,
     pub tag: Field<16>,
     pub rounds: u64,
+}
+
+/// Where a record first breaks a rule of its form; lines and columns count from 1.
+#[derive(Clone, Copy, Debug, PartialEq, Eq)]
+pub struct Broken {
+    /// The number, 1 to 8, of the first line that breaks a rule.
+    pub line: u64,
+    /// The column in bytes where no right line can go on, or 0 when the record wasn't read from text.
+    pub column: u64,
 }
 
 impl Record {

@@ -1,6 +1,6 @@
 //! Writing one record to the front of lent bytes.
 
-use super::{first_broken_line, Record, LABELS};
+use super::{first_broken_line, Broken, Record, LABELS};
 use crate::hex;
 
 /// Why a record wasn't written.
@@ -8,8 +8,8 @@ use crate::hex;
 pub enum Refused {
     /// The output is shorter than the record.
     Short,
-    /// The record has no right form; the number is that of its first such line.
-    Broken(u64),
+    /// The record has no right form, first in this line; the column is 0.
+    Broken(Broken),
 }
 
 impl Refused {
@@ -25,7 +25,7 @@ impl Refused {
 /// Writes the record and gives its length in bytes; a refusal leaves the output as it was.
 pub fn write(record: &Record, out: &mut [u8]) -> Result<usize, Refused> {
     if let Some(line) = first_broken_line(record) {
-        return Err(Refused::Broken(line));
+        return Err(Refused::Broken(Broken { line, column: 0 }));
     }
     let whole = lines(record);
     if out.len() < whole.len() {

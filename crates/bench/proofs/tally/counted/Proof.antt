@@ -15,8 +15,8 @@ add-tally c = search needs
 add-tally-2 : tie.Need-add-tally-2
 add-tally-2 c = search needs
 
-enum-told-2 : tie.Need-enum-told-2
-enum-told-2 c = search needs
+enum-known-verdict : tie.Need-enum-known-verdict
+enum-known-verdict c = search needs
 
 add-tally-3 : tie.Need-add-tally-3
 add-tally-3 c = search needs
@@ -28,9 +28,9 @@ returns-2 : tie.Need-returns-2
 returns-2 c = let a = c .before .before .args in differing (a .tally) (a .verdict) (c .before .match .keys2)
 
 returns-3 : tie.Need-returns-3
-returns-3 c = ap (countedWith (c .before .before .before .args .tally)) (sym (c .before .enum-told2 .given .1))
+returns-3 c = ap (countedWith (c .before .before .before .before .args .tally)) (sym (c .before .before .verdict .given .1))
 
 pub counted-spec : {M : Type 1} → statement M
 counted-spec =
     tie.close
-    (tie.spec enum-told add-tally add-tally-2 enum-told-2 add-tally-3 returns returns-2 returns-3)
+    (tie.spec enum-told add-tally add-tally-2 enum-known-verdict add-tally-3 returns returns-2 returns-3)

@@ -62,7 +62,11 @@ same-length c = search needs
 
 returns : tie.Need-returns
 unfolding numbered
-returns c = let n = c .before .before in follows-more (text n .put-piece .ensures) (behind n)
+returns c =
+    let n = c .before .before in
+    let s = entry (text n) in
+    let f = text n .put-piece .ensures in
+    (follows-more f (behind n), omega (arith, f .ends, behind n .ends, numeral-most (s .args .number) (s .fits .number .fits)))
 
 pub put-numbered-spec : {M : Type 1} → statement M
 put-numbered-spec =

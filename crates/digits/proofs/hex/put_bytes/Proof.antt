@@ -11,6 +11,7 @@ use lib.Seq.{take-length}
 use borrow.Author.Needs.{needs}
 use Rattle.digits.specs.Hex.{hexDigit, hexOf}
 use Rattle.digits.proofs.Room.{put-short, put-is}
+use Rattle.digits.specs.declared.hex.Case.the-variants.{Lower}
 use Rattle.digits.proofs.Spelling.{length-hex}
 use Rattle.digits.proofs.hex.put_bytes.Statement.{statement}
 use Rattle.digits.proofs.hex.put_bytes.Tie as tie
@@ -54,7 +55,7 @@ turn c = c .before .before .before .before .before
 returns : tie.Need-returns Inv-loop μ-loop
 returns c =
     let a = c .before .before .before .args in
-    put-short (hexOf (now (a .bytes))) (now (a .out)) (omega (arith, length-hex (now (a .bytes)), c .if1 .taken))
+    put-short (hexOf (now (a .bytes))) (now (a .out)) (omega (arith, length-hex Lower (now (a .bytes)), c .if1 .taken))
 
 loop-holds : tie.Need-loop-holds Inv-loop μ-loop
 loop-holds c = (search needs, refl, refl)
@@ -119,7 +120,7 @@ returns-2 c =
     let a = entry (c .before) .args in
     let x = now (a .bytes) in
     let end : l .i ≡ length x = omega arith in
-    put-is (hexOf x) (now (a .out)) (l .out) (2 * length x) (sym (length-hex x)) (omega arith)
+    put-is (hexOf x) (now (a .out)) (l .out) (2 * length x) (sym (length-hex Lower x)) (omega arith)
     (l .inv .2 ∙ ap (spelt x (now (a .out))) end ∙ ap (λ (y : List ℕ). hexOf y ++ drop (2 * length x) (now (a .out))) (take-length x))
 
 pub put-bytes-spec : {M : Type 1} → statement M

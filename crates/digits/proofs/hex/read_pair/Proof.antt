@@ -4,6 +4,7 @@ use Prim.Native.Nat.{_<_}
 use native.Mathlib.Omega.{arith}
 use borrow.Author.Needs.{needs}
 use Rattle.digits.specs.Hex.{digitOf}
+use Rattle.digits.specs.declared.hex.Case.the-variants.{Lower}
 use Rattle.digits.specs.declared.hex.Digit.the-variants.{Value}
 use Rattle.digits.proofs.Spelling.{digit-spells}
 use Rattle.digits.proofs.hex.read_pair.Statement.{statement}
@@ -39,7 +40,7 @@ second-is c = sym (looked (first c) .read-digit2 .ensures) ∙ c .second .given 
 
 -- both values are below 16
 values : (c : tie.After-second) → (first c .first .given .0 .0 < 16) × (c .second .given .0 .0 < 16)
-values c = (digit-spells _ _ (first-is (first c)) .0, digit-spells _ _ (second-is c) .0)
+values c = (digit-spells Lower _ _ (first-is (first c)) .0, digit-spells Lower _ _ (second-is c) .0)
 
 mul-t9 : tie.Need-mul-t9
 mul-t9 c = record { fits = omega (arith, values (c .before) .0) }

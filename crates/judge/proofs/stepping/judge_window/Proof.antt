@@ -1,16 +1,12 @@
 -- `judge::stepping::judge_window` meets its contract.
 use mathlib.Core.Path.{_≡_, sym, ap, _∙_}
-use mathlib.Core.Bool.{_||_}
 use denote.Ref.{now}
-use lib.Dec.{leb}
 use lib.ListN.{length}
 use borrow.Author.Needs.{needs}
 use borrow.Author.Tests.{eq-eqb, ne-eqb, not-true, not-false}
-use Rattle.answers.specs.Numbers.{isDone}
 use Rattle.record.specs.declared.reading.Reading.{Reading}
 use Rattle.record.specs.Calls.{readCall}
-use Rattle.record.specs.Text.{mostBytes}
-use Rattle.judge.specs.Steps.{isFinal, reportChoices, stepBy, stepCall}
+use Rattle.judge.specs.Steps.{isFinalIn, isFinal, reportChoices, stepBy, stepCall}
 use Rattle.judge.proofs.stepping.judge_window.Statement.{statement}
 use Rattle.judge.proofs.stepping.judge_window.Tie as tie
 
@@ -32,7 +28,7 @@ is-final-requires c κs = search needs
 told : (c : tie.After-is-final) → let a = c .before .before .before .before .before .args in isFinal (now (a .window)) (a .ended) ≡ c .is-final .result
 told c =
     let a = c .before .before .before .before .before .args in
-    sym (c .is-final .ensures ∙ ap (λ (r : Reading). isDone (r .answer) || (a .ended || leb mostBytes (length (now (a .window))))) (c .before .read .ensures))
+    sym (c .is-final .ensures ∙ ap (λ (r : Reading). isFinalIn r (a .ended)) (c .before .read .ensures))
 
 returns-3 : tie.Need-returns-3
 unfolding stepCall stepBy

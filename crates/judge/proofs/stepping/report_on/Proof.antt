@@ -31,7 +31,7 @@ abbrev made : Reading → ReportLeaves → StepLeaves
 made reading leaves =
     let size = leaves .outcome .written in
     stepLeaves
-    (cond (isDone (leaves .outcome .answer)) (cond (isDone (reading .answer)) (Judged (verdictRead reading) (reading .taken) size) (Stopped (reading .line) size)) Short)
+    (cond (isDone (leaves .outcome .answer)) (cond (isDone (reading .answer)) (Judged (verdictRead reading) (reading .taken) size) (Stopped (reading .line) (reading .column) size)) Short)
     (leaves .out)
 
 -- it is the first choice that holds
@@ -50,7 +50,7 @@ made-first reading number out = go (leb (length text) (length out)) (isDone (rea
         (reportLeaves (record { answer = answer; written = 0 }) out)
 
     go : (room done : Bool) → isDone (reading .answer) ≡ done
-        → stepBy reading number out (Short when not room ∷ Stopped (reading .line) (length text) when not done ∷ []) ≡ made reading (report room)
+        → stepBy reading number out (Short when not room ∷ Stopped (reading .line) (reading .column) (length text) when not done ∷ []) ≡ made reading (report room)
     go true true e = rw (e, take-length)
     go true false e = rw (e, take-length)
     go false done e = refl

@@ -1,8 +1,8 @@
 -- `record::field::read_field` meets its contract. The loop's invariant: the bytes read, and those of the digits left, are all. The measure is the number of
 -- digits left.
 use mathlib.Core.Path.{_≡_, refl, sym, ap, _∙_}
-use mathlib.Core.Bool.{true}
 use mathlib.Core.List.{List, [], _∷_, _++_, append-assoc, append-nil}
+use mathlib.Core.Logic.{⊎-elim}
 use mathlib.Core.Option.{Option, some, none}
 use Prim.Native.Nat.{ℕ, suc, _+_, _-_, _*_, _≤_, _<_}
 use native.Mathlib.Numerals.{add-one}
@@ -13,11 +13,11 @@ use lib.Seq.{drop-cons, drop-length, set-append-seam}
 use borrow.Author.Needs.{needs}
 use borrow.Author.Tests.{le-leb, lt-leb}
 use Rattle.digits.specs.declared.hex.Pair.{Pair}
-use Rattle.digits.specs.declared.hex.Pair.the-variants.{Byte, NoByte}
+use Rattle.digits.specs.declared.hex.Pair.the-variants.{Byte, BadFirst, BadSecond}
 use Rattle.digits.specs.Hex.{digitOf, pairOf, andThen, fromHex}
 use Rattle.permutation.specs.Strings.{zeros}
 use Rattle.record.specs.Form.{fieldOf}
-use Rattle.record.specs.Calls.{fitted, spelledAs}
+use Rattle.record.specs.Calls.{fitted}
 use Rattle.record.proofs.field.read_field.Statement.{statement}
 use Rattle.record.proofs.field.read_field.Tie as tie
 
@@ -37,15 +37,16 @@ record Left (text bytes : List ℕ) (size at : ℕ) : Type 0 where
   rest : fromHex text ≡ behind done (fromHex (drop at text))
 
 -- 256 bytes, and digits of more
-too-many : (done text : List ℕ) → length done ≡ 256 → 0 < length text → none ≡ fitted (behind done (fromHex text))
+too-many : (done text : List ℕ) → length done ≡ 256 → 0 < length text → fieldOf [] ≡ fitted (behind done (fromHex text))
 too-many done [] h k = absurd (omega arith)
 too-many done (one ∷ []) h k = refl
 too-many done (high ∷ low ∷ text) h k = go (pairOf (digitOf high) (digitOf low)) (fromHex text)
   where
-    go : (p : Pair) (r : Option (List ℕ)) → none ≡ fitted (behind done (andThen p r))
+    go : (p : Pair) (r : Option (List ℕ)) → fieldOf [] ≡ fitted (behind done (andThen p r))
     go (Byte b) (some y) = rw (lt-leb (length (done ++ b ∷ y)) 256 (omega (arith, length-append done (b ∷ y))))
     go (Byte b) none = refl
-    go NoByte r = refl
+    go BadFirst r = refl
+    go BadSecond r = refl
 
 -- a digit alone
 alone : (text : List ℕ) (at : ℕ) → at < length text → length text - at ≡ 1 → fromHex (drop at text) ≡ none
@@ -117,30 +118,29 @@ loop-holds c = record { done = []; sized = refl; small = omega arith; twice = re
     start (some y) = refl
     start none = refl
 
-no-spelling-requires : tie.Need-no-spelling-requires Inv-loop μ-loop
-no-spelling-requires c κs = search needs
+no-field-requires : tie.Need-no-field-requires Inv-loop μ-loop
+no-field-requires c κs = search needs
 
 returns : tie.Need-returns Inv-loop μ-loop
 returns c =
     let t = c .before .before .before in
     let l = t .loop in
-    c .no-spelling .ensures
-    ∙ ap spelledAs
-    (too-many (l .inv .done) (drop (l .at) (content t)) (l .inv .sized ∙ c .before .if1 .taken) (omega (arith, length-drop (l .at) (content t)))
-    ∙ ap fitted (sym (l .inv .rest)))
+    c .no-field .ensures
+    ∙ too-many (l .inv .done) (drop (l .at) (content t)) (l .inv .sized ∙ c .before .if1 .taken) (omega (arith, length-drop (l .at) (content t)))
+    ∙ ap fitted (sym (l .inv .rest))
 
 sub-if2 : tie.Need-sub-if2 Inv-loop μ-loop
 sub-if2 c = search needs
 
-no-spelling-requires-2 : tie.Need-no-spelling-requires-2 Inv-loop μ-loop
-no-spelling-requires-2 c κs = search needs
+no-field-requires-2 : tie.Need-no-field-requires-2 Inv-loop μ-loop
+no-field-requires-2 c κs = search needs
 
 returns-2 : tie.Need-returns-2 Inv-loop μ-loop
 returns-2 c =
     let i = c .before .before .before in
     let l = i .before .loop in
-    c .no-spelling2 .ensures
-    ∙ ap (λ (r : Option (List ℕ)). spelledAs (fitted r))
+    c .no-field2 .ensures
+    ∙ ap fitted
     (sym (l .inv .rest ∙ ap (behind (l .inv .done)) (alone (content (i .before)) (l .at) (i .loop-test .taken) (c .before .if2 .taken))))
 
 shared-slice-read-read-pair : tie.Need-shared-slice-read-read-pair Inv-loop μ-loop
@@ -158,11 +158,8 @@ read-pair-requires c κs = search needs
 enum-known-pair : tie.Need-enum-known-pair Inv-loop μ-loop
 enum-known-pair c = search needs
 
-enum-told : tie.Need-enum-told Inv-loop μ-loop
-enum-told c = search needs
-
-no-spelling-requires-3 : tie.Need-no-spelling-requires-3 Inv-loop μ-loop
-no-spelling-requires-3 c κs = search needs
+no-field-requires-3 : tie.Need-no-field-requires-3 Inv-loop μ-loop
+no-field-requires-3 c κs = search needs
 
 -- two digits are left
 pair-left : (c : tie.Else2 Inv-loop μ-loop) → turn c .loop .at + 1 < length (content (turn c))
@@ -172,18 +169,22 @@ pair-left c = omega arith
 room-left : (c : tie.Else2 Inv-loop μ-loop) → turn c .loop .size < 256
 room-left c = omega (arith, c .before .if1 .left, turn c .loop .inv .small)
 
+-- a pair that is no byte
+no-byte : (p : Pair) (r : Option (List ℕ)) → ((b : ℕ) → p ≡ Byte b → ⊥) → andThen p r ≡ none
+no-byte (Byte b) r h = absurd (h b refl)
+no-byte BadFirst r h = refl
+no-byte BadSecond r h = refl
+
 returns-3 : tie.Need-returns-3 Inv-loop μ-loop
 returns-3 c =
-    let e = c .before .before .before in
+    let e = c .before .before in
     let t = turn (left-two e) in
     let l = t .loop in
-    c .no-spelling3 .ensures
-    ∙ ap (λ (r : Option (List ℕ)). spelledAs (fitted r))
-    (sym
-    (l .inv .rest
-    ∙ ap (behind (l .inv .done))
-    (two (content t) (l .at) (pair-left (left-two e))
-    ∙ ap (λ (p : Pair). andThen p (fromHex (drop (l .at + 2) (content t)))) (sym (e .read-pair .ensures) ∙ c .before .enum-told .given .1))))
+    let text = content t in
+    let other : (b : ℕ) → pairOf (digitOf (getD text (l .at) 0)) (digitOf (getD text (l .at + 1) 0)) ≡ Byte b → ⊥ =
+    λ b q. ⊎-elim (λ k. omega arith) (λ k. omega arith) (rw (e .read-pair .ensures ∙ q) at (c .before .match .keys2)) in
+    c .no-field3 .ensures
+    ∙ ap fitted (sym (l .inv .rest ∙ ap (behind (l .inv .done)) (two text (l .at) (pair-left (left-two e)) ∙ no-byte _ (fromHex (drop (l .at + 2) text)) other)))
 
 array-write-bytes : tie.Need-array-write-bytes Inv-loop μ-loop
 array-write-bytes c = room-left (left-two (reading c))
@@ -214,7 +215,7 @@ returns-4 c =
     ∙ ap some (append-nil (l .inv .done)) in
     let size = l .inv .sized in
     let fits = le-leb (length (l .inv .done)) 256 (omega (arith, size, l .inv .small)) in
-    (λ j. record { ok = true; field = record { bytes = (l .inv .holds ∙ ap (λ (k : ℕ). l .inv .done ++ zeros (256 - k)) (sym size)) j; size = sym size j } })
+    (λ j. record { bytes = (l .inv .holds ∙ ap (λ (k : ℕ). l .inv .done ++ zeros (256 - k)) (sym size)) j; size = sym size j })
     ∙ rw (all, fits)
 
 pub read-field-spec : {M : Type 1} → statement M
@@ -224,18 +225,17 @@ read-field-spec =
     Inv-loop
     μ-loop
     loop-holds
-    no-spelling-requires
+    no-field-requires
     returns
     sub-if2
-    no-spelling-requires-2
+    no-field-requires-2
     returns-2
     shared-slice-read-read-pair
     add-read-pair
     shared-slice-read-read-pair-2
     read-pair-requires
     enum-known-pair
-    enum-told
-    no-spelling-requires-3
+    no-field-requires-3
     returns-3
     array-write-bytes
     add-size

@@ -1,153 +1,179 @@
--- `record::reading::read` meets its contract. The lines' invariant: the lines left decide. The digits' invariant: the digits left end where the run does. The measures are
--- the numbers of lines and of bytes left.
+-- `record::reading::read` meets its contract. The lines' invariant: the lines left decide. The digits' invariant: the walk from here ends where the line's does. The
+-- measures are the numbers of lines and of characters left.
 use mathlib.Core.Path.{_≡_, refl, sym, ap, _∙_}
-use mathlib.Core.Bool.{Bool, cond}
+use mathlib.Core.Bool.{Bool, true, false, cond}
 use mathlib.Core.List.{List}
 use mathlib.Core.Logic.{_⊎_, inl, inr, ⊎-elim}
-use mathlib.Core.Option.{Option, some, none}
-use Prim.Native.Nat.{ℕ, _+_, _-_, _≤_, _<_}
+use Prim.Native.Nat.{ℕ, suc, _+_, _-_, _≤_, _<_}
 use native.Mathlib.Omega.{arith}
 use denote.Ref.{now}
-use lib.ListN.{length, take, drop, length-drop, drop-of-length-le}
-use lib.Seq.{take-all}
+use lib.Dec.{eqb, ltb}
+use lib.ListN.{length, take, drop, length-drop}
+use lib.Seq.{length-take-le}
 use borrow.Author.Needs.{needs}
-use borrow.Author.Tests.{not-true, not-false}
-use Rattle.record.specs.declared.lines.Record.{Record}
-use Rattle.record.specs.Calls.{run, valueRead, Line, sized, lineRead, refusedAt, orRefused, readFrom, readCall, takenAs, nameTaken}
-use Rattle.record.proofs.Walks.{name-inside, feed-inside, run-digit, run-other, take-run, no-name, named, one-line, not-taken-is, taken-is}
+use borrow.Author.Tests.{not-true, not-false, eqb-true, eqb-false, lt-ltb, le-ltb}
+use Rattle.lines.specs.declared.kinds.Kind.{Kind}
+use Rattle.lines.specs.declared.step.State.{State}
+use Rattle.lines.specs.declared.walk.Found.{Found}
+use Rattle.lines.specs.declared.walk.Found.the-variants.{Line, Stopped}
+use Rattle.lines.specs.Steps.{stop, foundAt, readOf}
+use Rattle.lines.specs.Laws.{FoundIn}
+use Rattle.lines.specs.Tables.{Outcome, brokenAt, goOn, linesFrom}
+use Rattle.lines.proofs.Walks.{Walking, walk-start, walk-on, walk-off, walk-end}
+use Rattle.lines.proofs.Values.{line-size, value-there}
+use Rattle.record.specs.declared.form.Record.{Record}
+use Rattle.record.specs.Text.{kindOf}
+use Rattle.record.specs.Calls.{withValue, readAt, given, linesOf, readAs, answered, readCall}
+use Rattle.record.proofs.Table.{fit-kind, rightAt, told}
 use Rattle.record.proofs.reading.read.Statement.{statement}
 use Rattle.record.proofs.reading.read.Tie as tie
 
+-- ---- one line
+
+-- the lines from one on
+abbrev from : ℕ → ℕ → Record → List ℕ → Outcome Record
+from line at r text = linesFrom readAt given (9 - line) line at r text
+
 -- what holds before a line is read
-record Left (text : List ℕ) (entry : Record) (at line : ℕ) : Type 0 where
+record Left (text : List ℕ) (r : Record) (at line : ℕ) : Type 0 where
   first : 1 ≤ line
   last : line ≤ 9
   inside : at ≤ length text
-  rest : readFrom (9 - line) line at entry text ≡ readCall text
+  rest : from line at r text ≡ linesOf 8 text
 
--- what holds before a digit is looked at
-record Walking (text : List ℕ) (from end : ℕ) : Type 0 where
-  begun : from ≤ end
+-- a line, and those behind it
+one-line : (line at : ℕ) (r : Record) (text : List ℕ) → line < 9 → (f : Found) → readAt line r (drop at text) ≡ f
+    → from line at r text ≡ goOn line (drop at text) f (λ size says. from (line + 1) (at + size) (given line r says (take size (drop at text))) text)
+one-line line at r text h f e =
+    let more : 9 - line ≡ suc (9 - (line + 1)) = omega arith in
+    ap (λ (k : ℕ). linesFrom readAt given k line at r text) more
+    ∙ ap (λ (q : Found). goOn line (drop at text) q (λ size says. from (line + 1) (at + size) (given line r says (take size (drop at text))) text)) e
+
+-- what a walk over a line of a text found
+record Walked (text : List ℕ) (r : Record) (at line end : ℕ) (s : State) : Type 0 where
+  begun : at ≤ end
   inside : end ≤ length text
-  rest : end + length (run (drop end text)) ≡ from + length (run (drop from text))
+  found : readAt line r (drop at text) ≡ foundAt (stop (end - at) s)
 
--- a line that cannot be read refuses
-refused : (text : List ℕ) (entry : Record) (at line : ℕ) → Left text entry at line → (line ≡ 9 → ⊥) → lineRead line entry (drop at text) ≡ none
-    → refusedAt line ≡ readCall text
-refused text entry at line left h e =
-    sym (one-line line at entry text (omega (arith, left .last)) ∙ ap (λ (o : Option Line). orRefused line o (λ l. readFrom (9 - (line + 1)) (line + 1) (at + l .size) (l .next) text)) e)
+-- by whether it passed the line feed
+found-by : (text : List ℕ) (r : Record) (at line end : ℕ) (s : State) (b : Bool) → s .ended ≡ b → Walked text r at line end s
+    → readAt line r (drop at text) ≡ cond b (Line (end - at) (s .number)) (Stopped (end - at + 1))
+found-by text r at line end s b e w = w .found ∙ ap (λ (t : Bool). cond t (Line (end - at) (s .number)) (Stopped (end - at + 1))) e
+
+-- the text ended where the walk did
+ended-there : (at end n : ℕ) → at ≤ end → end ≤ n → eqb end n ≡ ltb (n - at) (end - at + 1)
+ended-there at end n h k = go (eqb end n) refl
+  where
+    go : (b : Bool) → eqb end n ≡ b → b ≡ ltb (n - at) (end - at + 1)
+    go true e = sym (lt-ltb (n - at) (end - at + 1) (omega (arith, eqb-true end n e)))
+    go false e = sym (le-ltb (n - at) (end - at + 1) (omega (arith, eqb-false end n e)))
+
+-- a line that is not passed is the broken one
+refused : (text : List ℕ) (r : Record) (at line end : ℕ) (s : State) → Left text r at line → (line ≡ 9 → ⊥) → s .ended ≡ false → Walked text r at line end s
+    → brokenAt line (end - at + 1) (eqb end (length text)) ≡ linesOf 8 text
+refused text r at line end s left h e w =
+    ap (brokenAt line (end - at + 1)) (ended-there at end (length text) (w .begun) (w .inside) ∙ ap (λ (n : ℕ). ltb n (end - at + 1)) (sym (length-drop at text)))
+    ∙ sym (one-line line at r text (omega (arith, left .last)) _ (found-by text r at line end s false e w))
     ∙ left .rest
 
--- a line that can goes on
-read-on : (text : List ℕ) (entry next : Record) (at line end : ℕ) → Left text entry at line → (line ≡ 9 → ⊥) → at ≤ end → end < length text
-    → lineRead line entry (drop at text) ≡ some (record { next = next; size = end + 1 - at }) → Left text next (end + 1) (line + 1)
-read-on text entry next at line end left h k m e =
-    let there : at + (end + 1 - at) ≡ end + 1 = omega arith in
+-- a line that was passed has its name, its value and a line feed; the value gives the record behind it
+record LinePassed (text : List ℕ) (r : Record) (at line end : ℕ) (s : State) : Type 0 where
+  long : kindOf line (r .set) .name .size + 1 ≤ end - at
+  gives : given line r (s .number) (take (end - at) (drop at text))
+      ≡ withValue line r (s .number) (take (end - 1 - (at + kindOf line (r .set) .name .size)) (drop (at + kindOf line (r .set) .name .size) text))
+
+passed-line : (text : List ℕ) (r : Record) (at line end : ℕ) (s : State) → s .ended ≡ true → Walked text r at line end s → LinePassed text r at line end s
+unfolding given
+passed-line text r at line end s e w =
+    let kind : Kind = kindOf line (r .set) in
+    let x : List ℕ = drop at text in
+    let t : FoundIn (rightAt line r) x (Line (end - at) (s .number)) = rw (found-by text r at line end s true e w) at (told line r x) in
+    let long : kind .name .size + 1 ≤ end - at =
+    omega (arith, line-size kind (take (end - at) x) (s .number) (fit-kind line (r .set)) (t .1), length-take-le (end - at) x (t .0)) in
+    let there : at + (end - at) ≡ end = omega (arith, w .begun) in
+    record {
+      long = long;
+      gives = ap (withValue line r (s .number)) (rw there at (value-there kind text at (end - at) (t .0) long));
+    }
+
+-- and the reading goes on behind it
+read-on : (text : List ℕ) (r next : Record) (at line end : ℕ) (s : State) → Left text r at line → (line ≡ 9 → ⊥) → s .ended ≡ true → Walked text r at line end s
+    → next ≡ given line r (s .number) (take (end - at) (drop at text)) → Left text next end (line + 1)
+read-on text r next at line end s left h e w g =
+    let there : at + (end - at) ≡ end = omega (arith, w .begun) in
     record {
       first = omega arith;
       last = omega (arith, left .last);
-      inside = omega arith;
+      inside = w .inside;
       rest =
-          ap (λ (i : ℕ). readFrom (9 - (line + 1)) (line + 1) i next text) (sym there)
-          ∙ sym (one-line line at entry text (omega (arith, left .last)) ∙ ap (λ (o : Option Line). orRefused line o (λ l. readFrom (9 - (line + 1)) (line + 1) (at + l .size) (l .next) text)) e)
+          (λ j. from (line + 1) (sym there j) (g j) text)
+          ∙ sym (one-line line at r text (omega (arith, left .last)) _ (found-by text r at line end s true e w))
           ∙ left .rest;
     }
 
+-- ---- the code
+
 abbrev Inv-digits : tie.InvT-digits
-Inv-digits text entry at line size from end₀ end = Walking text from end
+Inv-digits text entry at line column early kind state₀ end₀ state end = Walking kind text at state end
 
 abbrev μ-digits : tie.MeasureT-digits
-μ-digits text entry at line size from end₀ end = length text - end
+μ-digits text entry at line column early kind state₀ end₀ state end = length text - end
 
 abbrev Inv-loop : tie.InvT-loop
-Inv-loop text entry₀ at₀ line₀ entry at line = Left text entry at line
+Inv-loop text entry₀ at₀ line₀ column₀ early₀ entry at line column early = Left text entry at line
 
 abbrev μ-loop : tie.MeasureT-loop
-μ-loop text entry₀ at₀ line₀ entry at line = 9 - line
+μ-loop text entry₀ at₀ line₀ column₀ early₀ entry at line column early = 9 - line
 
 -- the text, seen from a line begun
 abbrev content : tie.At-loop Inv-digits μ-digits Inv-loop μ-loop → List ℕ
 content c = now (c .before .before .before .args .text)
 
--- the line begun, seen from its name
-abbrev begun : tie.After-take-name Inv-digits μ-digits Inv-loop μ-loop → tie.At-loop Inv-digits μ-digits Inv-loop μ-loop
-begun c = c .before .before .before
+-- the line's kind, seen from the walk over it
+abbrev kinded : tie.At-digits Inv-digits μ-digits Inv-loop μ-loop → tie.After-kind-of Inv-digits μ-digits Inv-loop μ-loop
+kinded c = c .before .before
 
--- where its digits begin
-abbrev from : tie.After-take-name Inv-digits μ-digits Inv-loop μ-loop → ℕ
-from c = begun c .loop .at + c .take-name .result
+-- the line begun, seen from there
+abbrev begun : tie.At-digits Inv-digits μ-digits Inv-loop μ-loop → tie.At-loop Inv-digits μ-digits Inv-loop μ-loop
+begun c = kinded c .before .before
 
--- the name, seen from the walk over the digits
-abbrev name : tie.At-digits Inv-digits μ-digits Inv-loop μ-loop → tie.After-take-name Inv-digits μ-digits Inv-loop μ-loop
-name c = c .before .before
-
--- the walk, seen from its turn's end
-abbrev walking : tie.Else3 Inv-digits μ-digits Inv-loop μ-loop → tie.At-digits Inv-digits μ-digits Inv-loop μ-loop
-walking c = c .before .before .before .before
-
--- the walk, seen from the look for a line feed
-abbrev walk : tie.After-feed-at Inv-digits μ-digits Inv-loop μ-loop → tie.At-digits Inv-digits μ-digits Inv-loop μ-loop
-walk c = c .before .before
-
--- that look, seen from the value
-abbrev look : tie.After-read-line Inv-digits μ-digits Inv-loop μ-loop → tie.After-feed-at Inv-digits μ-digits Inv-loop μ-loop
-look c = c .before .before .before
-
--- the value, seen from the record that has it
-abbrev value : tie.After-entry Inv-digits μ-digits Inv-loop μ-loop → tie.After-read-line Inv-digits μ-digits Inv-loop μ-loop
-value c = c .before .before .before
+-- the end of the walk, seen from where the line's parts are known
+abbrev left : tie.After-struct-known2 Inv-digits μ-digits Inv-loop μ-loop → tie.Left-digits Inv-digits μ-digits Inv-loop μ-loop
+left c = c .before .before .before .before
 
 no-record-requires : tie.Need-no-record-requires Inv-digits μ-digits Inv-loop μ-loop
 no-record-requires c κs = search needs
 
 loop-holds : tie.Need-loop-holds Inv-digits μ-digits Inv-loop μ-loop
-unfolding readCall
 loop-holds c = record {
   first = omega arith;
   last = omega arith;
   inside = omega arith;
-  rest = ap (λ (r : Record). readFrom 8 1 0 r (now (c .before .before .args .text))) (c .no-record .ensures);
+  rest = ap (λ (r : Record). from 1 0 r (now (c .before .before .args .text))) (c .no-record .ensures);
 }
 
-sub-take-name : tie.Need-sub-take-name Inv-digits μ-digits Inv-loop μ-loop
-sub-take-name c = search needs
+kind-of-requires : tie.Need-kind-of-requires Inv-digits μ-digits Inv-loop μ-loop
+kind-of-requires c κs = search needs
 
-part-take-name-start : tie.Need-part-take-name-start Inv-digits μ-digits Inv-loop μ-loop
-part-take-name-start c = search needs
-
-part-take-name-end : tie.Need-part-take-name-end Inv-digits μ-digits Inv-loop μ-loop
-part-take-name-end c = search needs
-
-take-name-requires : tie.Need-take-name-requires Inv-digits μ-digits Inv-loop μ-loop
-take-name-requires c κs = search needs
-
--- the name that was taken
-name-there : (c : tie.After-take-name Inv-digits μ-digits Inv-loop μ-loop) →
-    nameTaken (begun c .loop .line) (drop (begun c .loop .at) (content (begun c))) ≡ c .take-name .result
-name-there c =
-    let l = begun c .loop in
-    let text = content (begun c) in
-    sym (c .take-name .ensures ∙ ap (nameTaken (l .line)) (take-all (length text - l .at) (drop (l .at) text) (omega (arith, length-drop (l .at) text))))
-
--- is in the text
-name-ends : (c : tie.After-take-name Inv-digits μ-digits Inv-loop μ-loop) → from c ≤ length (content (begun c))
-name-ends c =
-    let l = begun c .loop in
-    let text = content (begun c) in
-    omega (arith, name-there c, name-inside (l .line) (drop (l .at) text), length-drop (l .at) text, l .inv .inside)
-
-add-from : tie.Need-add-from Inv-digits μ-digits Inv-loop μ-loop
-add-from c = record { fits = omega (arith, name-ends (c .before)) }
+begun-requires : tie.Need-begun-requires Inv-digits μ-digits Inv-loop μ-loop
+begun-requires c κs = search needs
 
 digits-holds : tie.Need-digits-holds Inv-digits μ-digits Inv-loop μ-loop
-digits-holds c = record { begun = omega arith; inside = name-ends (c .before); rest = refl }
+digits-holds c =
+    let l = c .before .before .before in
+    rw (c .begun .ensures) (walk-start (c .before .kind-of .result) (content l) (l .loop .at) (l .loop .inv .inside))
 
-shared-slice-read-is-digit :
-    tie.Need-shared-slice-read-is-digit Inv-digits μ-digits Inv-loop μ-loop
-shared-slice-read-is-digit c = search needs
+shared-slice-read-advance : tie.Need-shared-slice-read-advance Inv-digits μ-digits Inv-loop μ-loop
+shared-slice-read-advance c = search needs
 
-is-digit-requires : tie.Need-is-digit-requires Inv-digits μ-digits Inv-loop μ-loop
-is-digit-requires c κs = search needs
+advance-requires : tie.Need-advance-requires Inv-digits μ-digits Inv-loop μ-loop
+advance-requires c κs = search needs
+
+enum-known-next : tie.Need-enum-known-next Inv-digits μ-digits Inv-loop μ-loop
+enum-known-next c = search needs
+
+enum-told : tie.Need-enum-told Inv-digits μ-digits Inv-loop μ-loop
+enum-told c = search needs
 
 add-end : tie.Need-add-end Inv-digits μ-digits Inv-loop μ-loop
 add-end c = search needs
@@ -157,138 +183,117 @@ digits-less c = omega arith
 
 digits-again : tie.Need-digits-again Inv-digits μ-digits Inv-loop μ-loop
 digits-again c =
-    let d = walking c .digits in
-    let e = run-digit (content (begun (name (walking c)))) (d .end) (c .before .before .before .digits-test .taken) (sym (c .before .is-digit .ensures) ∙ not-false _ (c .if3 .left)) in
-    record { begun = omega (arith, d .inv .begun); inside = omega arith; rest = omega (arith, d .inv .rest, e) }
+    let q = c .before .before .before in
+    let d = q .before .before .before .digits in
+    walk-on _ _ _ (d .state) _ (d .end) (q .before .before .digits-test .taken) (sym (q .advance .ensures) ∙ c .before .next .given .1) (d .inv)
 
--- where the walk ended
-walked : (c : tie.Left-digits Inv-digits μ-digits Inv-loop μ-loop) → let t = name (c .before) in
-    c .before .digits .end ≡ from t + length (run (drop (from t) (content (begun t))))
+-- what the walk found
+walked : (c : tie.Left-digits Inv-digits μ-digits Inv-loop μ-loop) → let l = begun (c .before) .loop in
+    let d = c .before .digits in
+    Walked (content (begun (c .before))) (l .entry) (l .at) (l .line) (d .end) (d .state)
+unfolding readOf
 walked c =
     let d = c .before .digits in
-    let text = content (begun (name (c .before))) in
+    let l = begun (c .before) .loop in
+    let stopped =
     ⊎-elim
-    (λ w. omega (arith, d .inv .rest, ap (λ (x : List ℕ). length (run x)) (drop-of-length-le text {i = d .end} (w .left))))
-    (λ w. omega (arith, d .inv .rest, run-other text (d .end) (w .0 .taken) (sym (w .2 .ensures) ∙ not-true _ (w .3 .taken))))
-    (c .digits-test .came)
+    (λ w. walk-end _ _ (l .at) (d .state) (d .end) (w .left) (d .inv))
+    (λ w. walk-off _ _ (l .at) (d .state) (d .end) (w .0 .taken) (sym (w .2 .ensures) ∙ w .4 .given .1) (d .inv))
+    (c .digits-test .came) in
+    record {
+      begun = d .inv .begun;
+      inside = d .inv .inside;
+      found = ap (λ (k : Kind). readOf k (drop (l .at) (content (begun (c .before))))) (sym (kinded (c .before) .kind-of .ensures)) ∙ ap foundAt stopped;
+    }
 
-feed-at-requires : tie.Need-feed-at-requires Inv-digits μ-digits Inv-loop μ-loop
-feed-at-requires c κs = search needs
+sub-column : tie.Need-sub-column Inv-digits μ-digits Inv-loop μ-loop
+sub-column c = walked (c .before .before) .begun
 
-sub-read-line : tie.Need-sub-read-line Inv-digits μ-digits Inv-loop μ-loop
-sub-read-line c = c .before .before .before .digits .inv .begun
+add-column : tie.Need-add-column Inv-digits μ-digits Inv-loop μ-loop
+add-column c = search needs
 
-part-read-line-start : tie.Need-part-read-line-start Inv-digits μ-digits Inv-loop μ-loop
-part-read-line-start c = search needs
+-- the parts of a line that was passed
+parts : (c : tie.After-struct-known2 Inv-digits μ-digits Inv-loop μ-loop) → let l = begun (left c .before) .loop in
+    let d = left c .before .digits in
+    LinePassed (content (begun (left c .before))) (l .entry) (l .at) (l .line) (d .end) (d .state)
+parts c =
+    let l = begun (left c .before) .loop in
+    let d = left c .before .digits in
+    passed-line _ (l .entry) (l .at) (l .line) (d .end) (d .state) (not-false _ (c .before .before .if2 .left)) (walked (left c))
 
-part-read-line-end : tie.Need-part-read-line-end Inv-digits μ-digits Inv-loop μ-loop
-part-read-line-end c = search needs
+-- the length of its name
+name-is : (c : tie.After-struct-known2 Inv-digits μ-digits Inv-loop μ-loop) → let l = begun (left c .before) .loop in
+    kinded (left c .before) .kind-of .result .name .size ≡ kindOf (l .line) (l .entry .set) .name .size
+name-is c = ap (λ (k : Kind). k .name .size) (kinded (left c .before) .kind-of .ensures)
 
--- what the digits are as the line's value
-abbrev valued : tie.After-take-name Inv-digits μ-digits Inv-loop μ-loop → Option Record
-valued c = let l = begun c .loop in valueRead (l .line) (l .entry) (run (drop (from c) (content (begun c))))
+add-from : tie.Need-add-from Inv-digits μ-digits Inv-loop μ-loop
+add-from c = record { fits = omega (arith, parts c .long, name-is c, walked (left c) .inside) }
 
--- the line by its line feed
-line-is : (c : tie.After-feed-at Inv-digits μ-digits Inv-loop μ-loop) → let t = name (walk c) in
-    let l = begun t .loop in
-    (t .take-name .result ≡ 0 → ⊥) → lineRead (l .line) (l .entry) (drop (l .at) (content (begun t)))
-    ≡ cond (c .feed-at .result) (sized (walk c .digits .end + 1 - l .at) (valued t)) none
-line-is c h =
-    let t = name (walk c) in
-    let l = begun t .loop in
-    let end = walk c .digits .end in
-    named (l .line) (l .at) (t .take-name .result) end (l .entry) (content (begun t)) (name-there t) h (walked (c .before))
-    ∙ ap (λ (b : Bool). cond b (sized (end + 1 - l .at) (valued t)) none) (sym (c .feed-at .ensures))
+sub-feed : tie.Need-sub-feed Inv-digits μ-digits Inv-loop μ-loop
+sub-feed c = omega (arith, parts c .long)
 
--- the digits that were read
-value-is : (c : tie.After-read-line Inv-digits μ-digits Inv-loop μ-loop) → c .read-line .result ≡ takenAs (valued (name (walk (look c))))
-value-is c =
-    let d = walk (look c) in
-    let t = name d in
-    let l = begun t .loop in
-    let rest = drop (from t) (content (begun t)) in
-    let size : d .digits .end - from t ≡ length (run rest) = omega (arith, walked (look c .before)) in
-    c .read-line .ensures
-    ∙ ap (λ (x : List ℕ). takenAs (valueRead (l .line) (l .entry) x)) (ap (λ (n : ℕ). take n rest) size ∙ take-run rest)
+sub-with-value : tie.Need-sub-with-value Inv-digits μ-digits Inv-loop μ-loop
+sub-with-value c = omega (arith, parts c .long, name-is c)
 
-read-line-requires : tie.Need-read-line-requires Inv-digits μ-digits Inv-loop μ-loop
-read-line-requires c κs = search needs
+part-with-value-start : tie.Need-part-with-value-start Inv-digits μ-digits Inv-loop μ-loop
+part-with-value-start c = omega (arith, parts c .long, name-is c, walked (left c) .inside)
 
--- the line feed is in the text
-feed-stands : (c : tie.Else4 Inv-digits μ-digits Inv-loop μ-loop) → let d = walk (c .before) in d .digits .end < length (content (begun (name d)))
-feed-stands c = feed-inside (content (begun (name (walk (c .before))))) _ (sym (c .before .feed-at .ensures) ∙ not-false _ (c .if4 .left))
+part-with-value-end : tie.Need-part-with-value-end Inv-digits μ-digits Inv-loop μ-loop
+part-with-value-end c = omega (arith, walked (left c) .inside)
 
-add-at : tie.Need-add-at Inv-digits μ-digits Inv-loop μ-loop
-add-at c =
-    let v = value c in
-    record { fits = omega (arith, feed-stands (v .before .before), begun (name (walk (look v))) .before .before .before .good .0 .0) }
+with-value-requires : tie.Need-with-value-requires Inv-digits μ-digits Inv-loop μ-loop
+with-value-requires c κs = search needs
 
 add-line : tie.Need-add-line Inv-digits μ-digits Inv-loop μ-loop
-add-line c = search needs
+add-line c = let k = c .before .before in record { fits = omega (arith, begun (left k .before) .loop .inv .last) }
 
 loop-less : tie.Need-loop-less Inv-digits μ-digits Inv-loop μ-loop
-loop-less c = omega (arith, begun (name (walk (look (value c)))) .loop .inv .last)
+loop-less c = let k = c .before .before in omega (arith, begun (left k .before) .loop .inv .last)
 
 loop-again : tie.Need-loop-again Inv-digits μ-digits Inv-loop μ-loop
 loop-again c =
-    let v = value c in
-    let e = v .before .before in
-    let f = look v in
-    let d = walk f in
-    let t = name d in
-    let l = begun t .loop in
-    let given : valued t ≡ some (v .read-line .result .content) = taken-is (valued t) (v .read-line .result) (value-is v) (not-false _ (c .before .if5 .left)) in
-    read-on (content (begun t)) (l .entry) (v .read-line .result .content) (l .at) (l .line) (d .digits .end) (l .inv) (t .before .before .if1 .left)
-    (omega (arith, d .digits .inv .begun)) (feed-stands e)
-    (line-is f (d .before .if2 .left) ∙ (λ j. cond (not-false (f .feed-at .result) (e .if4 .left) j) (sized (d .digits .end + 1 - l .at) (given j)) none))
+    let k = c .before .before in
+    let d = left k .before .digits in
+    let b = begun (left k .before) in
+    let l = b .loop in
+    read-on (content b) (l .entry) _ (l .at) (l .line) (d .end) (d .state) (l .inv) (kinded (left k .before) .before .if1 .left) (not-false _ (k .before .before .if2 .left))
+    (walked (left k))
+    (c .with-value .ensures
+    ∙ ap (λ (n : ℕ). withValue (l .line) (l .entry) (d .state .number) (take (d .end - 1 - (l .at + n)) (drop (l .at + n) (content b)))) (name-is k)
+    ∙ sym (parts k .gives))
 
 refusal-requires : tie.Need-refusal-requires Inv-digits μ-digits Inv-loop μ-loop
 refusal-requires c κs = search needs
 
--- how the loop ended: after the last line, or at a line that refuses
+-- how the loop ended: after the last line, or at a broken one
 ended : (c : tie.Joined1 Inv-digits μ-digits Inv-loop μ-loop) → let l = c .before .loop in
-    ((c .if1 .bad ≡ 0) × (l .line ≡ 9)) ⊎ ((c .if1 .bad ≡ l .line) × (refusedAt (l .line) ≡ readCall (content (c .before))))
+    ((c .if1 .bad ≡ 0) × (l .line ≡ 9)) ⊎ ((1 ≤ c .if1 .bad) × (brokenAt (c .if1 .bad) (c .if1 .column) (c .if1 .early) ≡ linesOf 8 (content (c .before))))
 ended c =
     let l = c .before .loop in
-    let text = content (c .before) in
-    ⊎-elim (λ w. inl (w .1, w .0 .taken))
-    (⊎-elim
+    ⊎-elim (λ w. inl (w .3, w .0 .taken))
     (λ w.
-    let t : tie.After-take-name Inv-digits μ-digits Inv-loop μ-loop =
-    record { before = record { before = record { before = c .before; if1 = w .0 }; take-name-arg = w .1 }; take-name = w .2 } in
-    inr (w .4, refused text (l .entry) (l .at) (l .line) (l .inv) (w .0 .left) (no-name (l .line) (l .at) (l .entry) text (name-there t ∙ w .3 .taken))))
-    (⊎-elim
-    (λ w.
-    let t : tie.After-take-name Inv-digits μ-digits Inv-loop μ-loop =
-    record { before = record { before = record { before = c .before; if1 = w .0 }; take-name-arg = w .1 }; take-name = w .2 } in
-    let f : tie.After-feed-at Inv-digits μ-digits Inv-loop μ-loop =
-    record { before = record { before = record { before = record { before = t; if2 = w .3 }; digits = w .4 }; digits-test = w .5 }; feed-at = w .6 } in
-    inr (w .8, refused text (l .entry) (l .at) (l .line) (l .inv) (w .0 .left) (line-is f (w .3 .left) ∙ rw (not-true (w .6 .result) (w .7 .taken)))))
-    (λ w.
-    let t : tie.After-take-name Inv-digits μ-digits Inv-loop μ-loop =
-    record { before = record { before = record { before = c .before; if1 = w .0 }; take-name-arg = w .1 }; take-name = w .2 } in
-    let f : tie.After-feed-at Inv-digits μ-digits Inv-loop μ-loop =
-    record { before = record { before = record { before = record { before = t; if2 = w .3 }; digits = w .4 }; digits-test = w .5 }; feed-at = w .6 } in
-    let v : tie.After-read-line Inv-digits μ-digits Inv-loop μ-loop =
-    record { before = record { before = record { before = f; if4 = w .7 }; read-line-arg = w .8 }; read-line = w .9 } in
-    let missing : valued t ≡ none = not-taken-is (valued t) (w .9 .result) (value-is v) (not-true _ (w .11 .taken)) in
-    inr (w .12, refused text (l .entry) (l .at) (l .line) (l .inv) (w .0 .left) (line-is f (w .3 .left) ∙ rw (not-false (w .6 .result) (w .7 .left), missing))))))
+    let f : tie.Left-digits Inv-digits μ-digits Inv-loop μ-loop =
+    record {
+      before = record { before = record { before = record { before = record { before = c .before; if1 = w .0 }; kind-of = w .1 }; begun = w .2 }; digits = w .3 };
+      digits-test = w .4;
+    } in
+    inr (
+      omega (arith, w .9, l .inv .first),
+      rw (w .7, w .8, w .9) (refused (content (c .before)) (l .entry) (l .at) (l .line) (w .3 .end) (w .3 .state) (l .inv) (w .0 .left) (not-true _ (w .6 .taken)) (walked f)),
+    ))
     (c .if1 .came)
 
 returns : tie.Need-returns Inv-digits μ-digits Inv-loop μ-loop
-returns c =
-    let j = c .before .before in
-    c .refusal .ensures
-    ∙ ⊎-elim (λ w. absurd (c .before .if6 .taken (w .0))) (λ w. ap refusedAt (w .0) ∙ w .1) (ended j)
+unfolding readCall
+returns c = c .refusal .ensures ∙ ⊎-elim (λ w. absurd (c .before .if3 .taken (w .0))) (λ w. ap answered (w .1)) (ended (c .before .before))
 
 returns-2 : tie.Need-returns-2 Inv-digits μ-digits Inv-loop μ-loop
+unfolding readCall readAs
 returns-2 c =
-    let j = c .before in
-    let l = j .before .loop in
-    let text = content (j .before) in
-    ⊎-elim (λ w. ap (λ (line : ℕ). readFrom (9 - line) line (l .at) (l .entry) text) (sym (w .1)) ∙ l .inv .rest)
-    (λ w. absurd (omega (arith, w .0, c .if6 .left, l .inv .first)))
-    (ended j)
+    let l = c .before .before .loop in
+    let text = content (c .before .before) in
+    ⊎-elim (λ w. ap answered (ap (λ (line : ℕ). from line (l .at) (l .entry) text) (sym (w .1)) ∙ l .inv .rest)) (λ w. absurd (omega (arith, w .0, c .if3 .left)))
+    (ended (c .before))
 
 pub read-spec : {M : Type 1} → statement M
 read-spec =
@@ -300,23 +305,24 @@ read-spec =
     μ-loop
     no-record-requires
     loop-holds
-    sub-take-name
-    part-take-name-start
-    part-take-name-end
-    take-name-requires
-    add-from
+    kind-of-requires
+    begun-requires
     digits-holds
-    shared-slice-read-is-digit
-    is-digit-requires
+    shared-slice-read-advance
+    advance-requires
+    enum-known-next
+    enum-told
     add-end
     digits-less
     digits-again
-    feed-at-requires
-    sub-read-line
-    part-read-line-start
-    part-read-line-end
-    read-line-requires
-    add-at
+    sub-column
+    add-column
+    add-from
+    sub-feed
+    sub-with-value
+    part-with-value-start
+    part-with-value-end
+    with-value-requires
     add-line
     loop-less
     loop-again

@@ -10,7 +10,9 @@ no-record-requires c κs = search needs
 
 returns : tie.Need-returns
 unfolding refusedAt
-returns c = λ j. record { answer = BrokenRecord; line = c .before .args .line; taken = 0; content = c .no-record .ensures j }
+returns c =
+    let a = c .before .args in
+    λ j. record { answer = BrokenRecord; line = a .line; column = a .column; early = a .early; taken = 0; content = c .no-record .ensures j }
 
 pub refusal-spec : {M : Type 1} → statement M
 refusal-spec = tie.close (tie.spec no-record-requires returns)

@@ -5,8 +5,8 @@ use native.Mathlib.Omega.{arith}
 use lib.ListN.{length}
 use borrow.Author.Needs.{needs}
 use Rattle.record.specs.Text.{name, valueText}
-use Rattle.record.proofs.Names.{name-sizes, name-of-padded}
-use Rattle.record.proofs.Steps.{line-length}
+use Rattle.record.proofs.Names.{name-sizes, name-of-named}
+use Rattle.record.proofs.Lines.{line-length}
 use Rattle.record.proofs.Bounds.{value-most}
 use Rattle.record.proofs.writing.line_length.Statement.{statement}
 use Rattle.record.proofs.writing.line_length.Tie as tie
@@ -25,7 +25,7 @@ parts c =
     let n = c .before .name-of in
     let s = c .before .before in
     let line = s .args .line in (
-      name-of-padded line (n .result) (n .ensures) .0,
+      name-of-named line (n .result) (n .ensures) .0,
       name-sizes line .1,
       c .value-length .ensures,
       value-most line (s .pre .1 .0) (s .pre .1 .1) (s .args .entry) (s .pre .0),

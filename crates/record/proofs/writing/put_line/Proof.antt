@@ -9,7 +9,7 @@ use borrow.Author.Needs.{needs}
 use Rattle.digits.specs.Room.{lineOf, put}
 use Rattle.digits.proofs.Room.{put-inside, put-count}
 use Rattle.record.specs.Text.{valueText, lineText}
-use Rattle.record.proofs.Names.{name-in-places, name-of-padded}
+use Rattle.record.proofs.Names.{name-in-places, name-of-named}
 use Rattle.record.proofs.Bounds.{value-most}
 use Rattle.record.proofs.writing.put_line.Statement.{statement}
 use Rattle.record.proofs.writing.put_line.Tie as tie
@@ -70,7 +70,7 @@ returns c =
     let n = named (valued p) in
     let a = entry n .args in
     p .put-line .ensures
-    ∙ ap₂ (λ (x y : List ℕ). put (lineOf x y) (now (a .out))) (name-of-padded (a .line) (n .name-of .result) (n .name-of .ensures) .1) (value-put (valued p))
+    ∙ ap₂ (λ (x y : List ℕ). put (lineOf x y) (now (a .out))) (name-of-named (a .line) (n .name-of .result) (n .name-of .ensures) .1) (value-put (valued p))
 
 pub put-line-spec : {M : Type 1} → statement M
 put-line-spec =

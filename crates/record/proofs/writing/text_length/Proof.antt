@@ -5,7 +5,7 @@ use Prim.Native.Nat.{ℕ, _+_, _-_, _≤_, _<_}
 use native.Mathlib.Omega.{arith}
 use lib.ListN.{length}
 use borrow.Author.Needs.{needs}
-use Rattle.record.specs.declared.lines.Record.{Record}
+use Rattle.record.specs.declared.form.Record.{Record}
 use Rattle.record.specs.Form.{broken}
 use Rattle.record.specs.Text.{textFrom, textOf, mostBytes}
 use Rattle.record.proofs.Chains.{text-more, Sound, broken-rule}

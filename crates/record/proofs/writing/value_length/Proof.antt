@@ -6,6 +6,7 @@ use lib.ListN.{length}
 use borrow.Author.Needs.{needs}
 use Rattle.digits.specs.Hex.{hexOf}
 use Rattle.digits.specs.Numbers.{places}
+use Rattle.digits.specs.declared.hex.Case.the-variants.{Lower}
 use Rattle.digits.proofs.Spelling.{length-hex}
 use Rattle.digits.proofs.Numerals.{length-numeral}
 use Rattle.record.specs.declared.field.Field.{Field}
@@ -46,7 +47,7 @@ sized c =
     let number = sym (c .before .before .is-number .ensures) ∙ c .before .if1 .left in
     let in-form = ap isField same ∙ rule-is-field (s .args .line) (s .pre .1 .0) (s .pre .1 .1) number (s .args .entry) (s .pre .0) in
     let size = held-length f in-form (c .field-at .ensures .1) in
-    (omega (arith, size .0, length-hex (held f)) ∙ ap (λ (g : Field). length (hexOf (held g))) same, size .1)
+    (omega (arith, size .0, length-hex Lower (held f)) ∙ ap (λ (g : Field). length (hexOf (held g))) same, size .1)
 
 mul-result : tie.Need-mul-result
 mul-result c = record { fits = omega (arith, sized (c .before) .1) }

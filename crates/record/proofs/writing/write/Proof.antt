@@ -11,7 +11,7 @@ use borrow.Author.Tests.{le-leb, lt-leb, ne-eqb}
 use Rattle.answers.specs.declared.Answer.the-variants.{Done}
 use Rattle.digits.specs.Room.{laid, put}
 use Rattle.digits.proofs.Room.{put-fits, put-inside, put-count, behind, put-after}
-use Rattle.record.specs.declared.lines.Record.{Record}
+use Rattle.record.specs.declared.form.Record.{Record}
 use Rattle.record.specs.Form.{broken}
 use Rattle.record.specs.Text.{lineText, textFrom, textOf}
 use Rattle.record.specs.Calls.{writeLeaves, writeCall}
@@ -161,7 +161,7 @@ returns-3 c =
     l .inv .done ∙ ap (λ (k : ℕ). put (textFrom (k - 1) 1 (a .entry)) (now (a .out))) end in
     let whole = put-count (textOf (a .entry)) (now (a .out)) (l .out) (l .at) all (p .1) in
     rw (p .0, le-leb (length (textOf (a .entry))) (length (now (a .out))) (p .1))
-    (λ j. writeLeaves (record { answer = Done; line = 0; written = whole .0 j }) (whole .1 j))
+    (λ j. writeLeaves (record { answer = Done; line = 0; column = 0; written = whole .0 j }) (whole .1 j))
 
 pub write-spec : {M : Type 1} → statement M
 write-spec =

@@ -1,0 +1,12 @@
+-- Laws of lines.
+pub mod Columns
+pub mod Reach
+pub mod Grammar
+pub mod Numbers
+pub mod Hex
+pub mod Feeds
+pub mod Pairs
+pub mod Laws
+pub mod Walks
+pub mod Tables
+pub mod Values

@@ -1,0 +1,35 @@
+-- The definitions give the known answers, by computation.
+use mathlib.Core.Path.{refl}
+use Rattle.ascon.specs.Sets.{table, rowOf}
+use Rattle.digits.specs.Hex.{digitIn}
+use Rattle.lines.specs.Right.{named}
+use Rattle.lines.specs.Steps.{nameStep, feedStep, valueStep, stepOf, readOf}
+use Rattle.record.specs.Form.{fieldOf, withNumber, withField, blank, valueKind}
+use Rattle.record.specs.Text.{names, name, kindOf}
+use Rattle.record.specs.Calls.{withValue, given, refusedAt, readAs, readCall}
+use Rattle.record.specs.Known.{Known}
+
+pub known : Known
+unfolding readCall readOf stepOf nameStep feedStep valueStep kindOf named valueKind withValue given refusedAt readAs name names withNumber withField blank fieldOf rowOf table digitIn
+known = record {
+  whole-case = refl;
+  name = refl;
+  name-first = refl;
+  set-three = refl;
+  set-twelve = refl;
+  set-nought = refl;
+  first-digit = refl;
+  second-digit = refl;
+  both-digits = refl;
+  odd = refl;
+  other-key = refl;
+  too-few = refl;
+  carriage-return = refl;
+  needless-zero = refl;
+  eight-digits = refl;
+  no-digit = refl;
+  cut-name = refl;
+  cut-feed = refl;
+  missing = refl;
+  last-missing = refl;
+}

@@ -1,0 +1,13 @@
+-- `record::form::number_at` meets its contract.
+use borrow.Author.Tests.{eq-eqb, ne-eqb}
+use Rattle.record.proofs.form.number_at.Statement.{statement}
+use Rattle.record.proofs.form.number_at.Tie as tie
+
+returns : tie.Need-returns
+returns c = rw (eq-eqb _ 1 (c .if1 .taken))
+
+returns-2 : tie.Need-returns-2
+returns-2 c = rw (ne-eqb _ 1 (c .if1 .left))
+
+pub number-at-spec : {M : Type 1} → statement M
+number-at-spec = tie.close (tie.spec returns returns-2)
