@@ -3,7 +3,7 @@ use mathlib.Core.Bool.{Bool}
 use Prim.Native.Nat.{ℕ}
 use lib.Dec.{eqb}
 use Rattle.answers.specs.declared.Answer.{Answer}
-use Rattle.answers.specs.declared.Answer.the-variants.{Done, UnknownSet, KeyLength, NonceLength, TagLength, PastLimit, NoRoom, OutOfPhase, BrokenState, TagDiffers, BrokenRecord}
+use Rattle.answers.specs.declared.Answer.the-variants.{Done, UnknownSet, KeyLength, NonceLength, TagLength, PastLimit, NoRoom, OutOfPhase, BrokenState, TagDiffers, BrokenRecord, ChipLost}
 
 abbrev pub numberOf : Answer → ℕ
 numberOf Done = 0
@@ -17,6 +17,7 @@ numberOf OutOfPhase = 7
 numberOf BrokenState = 8
 numberOf TagDiffers = 9
 numberOf BrokenRecord = 10
+numberOf ChipLost = 11
 
 abbrev pub isDone : Answer → Bool
 isDone answer = eqb (numberOf answer) 0

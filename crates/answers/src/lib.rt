@@ -2,7 +2,7 @@
 ghost use mathlib.Core.Path.{_≡_};
 ghost use Rattle.answers.specs.Numbers.{numberOf, isDone};
 
-// What a call answers, in the order of the numbers 0 to 10.
+// What a call answers, in the order of the numbers 0 to 11.
 pub enum Answer {
     Done,
     UnknownSet,
@@ -15,6 +15,7 @@ pub enum Answer {
     BrokenState,
     TagDiffers,
     BrokenRecord,
+    ChipLost,
 }
 
 // The number of an answer.
@@ -33,6 +34,7 @@ pub fn number(answer: Answer) -> u64
         Answer::BrokenState => 8,
         Answer::TagDiffers => 9,
         Answer::BrokenRecord => 10,
+        Answer::ChipLost => 11,
     }
 }
 

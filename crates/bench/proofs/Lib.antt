@@ -3,4 +3,6 @@ pub mod Lines
 pub mod Stages
 pub mod Views
 pub mod Looks
+pub mod Answers
+pub mod Rooms
 pub mod Wrong

@@ -3,7 +3,7 @@ use mathlib.Core.Path.{_≡_, sym, ap, _∙_}
 use mathlib.Core.List.{List, _++_, append-assoc}
 use Prim.Native.Nat.{ℕ, _+_, _-_, _≤_}
 use native.Mathlib.Omega.{arith}
-use lib.ListN.{length, take, drop, length-append, length-drop}
+use lib.ListN.{length, take, drop, length-append, length-drop, length-take}
 use lib.Seq.{take-append-add, take-append-seam, take-all, length-take-le}
 use Rattle.digits.specs.Room.{laid, put}
 use Rattle.digits.proofs.Room.{put-count}
@@ -52,3 +52,7 @@ follows-more {at = at} {x = x} {y = y} {before = before} f g =
       stands = g .stands ∙ ap (λ (l : List ℕ). l ++ y) (f .stands) ∙ append-assoc (take at before) x y;
       same-length = g .same-length ∙ f .same-length;
     }
+
+-- a piece at the beginning ends within its place
+pub follows-inside : {end : ℕ} {piece before after : List ℕ} → Follows 0 piece end before after → end ≤ length after
+follows-inside {end = end} {after = after} f = omega (arith, f .ends, ap length (f .stands), length-take end after)

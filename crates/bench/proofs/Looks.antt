@@ -8,11 +8,12 @@ use lib.Dec.{eqb, leb}
 use lib.ListN.{length, take, drop, length-append, length-drop}
 use lib.Seq.{length-take-le, take-length, take-append-seam}
 use borrow.Author.Tests.{eq-eqb, ne-eqb, le-leb}
+use Rattle.record.specs.declared.form.Form.the-variants.{Two}
 use Rattle.record.specs.Text.{mostBytes}
 use Rattle.answers.specs.Numbers.{isDone}
 use Rattle.answers.proofs.Numbers.{done-is}
-use Rattle.record.specs.Calls.{readCall}
-use Rattle.record.proofs.Laws.{refused-takes, taken-inside}
+use Rattle.record.specs.Calls.{readAny}
+use Rattle.record.proofs.Any.{any-refused, any-inside}
 use Rattle.report.specs.declared.Verdict.{Verdict}
 use Rattle.report.specs.declared.Verdict.the-variants.{Unread}
 use Rattle.report.specs.Reports.{reportText}
@@ -37,7 +38,7 @@ pub record Looked (p : Progress) (buffer text : List ℕ) (step : Step) (after :
   pub sound : Sound (stepped p step) buffer after
 
 -- the places where only the stage changes
-sound-doing : (p : Progress) (buffer text : List ℕ) → Sound p buffer text → (stage : Stage) → (stage ≡ Read → p .filled - p .start < mostBytes) → Sound (doing stage p) buffer text
+sound-doing : (p : Progress) (buffer text : List ℕ) → Sound p buffer text → (stage : Stage) → (stage ≡ Read → p .filled - p .start < mostBytes Two) → Sound (doing stage p) buffer text
 sound-doing p buffer text sound stage reads =
     record {
       begins = sound .begins;
@@ -80,7 +81,7 @@ module _ (p : Progress) (buffer text : List ℕ) (sound : Sound p buffer text) (
   number = recordsOf (p .tally) + 1
 
   report : List ℕ
-  report = reportText number (verdictRead (readCall window))
+  report = reportText number (verdictRead (readAny window))
 
   -- the report has room
   room : length report ≤ 70
@@ -123,12 +124,12 @@ module _ (p : Progress) (buffer text : List ℕ) (sound : Sound p buffer text) (
       }
 
   -- more is wanted
-  waits : looked (view p buffer text) ≡ next Read (view p buffer text) → p .filled - p .start < mostBytes → Looked p buffer text Wait text
+  waits : looked (view p buffer text) ≡ next Read (view p buffer text) → p .filled - p .start < mostBytes Two → Looked p buffer text Wait text
   waits e h = record { takes = takes-none Wait refl; is = sym e; sound = sound-doing p buffer text sound Read (λ z. h) }
 
   -- a report stands in the text
-  reports : (taken : ℕ) (verdict : Verdict) → eqb (length window) 0 ≡ false → isFinal window (p .ended) ≡ true → readCall window .taken ≡ taken
-      → countedWith (p .tally) (verdictRead (readCall window)) ≡ countedWith (p .tally) verdict → taken ≤ length window
+  reports : (taken : ℕ) (verdict : Verdict) → eqb (length window) 0 ≡ false → isFinal window (p .ended) ≡ true → readAny window .taken ≡ taken
+      → countedWith (p .tally) (verdictRead (readAny window)) ≡ countedWith (p .tally) verdict → taken ≤ length window
       → (view (reporting p verdict taken (length report)) buffer (report ++ drop (length report) text) ≡ looked (view p buffer text))
       × Sound (reporting p verdict taken (length report)) buffer (report ++ drop (length report) text)
   unfolding window report number withReport
@@ -151,7 +152,7 @@ module _ (p : Progress) (buffer text : List ℕ) (sound : Sound p buffer text) (
   pub looks : (step : Step) (after : List ℕ) → stepLeaves step after ≡ stepCall (take (p .filled - p .start) (drop (p .start) buffer)) (p .ended) (recordsOf (p .tally) + 1) text
       → Looked p buffer text step after
   unfolding window report number stepCall stepBy
-  looks step after h = go (eqb (length window) 0) (p .ended) (isFinal window (p .ended)) (isDone (readCall window .answer)) refl refl refl refl
+  looks step after h = go (eqb (length window) 0) (p .ended) (isFinal window (p .ended)) (isDone (readAny window .answer)) refl refl refl refl
     where
       by-step : (s : Step) (l : List ℕ) → stepLeaves step after ≡ stepLeaves s l → Looked p buffer text s l → Looked p buffer text step after
       by-step s l e = subst⁻¹ (λ (leaves : StepLeaves). Looked p buffer text (leaves .step) (leaves .out)) e
@@ -159,10 +160,10 @@ module _ (p : Progress) (buffer text : List ℕ) (sound : Sound p buffer text) (
       fits : leb (length report) (length text) ≡ true
       fits = le-leb (length report) (length text) (omega (arith, room, sound .long))
 
-      waiting : stepLeaves step after ≡ stepLeaves Wait text → p .filled - p .start < mostBytes
+      waiting : stepLeaves step after ≡ stepLeaves Wait text → p .filled - p .start < mostBytes Two
       waiting e = omega (arith, length-window, judges .short-window window (p .ended) number text (sym (ap (λ (l : StepLeaves). l .step) h) ∙ ap (λ (l : StepLeaves). l .step) e))
 
-      go : (e t f d : Bool) → eqb (length window) 0 ≡ e → p .ended ≡ t → isFinal window (p .ended) ≡ f → isDone (readCall window .answer) ≡ d → Looked p buffer text step after
+      go : (e t f d : Bool) → eqb (length window) 0 ≡ e → p .ended ≡ t → isFinal window (p .ended) ≡ f → isDone (readAny window .answer) ≡ d → Looked p buffer text step after
       go true true f d ee et ef ed = by-step End text (h ∙ rw (ee, et)) (ends ee et)
       go true false f d ee et ef ed =
           let e : stepLeaves step after ≡ stepLeaves Wait text = h ∙ rw (ee, et) in
@@ -171,12 +172,12 @@ module _ (p : Progress) (buffer text : List ℕ) (sound : Sound p buffer text) (
           let e : stepLeaves step after ≡ stepLeaves Wait text = h ∙ rw (ee, ef) in
           by-step Wait text e (waits (run-looks ∙ rw (ee, ef)) (waiting e))
       go false t true true ee et ef ed =
-          let taken = taken-inside window (done-is (readCall window .answer) ed) .1 in
-          let both = reports (readCall window .taken) (verdictRead (readCall window)) ee ef refl refl taken in
-          by-step (Judged (verdictRead (readCall window)) (readCall window .taken) (length report)) (report ++ drop (length report) text) (h ∙ rw (ee, ef, fits, ed, take-length))
+          let taken = any-inside window (done-is (readAny window .answer) ed) .1 in
+          let both = reports (readAny window .taken) (verdictRead (readAny window)) ee ef refl refl taken in
+          by-step (Judged (verdictRead (readAny window)) (readAny window .taken) (length report)) (report ++ drop (length report) text) (h ∙ rw (ee, ef, fits, ed, take-length))
           (record { takes = record { inside = both .1 .begins; few = sound .few }; is = both .0; sound = both .1 })
       go false t true false ee et ef ed =
           let unread = ap (countedWith (p .tally)) (judges .unread window ed) in
-          let both = reports 0 (Unread (readCall window .line) (readCall window .column)) ee ef (refused-takes window ed .0) unread (omega arith) in
-          by-step (Stopped (readCall window .line) (readCall window .column) (length report)) (report ++ drop (length report) text) (h ∙ rw (ee, ef, fits, ed, take-length))
+          let both = reports 0 (Unread (readAny window .line) (readAny window .column)) ee ef (any-refused window ed) unread (omega arith) in
+          by-step (Stopped (readAny window .line) (readAny window .column) (length report)) (report ++ drop (length report) text) (h ∙ rw (ee, ef, fits, ed, take-length))
           (record { takes = record { inside = both .1 .begins; few = sound .few }; is = both .0; sound = both .1 })

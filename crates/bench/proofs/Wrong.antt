@@ -9,11 +9,15 @@ use Rattle.bench.specs.Wrong.{RuledOut}
 use Rattle.bench.proofs.progress.hear.Reads as hear
 use Rattle.bench.proofs.progress.after_read.Reads as after-read
 use Rattle.bench.proofs.tally.counted.Reads as counted
+use Rattle.bench.proofs.whole.after_read.Reads as read-whole
+use Rattle.bench.proofs.whole.after_write.Reads as write-whole
 
 -- each by the contract as the kit reads it off the source
 pub ruled-out : RuledOut (λ count error r. hear.Learnt tt (count, (error, tt)) r (count, (error, tt)))
     (λ p heard r. after-read.Learnt tt (p, (heard, tt)) r (p, (heard, tt)))
     (λ tally verdict r. counted.Learnt tt (tally, (verdict, tt)) r (tally, (verdict, tt)))
+    (λ filled heard r. read-whole.Learnt tt (filled, (heard, tt)) r (filled, (heard, tt)))
+    (λ from heard r. write-whole.Learnt tt (from, (heard, tt)) r (from, (heard, tt)))
 ruled-out =
     record {
       signal = λ allowed. let z : _≡_ {A = ℕ} 0 1 = cc allowed in omega arith;
@@ -21,4 +25,7 @@ ruled-out =
       failure = λ p allowed close. let z : _≡_ {A = ℕ} 0 1 = cc (sym close ∙ ap (λ (q : Progress). q .stage) allowed) in omega arith;
       tag = λ t allowed one. let none : _≡_ {A = ℕ} 1 0 = sym one ∙ ap (λ (t : Tally). t .equal) allowed in omega arith;
       column = λ t allowed none. let kept : _≡_ {A = ℕ} 0 17 = sym none ∙ ap (λ (t : Tally). t .column) allowed in omega arith;
+      input-failure = λ filled size allowed. let z : _≡_ {A = ℕ} 0 1 = cc allowed in omega arith;
+      input-end = λ filled size allowed. let z : _≡_ {A = ℕ} 0 1 = cc allowed in omega arith;
+      output-nothing = λ from allowed. let z : _≡_ {A = ℕ} 0 1 = cc allowed in omega arith;
     }

@@ -1,4 +1,7 @@
 -- The program's places, and how they show its run.
 pub mod Lines
 pub mod Progress
+pub mod Whole
+pub mod Moves
+pub mod Tasks
 pub mod Wrong

@@ -6,6 +6,7 @@ use Prim.Native.Nat.{ℕ, _+_, _-_, _≤_, _<_}
 use lib.Dec.{eqb}
 use lib.IntN.{ℤ, pos, negsuc}
 use lib.ListN.{length, take, drop}
+use Rattle.record.specs.declared.form.Form.the-variants.{Two}
 use Rattle.record.specs.Text.{mostBytes}
 use Rattle.report.specs.declared.Verdict.{Verdict}
 use Rattle.report.specs.declared.Verdict.the-variants.{Unread}
@@ -118,8 +119,8 @@ movedBy Failed = 0
 pub record Sound (p : Progress) (buffer text : List ℕ) : Type 0 where
   pub begins : p .start ≤ p .filled
   pub inside : p .filled ≤ length buffer
-  pub wide : mostBytes < length buffer
-  pub room : p .stage ≡ Read → p .filled - p .start < mostBytes
+  pub wide : mostBytes Two < length buffer
+  pub room : p .stage ≡ Read → p .filled - p .start < mostBytes Two
   pub from-size : p .from ≤ p .size
   pub size-text : p .size ≤ length text
   pub long : 256 ≤ length text

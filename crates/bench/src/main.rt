@@ -1,20 +1,25 @@
-// The bench: judges the records that stand one after another on standard input, writes three lines on each to standard output, and at its proper end says on
+// The bench. Without a word: judges the records that stand one after another on standard input, writes three lines on each to standard output, and at its proper end says on
 // standard error where the unread record broke, if there is one, and how many it judged, and how. What fails is said there in its place; a record that a failed read
-// cut off gets no report.
+// cut off gets no report. With the word `forward` or `back`: moves the records to form 2 or to form 1, and writes all of them to standard output, or nothing.
+mod moves;
 mod progress;
 mod tally;
+mod whole;
 
 ghost use mathlib.Core.Path.{_≡_};
 ghost use Prim.Native.Nat.{_-_, _≤_, _<_};
 ghost use lib.ListN.{length, take, drop};
+ghost use Rattle.record.specs.declared.form.Form.the-variants.{Two};
 ghost use Rattle.record.specs.Text.{mostBytes};
 ghost use Rattle.turns.specs.Tallies.{recordsOf, largest};
 ghost use Rattle.turns.specs.Run.{judged};
 ghost use Rattle.bench.specs.Progress.{movedBy, Sound, view, More, Less, Closed};
 ghost use Rattle.turns.specs.Laws.{OneAnswer, Turned, Ran};
+ghost use Rattle.bench.specs.Tasks.{taskOf};
 use libc::STDIN_FILENO;
 use progress::Heard;
 use progress::Progress;
+use record::Form;
 use turns::Ending;
 use turns::Stage;
 use turns::Tally;
@@ -148,7 +153,7 @@ fn turn(buffer: &mut [u8], text: &mut [u8], mut p: Progress) -> Progress
 // Turn after turn until nothing is left to do. A proved loop has to end, and nothing says that the input does: it counts its turns down, from a number that no run
 // uses up.
 fn run(buffer: &mut [u8], text: &mut [u8]) -> Progress
-    requires { ⌜ mostBytes < length (now buffer) ⌝ }
+    requires { ⌜ mostBytes Two < length (now buffer) ⌝ }
     requires { ⌜ 256 ≤ length (now text) ⌝ }
     ensures { λ r. ⌜ Ran (view r (now (buffer .exit)) (now (text .exit))) ⌝ }
 {
@@ -196,10 +201,51 @@ fn explain(stage: Stage) {
     }
 }
 
-fn main() {
+// What the program is asked to do.
+pub enum Task {
+    Judge,
+    Forward,
+    Back,
+    Unknown,
+}
+
+// The task that so many words name, of which the first is the program's own and this is the second.
+fn task_of(words: usize, word: &[u8]) -> Task
+    ensures { λ r. ⌜ r ≡ taskOf words (now (word .entry)) ⌝ }
+{
+    if words <= 1 {
+        return Task::Judge;
+    }
+    if words != 2 {
+        return Task::Unknown;
+    }
+    if check::same(word, b"forward") {
+        return Task::Forward;
+    }
+    if check::same(word, b"back") {
+        return Task::Back;
+    }
+    Task::Unknown
+}
+
+// Judges the records on standard input.
+fn judge_all() {
     let mut space = io::large_buffer();
     let mut report = [0; 256];
     let p = run(&mut space, &mut report);
     let stage = p.stage;
     explain(stage);
+}
+
+fn main() {
+    let mut word = [0; 16];
+    let size = os::arg(1, &mut word);
+    match task_of(os::arg_count(), &word[..size]) {
+        Task::Judge => judge_all(),
+        Task::Forward => moves::carry(Form::Two),
+        Task::Back => moves::carry(Form::One),
+        Task::Unknown => {
+            io::write_all(libc::STDERR_FILENO, b"bench: unknown task\n");
+        }
+    }
 }

@@ -33,7 +33,7 @@ pub(crate) fn counted(mut tally: Tally, verdict: Verdict) -> Tally
 }
 
 // Puts a piece of text straight behind the first `at` bytes of a place that has room for it, and gives where it ends.
-fn put_piece(at: usize, piece: &[u8], out: &mut [u8]) -> usize
+pub(crate) fn put_piece(at: usize, piece: &[u8], out: &mut [u8]) -> usize
     requires { ⌜ at + length (now piece) ≤ length (now out) ⌝ }
     ensures { λ r. ⌜ Follows at (now (piece .entry)) r (now (out .entry)) (now (out .exit)) ⌝ }
 {
@@ -41,7 +41,7 @@ fn put_piece(at: usize, piece: &[u8], out: &mut [u8]) -> usize
 }
 
 // Puts a text and a number straight behind the first `at` bytes of a place that has room for them, and gives where they end.
-fn put_numbered(at: usize, text: &[u8], number: u64, out: &mut [u8]) -> usize
+pub(crate) fn put_numbered(at: usize, text: &[u8], number: u64, out: &mut [u8]) -> usize
     requires { ⌜ at + length (now text) + 20 ≤ length (now out) ⌝ }
     ensures { λ r. ⌜ Follows at (numbered (now (text .entry)) number) r (now (out .entry)) (now (out .exit)) ⌝ }
     ensures { λ r. ⌜ r ≤ at + length (now (text .entry)) + 20 ⌝ }

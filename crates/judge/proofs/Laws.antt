@@ -1,7 +1,7 @@
 -- What the verdicts and the steps promise.
 use Rattle.judge.specs.Laws.{Judges}
 use Rattle.judge.proofs.Differences.{tells, behind-common}
-use Rattle.judge.proofs.Verdicts.{equal-agrees, agrees-equal, other-cipher, read-verdict, unread-verdict, report-short}
+use Rattle.judge.proofs.Verdicts.{equal-agrees, agrees-equal, other-cipher, read-verdict, unread-verdict, report-short, no-chip}
 use Rattle.judge.proofs.Windows.{final-window, final-step}
 use Rattle.judge.proofs.Sizes.{step-inside, short-window, step-waits}
 use Rattle.judge.proofs.Outputs.{no-output, goes-on, stops, in-a-row, wrong-verdict}
@@ -26,5 +26,6 @@ judges =
       goes-on = goes-on;
       stops = stops;
       in-a-row = in-a-row;
+      chip = no-chip;
       wrong-at = wrong-verdict;
     }

@@ -7,6 +7,7 @@ use Prim.Native.Nat.{ℕ, _≤_}
 use lib.Dec.{eqb}
 use lib.ListN.{length}
 use Rattle.answers.specs.Order.{_when_, first}
+use Rattle.record.specs.declared.form.Form.the-variants.{One}
 use Rattle.record.specs.declared.form.Record.{Record}
 use Rattle.record.specs.Form.{held, broken}
 use Rattle.report.specs.declared.Verdict.{Verdict}
@@ -29,7 +30,7 @@ abbrev pub verdictBefore : Record → Verdict
 verdictBefore r =
     first
     Equal
-    (Unread (broken r) 0 when not (eqb (broken r) 0)
+    (Unread (broken One r) 0 when not (eqb (broken One r) 0)
     ∷ Rounds when not (eqb (r .rounds) (ourRounds r))
     ∷ Cipher when not (equalBefore (ourSealing r .cipher) (held (r .cipher)))
     ∷ Tag when not (equalBefore (ourSealing r .tag) (held (r .tag)))

@@ -7,7 +7,7 @@ use lib.ListN.{length, take, drop}
 use Rattle.answers.specs.Numbers.{isDone}
 use Rattle.answers.specs.Order.{Choice, _when_, first}
 use Rattle.record.specs.declared.reading.Reading.{Reading}
-use Rattle.record.specs.Calls.{readCall}
+use Rattle.record.specs.Calls.{readAny}
 use Rattle.report.specs.declared.Verdict.{Verdict}
 use Rattle.report.specs.declared.Verdict.the-variants.{Unread}
 use Rattle.report.specs.Reports.{reportText}
@@ -27,7 +27,7 @@ isFinalIn reading ended = ended || not (reading .early)
 
 -- what a window tells is final
 abbrev pub isFinal : List ℕ → Bool → Bool
-isFinal window ended = isFinalIn (readCall window) ended
+isFinal window ended = isFinalIn (readAny window) ended
 
 -- a step, and what the place of the report then holds
 pub record StepLeaves : Type 0 where
@@ -74,7 +74,7 @@ stepBy reading number out choices =
 -- a step on a window
 unfoldable pub stepCall : List ℕ → Bool → ℕ → List ℕ → StepLeaves
 stepCall window ended number out =
-    let reading = readCall window in
+    let reading = readAny window in
     stepBy reading number out (stepChoices reading (length window) ended number (length out))
 
 -- ---- the whole output
@@ -84,7 +84,7 @@ abbrev pub verdictsIn : ℕ → List ℕ → List Verdict
 verdictsIn zero text = []
 verdictsIn (suc steps) text =
     cond (eqb (length text) 0) []
-    (verdictRead (readCall text) ∷ cond (isDone (readCall text .answer)) (verdictsIn steps (drop (readCall text .taken) text)) [])
+    (verdictRead (readAny text) ∷ cond (isDone (readAny text .answer)) (verdictsIn steps (drop (readAny text .taken) text)) [])
 
 -- the verdicts on an input's records: no more steps than bytes
 unfoldable pub verdictsOf : List ℕ → List Verdict

@@ -8,6 +8,7 @@ use Rattle.answers.specs.Order.{Choice, _when_, first}
 use Rattle.ascon.specs.Sets.{rowOf}
 use Rattle.ascon.specs.Mode.{Sealed, sealed}
 use Rattle.ascon.specs.Rounds.{messageRounds}
+use Rattle.record.specs.declared.form.Form.the-variants.{One}
 use Rattle.record.specs.declared.form.Record.{Record}
 use Rattle.record.specs.Form.{fieldOf, held, broken}
 use Rattle.report.specs.declared.Verdict.{Verdict}
@@ -23,10 +24,10 @@ ourSealing r = sealed (rowOf (r .set)) (held (r .key)) (held (r .nonce)) (held (
 unfoldable pub ourRounds : Record → ℕ
 ourRounds r = messageRounds (rowOf (r .set)) (length (held (r .ad))) (length (held (r .text)))
 
--- the verdicts but equal, in their order: out of form, at its first broken line, without a column, since no text was read; rounds; cipher; tag
+-- the verdicts but equal, in their order: out of form by form 1's rules and line numbers, which leave the chip aside, without a column, since no text was read; rounds; cipher; tag
 abbrev pub differences : Record → List (Choice Verdict)
 differences r =
-    Unread (broken r) 0 when not (eqb (broken r) 0)
+    Unread (broken One r) 0 when not (eqb (broken One r) 0)
     ∷ Rounds when not (eqb (r .rounds) (ourRounds r))
     ∷ Cipher when differ (ourSealing r .cipher) (held (r .cipher))
     ∷ Tag when differ (ourSealing r .tag) (held (r .tag))

@@ -90,7 +90,7 @@ pub fn judge_window(window: &[u8], ended: bool, number: u64, out: &mut [u8]) -> 
         }
         return Step::Wait;
     }
-    let reading = record::read(window);
+    let reading = record::read_any(window);
     if !is_final(reading.early, ended) {
         return Step::Wait;
     }

@@ -3,12 +3,14 @@ ghost use mathlib.Core.Path.{_≡_};
 ghost use mathlib.Core.Bool.{true};
 ghost use Prim.Native.Nat.{_≤_};
 ghost use Rattle.ascon.specs.Sets.{isSet, rowOf};
+ghost use Rattle.record.specs.declared.form.Form.the-variants.{One};
 ghost use Rattle.record.specs.Form.{held, broken};
 ghost use Rattle.judge.specs.Difference.{differ};
 ghost use Rattle.judge.specs.Verdicts.{verdictOn, oursOf, oursBy};
 use crate::difference;
 use crate::difference::Difference;
 use record::Field;
+use record::Form;
 use record::Record;
 use report::Verdict;
 
@@ -80,7 +82,7 @@ fn seal_fields(set: u64, key: Field, nonce: Field, ad: Field, text: Field) -> Ou
 
 // Our own sealing of the text of a record in form.
 fn seal_record(entry: Record) -> Ours
-    requires { ⌜ broken entry ≡ 0 ⌝ }
+    requires { ⌜ broken One entry ≡ 0 ⌝ }
     ensures { λ r. ⌜ r ≡ oursOf entry ⌝ }
     ensures { λ r. ⌜ r .cipher .size ≤ 256 ⌝ }
     ensures { λ r. ⌜ r .tag .size ≤ 256 ⌝ }
@@ -96,7 +98,7 @@ fn seal_record(entry: Record) -> Ours
 pub fn judge(entry: Record) -> Verdict
     ensures { λ r. ⌜ r ≡ verdictOn entry ⌝ }
 {
-    let bad = record::first_broken(entry);
+    let bad = record::first_broken(Form::One, entry);
     if bad != 0 {
         return Verdict::Unread {
             line: bad,

@@ -12,7 +12,7 @@ use Rattle.answers.specs.declared.Answer.the-variants.{Done, NoRoom}
 use Rattle.answers.specs.Numbers.{numberOf, isDone}
 use Rattle.answers.specs.Order.{first, _when_}
 use Rattle.record.specs.declared.form.Record.{Record}
-use Rattle.record.specs.Calls.{readCall}
+use Rattle.record.specs.Calls.{readAny}
 use Rattle.report.specs.declared.Verdict.{Verdict}
 use Rattle.report.specs.declared.Verdict.the-variants.{Equal}
 use Rattle.report.specs.Reports.{reportText, ReportLeaves, reportLeaves, reportFaults, reportCall}
@@ -88,7 +88,7 @@ unfolding verdictOn
 judge-said r = refl
 
 -- a step
-step-said : (window : List ℕ) (over : Bool) (number : ℕ) (out : List ℕ) → let reading = readCall window in
+step-said : (window : List ℕ) (over : Bool) (number : ℕ) (out : List ℕ) → let reading = readAny window in
     let size = length (reportText number (verdictRead reading)) in
     stepCall window over number out .step ≡ first (Judged (verdictRead reading) (reading .taken) size) (stepChoices reading (length window) over number (length out))
 unfolding stepCall stepBy
@@ -104,7 +104,7 @@ step-kept window over number out = go
     step = stepCall window over number out .step
 
     text : List ℕ
-    text = reportText number (verdictRead (readCall window))
+    text = reportText number (verdictRead (readAny window))
 
     go : (step ≡ End) ⊎ ((step ≡ Wait) ⊎ (step ≡ Short)) → take (writtenBy step) text ++ drop (writtenBy step) out ≡ out
     go (inl e) = ap (λ (s : Step). take (writtenBy s) text ++ drop (writtenBy s) out) e
@@ -112,7 +112,7 @@ step-kept window over number out = go
     go (inr (inr e)) = ap (λ (s : Step). take (writtenBy s) text ++ drop (writtenBy s) out) e
 
 -- each answer is listed
-pub listed : Listed readCall ours
+pub listed : Listed readAny ours
 listed =
     record {
       judge = judge-said;
@@ -152,18 +152,18 @@ report-reports number verdict out = go (leb (length text) (length out))
 
 -- a step that has a report
 step-reports : (window : List ℕ) (over : Bool) (number : ℕ) (out : List ℕ) → let leaves = stepCall window over number out in
-    let text = reportText number (verdictRead (readCall window)) in
+    let text = reportText number (verdictRead (readAny window)) in
     ((leaves .step ≡ End) ⊎ ((leaves .step ≡ Wait) ⊎ (leaves .step ≡ Short)) → ⊥) → leaves .out ≡ text ++ drop (length text) out
 unfolding stepCall stepBy
 step-reports window over number out =
-    go (eqb (length window) 0 && over) (eqb (length window) 0 || not (isFinal window over)) (leb (length text) (length out)) (isDone (readCall window .answer))
+    go (eqb (length window) 0 && over) (eqb (length window) 0 || not (isFinal window over)) (leb (length text) (length out)) (isDone (readAny window .answer))
   where
     text : List ℕ
-    text = reportText number (verdictRead (readCall window))
+    text = reportText number (verdictRead (readAny window))
 
     go : (over more room done : Bool)
-        → let step = first (Judged (verdictRead (readCall window)) (readCall window .taken) (length text))
-        (End when over ∷ Wait when more ∷ Short when not room ∷ Stopped (readCall window .line) (readCall window .column) (length text) when not done ∷ []) in
+        → let step = first (Judged (verdictRead (readAny window)) (readAny window .taken) (length text))
+        (End when over ∷ Wait when more ∷ Short when not room ∷ Stopped (readAny window .line) (readAny window .column) (length text) when not done ∷ []) in
         ((step ≡ End) ⊎ ((step ≡ Wait) ⊎ (step ≡ Short)) → ⊥) → take (writtenBy step) text ++ drop (writtenBy step) out ≡ text ++ drop (length text) out
     go true more room done other = absurd (other (inl refl))
     go false true room done other = absurd (other (inr (inl refl)))
@@ -172,7 +172,7 @@ step-reports window over number out =
     go false false true false other = rw take-length
 
 -- what each reports and leaves
-pub reported : Reported readCall ours
+pub reported : Reported readAny ours
 reported =
     record {
       report = report-reports;

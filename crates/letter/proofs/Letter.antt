@@ -13,6 +13,10 @@ use Rattle.history.proofs.History.{history-law}
 use Rattle.lines.proofs.Laws.{reads-lines}
 use Rattle.record.proofs.Known as record-crate
 use Rattle.record.proofs.Laws.{reads-and-writes}
+use Rattle.record.proofs.TwoForms.{two-forms}
+use Rattle.record.proofs.Any.{reads-any}
+use Rattle.moving.proofs.Known as moving-crate
+use Rattle.moving.proofs.Laws.{moves}
 use Rattle.judge.proofs.Laws.{judges}
 use Rattle.turns.proofs.Runs.{whole-reports}
 use Rattle.letter.specs.Model.{Reported}
@@ -43,6 +47,10 @@ letter =
       opened-bytes = λ set K N A C key k h. bytes-decrypted (rowOf set) (row-fits set) K key N A k C h;
       lines = reads-lines;
       records = reads-and-writes;
+      two-forms = two-forms;
+      any-form = reads-any;
+      moving = moves;
+      known-movings = moving-crate.known;
       known-records = record-crate.known;
       judging = judges;
       program = whole-reports;

@@ -8,21 +8,23 @@ use native.Mathlib.Omega.{arith}
 use lib.ListN.{length, drop}
 use lib.Dec.{eqb, leb}
 use borrow.Author.Tests.{eqb-true}
-use Rattle.answers.specs.declared.Answer.the-variants.{Done, NoRoom, BrokenRecord}
+use Rattle.answers.specs.declared.Answer.{Answer}
+use Rattle.answers.specs.declared.Answer.the-variants.{Done, NoRoom, BrokenRecord, ChipLost}
 use Rattle.answers.specs.Numbers.{numberOf, isDone}
 use Rattle.answers.specs.Order.{first, _when_}
-use Rattle.answers.proofs.Numbers.{done-is}
+use Rattle.record.specs.declared.form.Form.{Form}
 use Rattle.record.specs.declared.form.Record.{Record}
 use Rattle.record.specs.declared.reading.Reading.{Reading}
-use Rattle.record.specs.Form.{blank, broken}
+use Rattle.record.specs.Form.{broken, losesChip}
 use Rattle.record.specs.Text.{textOf}
-use Rattle.record.specs.Calls.{refusedAt, readAs, readCall, WriteLeaves, writeLeaves, writeFaults, writeCall}
-use Rattle.record.proofs.Laws.{reads-and-writes, refused-takes, taken-inside}
+use Rattle.record.specs.Calls.{refusedAt, readAs, readCall, formOf, insideMark, readAny, WriteLeaves, writeLeaves, refusedWith, writeFaults, writeCall}
+use Rattle.record.proofs.Laws.{reads-and-writes, taken-inside}
+use Rattle.record.proofs.Any.{reads-any}
 use Rattle.digits.proofs as digits
 use Rattle.lines.proofs as lines
 use Rattle.record.proofs as record-crate
-use Rattle.letter.specs.Calls.{lent, Refused}
-use Rattle.letter.specs.Records.{IsRead, Model, ours, Keeps, EveryCall, Listed, Unchanged, Reported}
+use Rattle.letter.specs.Calls.{lent}
+use Rattle.letter.specs.Records.{IsRead, HandsBackNothing, Model, ours, Keeps, EveryCall, Listed, Unchanged, Reported}
 use Rattle.letter.proofs.Calls.{answered, lifetimes, Says, done-says, says}
 
 -- ---- the calls
@@ -31,16 +33,18 @@ use Rattle.letter.proofs.Calls.{answered, lifetimes, Says, done-says, s
 pub is-ours : (m : Model) → Keeps m → m ≡ ours
 is-ours m k =
     λ j. record {
-      read = λ text. k .read (lent text) (lifetimes 1) j;
-      write = λ entry out. k .write entry (lent out) (lifetimes 1) j;
+      read = λ form text. k .read form (lent text) (lifetimes 1) j;
+      read-any = λ text. k .read-any (lent text) (lifetimes 1) j;
+      write = λ form entry out. k .write form entry (lent out) (lifetimes 1) j;
     }
 
 -- and ours keep them
 pub keeps : Keeps ours
 keeps =
     record {
-      read = λ text κ. refl;
-      write = λ entry out κ. refl;
+      read = λ form text κ. refl;
+      read-any = λ text κ. refl;
+      write = λ form entry out κ. refl;
     }
 
 -- each is answered
@@ -62,124 +66,142 @@ every-call =
       lines-either = answered (λ M. lines.either.Met.met) (λ κ a. tt) (λ κ a r e p. p);
       record-first-broken = answered (λ M. record-crate.first_broken.Met.met) (λ κ a. tt) (λ κ a r e p. p);
       record-read = answered (λ M. record-crate.read.Met.met) (λ κ a. tt) (λ κ a r e p. p);
+      record-read-any = answered (λ M. record-crate.read_any.Met.met) (λ κ a. tt) (λ κ a r e p. p);
       record-write = answered (λ M. record-crate.write.Met.met) (λ κ a. tt) (λ κ a r e p. p);
     }
 
 -- ---- what they answer, and what a refusal leaves
 
 -- a text that is read, in its parts
-is-read : (text : List ℕ) → readCall text ≡ readAs (readCall text .taken) (readCall text .content) → IsRead text (readCall text)
+is-read : (form : Form) (text : List ℕ) → let reading = readCall form text in
+    reading ≡ readAs (reading .taken) (reading .content) → IsRead form text reading
 unfolding readAs
-is-read text e =
+is-read form text e =
     let d = ap (λ (r : Reading). r .answer) e in
     record {
       done = d;
       no-line = ap (λ (r : Reading). r .line) e;
       no-column = ap (λ (r : Reading). r .column) e;
       not-early = ap (λ (r : Reading). r .early) e;
-      begun = reads-and-writes .exactly text .0 d;
-      inside = taken-inside text d .1;
-      spelled = reads-and-writes .spelled text d;
-      in-form = reads-and-writes .read-in-form text d .0;
-      typed = reads-and-writes .read-in-form text d .1;
+      begun = reads-and-writes form .exactly text .0 d;
+      inside = taken-inside form text d .1;
+      spelled = reads-and-writes form .spelled text d;
+      spellable = reads-and-writes form .read-in-form text d;
     }
 
 -- a text is read, or it is 10
-read-said : (text : List ℕ) → IsRead text (readCall text) ⊎ (readCall text .answer ≡ BrokenRecord)
+pub read-said : (form : Form) (text : List ℕ) → IsRead form text (readCall form text) ⊎ (readCall form text .answer ≡ BrokenRecord)
 unfolding refusedAt
-read-said text = ⊎-elim (λ e. inl (is-read text e)) (λ e. inr (ap (λ (r : Reading). r .answer) e)) (reads-and-writes .answered text)
+read-said form text = ⊎-elim (λ e. inl (is-read form text e)) (λ e. inr (ap (λ (r : Reading). r .answer) e)) (reads-and-writes form .answered text)
+
+-- so it is of a text in its own form
+any-said : (text : List ℕ) → IsRead (formOf text) text (readAny text) ⊎ (readAny text .answer ≡ BrokenRecord)
+unfolding refusedAt
+any-said text = go (insideMark text) refl
+  where
+    go : (b : Bool) → insideMark text ≡ b → IsRead (formOf text) text (readAny text) ⊎ (readAny text .answer ≡ BrokenRecord)
+    go true e = inr (ap (λ (r : Reading). r .answer) (reads-any .inside text e .0))
+    go false e = rw (reads-any .by-form text e) (read-said (formOf text) text)
 
 -- a refused reading hands back nothing
-read-kept : (text : List ℕ) → Refused (readCall text .answer) → (readCall text .taken ≡ 0) × (readCall text .content ≡ blank)
-read-kept text r = go (isDone (readCall text .answer)) refl
-  where
-    go : (b : Bool) → isDone (readCall text .answer) ≡ b → (readCall text .taken ≡ 0) × (readCall text .content ≡ blank)
-    go true e = absurd (r .0 (done-is (readCall text .answer) e))
-    go false e = refused-takes text e
+kept : (reading : Reading) → (reading ≡ readAs (reading .taken) (reading .content)) ⊎ (reading ≡ refusedAt (reading .line) (reading .column) (reading .early))
+    → HandsBackNothing reading
+unfolding refusedAt readAs
+kept reading (inl e) r = absurd (r .0 (ap (λ (q : Reading). q .answer) e))
+kept reading (inr e) r = (ap (λ (q : Reading). q .taken) e, ap (λ (q : Reading). q .content) e)
 
--- a writing, by its two tests
-record Writes (r : Record) (out : List ℕ) : Type 0 where
-  said : Says (writeCall r out .outcome .answer) (first Done (writeFaults r (length out)))
-      ((writeCall r out .out ≡ out) × (writeCall r out .outcome .written ≡ 0))
-  line : writeCall r out .outcome .line ≡ broken r
-  column : writeCall r out .outcome .column ≡ 0
+-- ---- writing
 
--- a writing keeps its list
-write-said : (r : Record) (out : List ℕ) → Writes r out
-unfolding writeCall
-write-said r out = record {
-  said = go (eqb (broken r) 0) (leb (length (textOf r)) (length out));
-  line = at-line (eqb (broken r) 0) (leb (length (textOf r)) (length out)) refl;
-  column = at-column (eqb (broken r) 0) (leb (length (textOf r)) (length out));
-}
-  where
-    done : WriteLeaves
-    done = writeLeaves (record { answer = Done; line = 0; column = 0; written = length (textOf r) }) (textOf r ++ drop (length (textOf r)) out)
+module _ (form : Form) (r : Record) (out : List ℕ) where
+  -- what is left by a writing, by its three tests
+  done : WriteLeaves
+  done = writeLeaves (record { answer = Done; line = 0; column = 0; written = length (textOf form r) }) (textOf form r ++ drop (length (textOf form r)) out)
 
-    leaves : Bool → Bool → WriteLeaves
-    leaves t room =
-        let answer = first Done (BrokenRecord when not t ∷ NoRoom when not room ∷ []) in
-        cond (isDone answer) done (writeLeaves (record { answer = answer; line = broken r; column = 0; written = 0 }) out)
+  answer : Bool → Bool → Bool → Answer
+  answer t lost room = first Done (BrokenRecord when not t ∷ ChipLost when lost ∷ NoRoom when not room ∷ [])
 
-    go : (t room : Bool) → Says (leaves t room .outcome .answer) (first Done (BrokenRecord when not t ∷ NoRoom when not room ∷ []))
-        ((leaves t room .out ≡ out) × (leaves t room .outcome .written ≡ 0))
-    go true true = done-says _ _ refl
-    go true false = says _ _ (refl, refl)
-    go false room = says _ _ (refl, refl)
+  leaves : Bool → Bool → Bool → WriteLeaves
+  leaves t lost room = cond (isDone (answer t lost room)) done (writeLeaves (refusedWith (answer t lost room) (broken form r)) out)
 
-    at-line : (t room : Bool) → eqb (broken r) 0 ≡ t → leaves t room .outcome .line ≡ broken r
-    at-line true true e = sym (eqb-true (broken r) 0 e)
-    at-line true false e = refl
-    at-line false room e = refl
+  -- its answer, and what a refusal leaves
+  said : (t lost room : Bool) → Says (leaves t lost room .outcome .answer) (answer t lost room) ((leaves t lost room .out ≡ out) × (leaves t lost room .outcome .written ≡ 0))
+  unfolding done answer leaves refusedWith
+  said true false true = done-says _ _ refl
+  said true false false = says _ _ (refl, refl)
+  said true true room = says _ _ (refl, refl)
+  said false lost room = says _ _ (refl, refl)
 
-    at-column : (t room : Bool) → leaves t room .outcome .column ≡ 0
-    at-column true true = refl
-    at-column true false = refl
-    at-column false room = refl
+  -- its line and column
+  at-line : (t lost room : Bool) → eqb (broken form r) 0 ≡ t → leaves t lost room .outcome .line ≡ broken form r
+  unfolding done answer leaves refusedWith
+  at-line true false true e = sym (eqb-true (broken form r) 0 e)
+  at-line true false false e = refl
+  at-line true true room e = refl
+  at-line false lost room e = refl
+
+  at-column : (t lost room : Bool) → leaves t lost room .outcome .column ≡ 0
+  unfolding done answer leaves refusedWith
+  at-column true false true = refl
+  at-column true false false = refl
+  at-column true true room = refl
+  at-column false lost room = refl
+
+  -- what stands in the place where it is done
+  stands : (t lost room : Bool) → leaves t lost room .outcome .answer ≡ Done
+      → (leaves t lost room .outcome .written ≡ length (textOf form r)) × (leaves t lost room .out ≡ textOf form r ++ drop (length (textOf form r)) out)
+  unfolding done answer leaves refusedWith
+  stands true false true e = (refl, refl)
+  stands true false false e = absurd (let z : _≡_ {A = ℕ} 6 0 = ap numberOf e in omega arith)
+  stands true true room e = absurd (let z : _≡_ {A = ℕ} 11 0 = ap numberOf e in omega arith)
+  stands false lost room e = absurd (let z : _≡_ {A = ℕ} 10 0 = ap numberOf e in omega arith)
+
+-- a writing, by its three tests
+record Writes (form : Form) (r : Record) (out : List ℕ) : Type 0 where
+  said : Says (writeCall form r out .outcome .answer) (first Done (writeFaults form r (length out)))
+      ((writeCall form r out .out ≡ out) × (writeCall form r out .outcome .written ≡ 0))
+  line : writeCall form r out .outcome .line ≡ broken form r
+  column : writeCall form r out .outcome .column ≡ 0
+  stands : writeCall form r out .outcome .answer ≡ Done
+      → (writeCall form r out .outcome .written ≡ length (textOf form r)) × (writeCall form r out .out ≡ textOf form r ++ drop (length (textOf form r)) out)
+
+write-said : (form : Form) (r : Record) (out : List ℕ) → Writes form r out
+unfolding writeCall done answer leaves
+write-said form r out =
+    let t = eqb (broken form r) 0 in
+    let lost = losesChip form r in
+    let room = leb (length (textOf form r)) (length out) in
+    record {
+      said = said form r out t lost room;
+      line = at-line form r out t lost room refl;
+      column = at-column form r out t lost room;
+      stands = stands form r out t lost room;
+    }
 
 -- each answer is listed
 pub listed : Listed ours
 listed =
     record {
-      read = read-said;
-      read-at = reads-and-writes .refused;
-      read-early = reads-and-writes .early;
-      read-decided = reads-and-writes .decided;
-      write = λ r out. write-said r out .said .is;
-      write-line = λ r out. write-said r out .line;
-      write-column = λ r out. write-said r out .column;
+      read = λ form. record {
+        answer = read-said form;
+        place = reads-and-writes form .refused;
+        early = reads-and-writes form .early;
+        decided = reads-and-writes form .decided;
+      };
+      read-any = record { answer = any-said; place = reads-any .refused; early = reads-any .early; decided = reads-any .decided };
+      write = λ form r out. write-said form r out .said .is;
+      write-line = λ form r out. write-said form r out .line;
+      write-column = λ form r out. write-said form r out .column;
     }
 
 -- each refusal changes nothing
 pub unchanged : Unchanged ours
 unchanged =
     record {
-      read = read-kept;
-      write = λ r out. write-said r out .said .kept;
+      read = λ form text. kept (readCall form text) (reads-and-writes form .answered text);
+      read-any = λ text. kept (readAny text) (reads-any .answered text);
+      write = λ form r out. write-said form r out .said .kept;
     }
-
--- ---- what is done
-
--- a record written
-write-reports : (r : Record) (out : List ℕ) → let leaves = writeCall r out in
-    leaves .outcome .answer ≡ Done → (leaves .outcome .written ≡ length (textOf r)) × (leaves .out ≡ textOf r ++ drop (length (textOf r)) out)
-unfolding writeCall
-write-reports r out = go (eqb (broken r) 0) (leb (length (textOf r)) (length out))
-  where
-    text : List ℕ
-    text = textOf r
-
-    go : (form room : Bool) → let answer = first Done (BrokenRecord when not form ∷ NoRoom when not room ∷ []) in
-        let leaves = cond (isDone answer) (writeLeaves (record { answer = Done; line = 0; column = 0; written = length text }) (text ++ drop (length text) out))
-        (writeLeaves (record { answer = answer; line = broken r; column = 0; written = 0 }) out) in
-        leaves .outcome .answer ≡ Done → (leaves .outcome .written ≡ length text) × (leaves .out ≡ text ++ drop (length text) out)
-    go true true e = (refl, refl)
-    go true false e = absurd (let z : _≡_ {A = ℕ} 6 0 = ap numberOf e in omega arith)
-    go false room e = absurd (let z : _≡_ {A = ℕ} 10 0 = ap numberOf e in omega arith)
 
 -- what each reports and leaves
 pub reported : Reported ours
-reported =
-    record {
-      write = write-reports;
-    }
+reported = record { write = λ form r out. write-said form r out .stands }

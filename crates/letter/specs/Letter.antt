@@ -12,8 +12,11 @@ use Rattle.ascon.specs.Cases.{Cases}
 use Rattle.ascon.specs.Known as ascon
 use Rattle.history.specs.History.{HistoryLaw}
 use Rattle.lines.specs.Laws.{ReadsLines}
+use Rattle.record.specs.declared.form.Form.{Form}
 use Rattle.record.specs.Known as record-crate
-use Rattle.record.specs.Laws.{ReadsAndWrites}
+use Rattle.record.specs.Laws.{ReadsAndWrites, TwoForms, ReadsAny}
+use Rattle.moving.specs.Known as moving-crate
+use Rattle.moving.specs.Laws.{Moves}
 use Rattle.judge.specs.Laws.{Judges}
 use Rattle.turns.specs.Laws.{WholeReports}
 use Rattle.letter.specs.Model.{Model, ours, Keeps, Reported}
@@ -49,9 +52,15 @@ pub record Letter : Type 2 where
   pub opened-bytes : (set : ℕ) (K N A C : List ℕ) → length K ≡ rowOf set .key → Bytes K → Bytes C → Bytes (decrypted (rowOf set) K N A C .out)
   -- the reader of lines: what it finds is a right line, or the first column with which none goes on, for every kind of line that fits; and nothing else that it could find is true
   pub lines : ReadsLines
-  -- records: what was written is read and what was read is written, the line and column at which a text is wrong, and what decides a reading
-  pub records : ReadsAndWrites
-  -- and known answers of them, written down from the papers
+  -- records, in each form: what was written is read and what was read is written, the line and column at which a text is wrong, and what decides a reading
+  pub records : (form : Form) → ReadsAndWrites form
+  -- what the two forms have in common, and a text of either
+  pub two-forms : TwoForms
+  pub any-form : ReadsAny
+  -- moving them to a form from the other: there and back gives the same bytes, and each refusal exactly where it is due
+  pub moving : (to : Form) → Moves to
+  pub known-movings : moving-crate.Known
+  -- known answers of records, written down from the papers
   pub known-records : record-crate.Known
   -- verdicts and reports: equal exactly where rounds, cipher and tag are ours, what the first difference of two texts is, and the report of an input, record by record
   pub judging : Judges

@@ -4,6 +4,7 @@ use Rattle.letter.specs.Engine as engine
 use Rattle.letter.specs.Messages as messages
 use Rattle.letter.specs.Streams as streams
 use Rattle.letter.specs.Records as records
+use Rattle.letter.specs.Moving as moving
 use Rattle.letter.specs.Judging as judging
 
 -- ---- the calls
@@ -13,17 +14,19 @@ pub record Model : Type 0 where
   pub messages : messages.Model
   pub streams : histories.Streams
   pub records : records.Model
+  pub moving : moving.Model
   pub judging : judging.Model
 
 -- our own
 abbrev pub ours : Model
-ours = record { messages = messages.ours; streams = histories.ours; records = records.ours; judging = judging.ours }
+ours = record { messages = messages.ours; streams = histories.ours; records = records.ours; moving = moving.ours; judging = judging.ours }
 
 -- each call gives what the contract of the code allows
 pub record Keeps (m : Model) : Type 0 where
   pub messages : messages.Keeps (m .messages)
   pub streams : streams.Keeps (m .streams)
   pub records : records.Keeps (m .records)
+  pub moving : moving.Keeps (m .moving)
   pub judging : judging.Keeps (m .judging)
 
 -- ---- what is said of them
@@ -34,6 +37,7 @@ pub record EveryCall : Type 2 where
   pub messages : messages.EveryCall
   pub streams : streams.EveryCall
   pub records : records.EveryCall
+  pub moving : moving.EveryCall
   pub judging : judging.EveryCall
 
 -- each answer is the listed one
@@ -41,13 +45,15 @@ pub record Listed (m : Model) : Type 0 where
   pub messages : messages.Listed (m .messages)
   pub streams : streams.Listed (m .streams)
   pub records : records.Listed (m .records)
-  pub judging : judging.Listed (m .records .read) (m .judging)
+  pub moving : moving.Listed (m .records .read) (m .moving)
+  pub judging : judging.Listed (m .records .read-any) (m .judging)
 
 -- a refusal changes nothing
 pub record Unchanged (m : Model) : Type 0 where
   pub messages : messages.Unchanged (m .messages)
   pub streams : streams.Unchanged (m .streams)
   pub records : records.Unchanged (m .records)
+  pub moving : moving.Unchanged (m .moving)
   pub judging : judging.Unchanged (m .judging)
 
 -- save one: a tag mismatch
@@ -60,4 +66,5 @@ pub record Reported (m : Model) : Type 0 where
   pub messages : messages.Reported (m .messages)
   pub streams : streams.Reported (m .streams)
   pub records : records.Reported (m .records)
-  pub judging : judging.Reported (m .records .read) (m .judging)
+  pub moving : moving.Reported (m .records .read) (m .moving)
+  pub judging : judging.Reported (m .records .read-any) (m .judging)

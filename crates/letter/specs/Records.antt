@@ -12,11 +12,12 @@ use Rattle.digits.specs.Numbers as decimals
 use Rattle.digits.specs.Room.{lineOf, laid, put}
 use Rattle.lines.specs.Right.{named}
 use Rattle.lines.specs.Steps.{begin, stepOf, readOf, eitherOf}
+use Rattle.record.specs.declared.form.Form.{Form}
 use Rattle.record.specs.declared.form.Record.{Record}
 use Rattle.record.specs.declared.reading.Reading.{Reading}
 use Rattle.record.specs.Form.{broken, blank}
-use Rattle.record.specs.Calls.{readCall, writeLeaves, writeCall, WriteLeaves, writeFaults}
-use Rattle.record.specs.Laws.{Begun, WrongAt, Typed}
+use Rattle.record.specs.Calls.{readCall, formOf, readAny, writeLeaves, writeCall, WriteLeaves, writeFaults}
+use Rattle.record.specs.Laws.{BegunWhole, BegunAny, WrongAt, Spellable}
 use Rattle.record.specs.Text.{textOf}
 use Rattle.digits.proofs as digits
 use Rattle.lines.proofs as lines
@@ -27,18 +28,20 @@ use Rattle.letter.specs.Calls.{Answered, Lent, holding, Leaves, Gives, R
 
 -- what each answers, and what it leaves in a lent place, on any input
 pub record Model : Type 0 where
-  pub read : List ℕ → Reading
-  pub write : Record → List ℕ → WriteLeaves
+  pub read : Form → List ℕ → Reading
+  pub read-any : List ℕ → Reading
+  pub write : Form → Record → List ℕ → WriteLeaves
 
 -- our own, by the definitions that the contracts cite
 abbrev pub ours : Model
-ours = record { read = readCall; write = writeCall }
+ours = record { read = readCall; read-any = readAny; write = writeCall }
 
 -- each gives what the contract of the code allows
 pub record Keeps (m : Model) : Type 0 where
-  pub read : (text : Lent) → Gives record-crate.read.Reads.Learnt (text, tt) (m .read (text .now))
-  pub write : (entry : Record) (out : Lent) → let leaves = m .write entry (out .now) in
-      Leaves record-crate.write.Reads.Learnt (entry, (out, tt)) (leaves .outcome) (entry, (holding out (leaves .out), tt))
+  pub read : (form : Form) (text : Lent) → Gives record-crate.read.Reads.Learnt (form, (text, tt)) (m .read form (text .now))
+  pub read-any : (text : Lent) → Gives record-crate.read_any.Reads.Learnt (text, tt) (m .read-any (text .now))
+  pub write : (form : Form) (entry : Record) (out : Lent) → let leaves = m .write form entry (out .now) in
+      Leaves record-crate.write.Reads.Learnt (form, (entry, (out, tt))) (leaves .outcome) (form, (entry, (holding out (leaves .out), tt)))
 
 -- each public call, and its one outcome; those of digits and lines first
 pub record EveryCall : Type 2 where
@@ -66,52 +69,63 @@ pub record EveryCall : Type 2 where
   pub lines-either : Answered lines.either.Statement.statement lines.either.Reads.Asked lines.either.Reads.Learnt (λ r e. r) (λ (one, (other, _)). eitherOf one other)
   -- ---- record
   pub record-first-broken : Answered record-crate.first_broken.Statement.statement record-crate.first_broken.Reads.Asked record-crate.first_broken.Reads.Learnt
-      (λ r e. r) (λ (entry, _). broken entry)
-  pub record-read : Answered record-crate.read.Statement.statement record-crate.read.Reads.Asked record-crate.read.Reads.Learnt (λ r e. r) (λ (text, _). readCall (text .now))
+      (λ r e. r) (λ (form, (entry, _)). broken form entry)
+  pub record-read : Answered record-crate.read.Statement.statement record-crate.read.Reads.Asked record-crate.read.Reads.Learnt
+      (λ r e. r) (λ (form, (text, _)). readCall form (text .now))
+  pub record-read-any : Answered record-crate.read_any.Statement.statement record-crate.read_any.Reads.Asked record-crate.read_any.Reads.Learnt
+      (λ r e. r) (λ (text, _). readAny (text .now))
   pub record-write : Answered record-crate.write.Statement.statement record-crate.write.Reads.Asked record-crate.write.Reads.Learnt
-      (λ r (entry, (out, _)). writeLeaves r (out .now)) (λ (entry, (out, _)). writeCall entry (out .now))
+      (λ r (form, (entry, (out, _))). writeLeaves r (out .now)) (λ (form, (entry, (out, _))). writeCall form entry (out .now))
 
 -- ---- what they answer
 
--- a text that is read: it begins with the eight lines of a record in form; what was taken is the text of that record, which is handed back
-pub record IsRead (text : List ℕ) (reading : Reading) : Type 0 where
+-- a text that is read in a form: it begins with the lines of a record in form; what was taken is the text of that record, which is handed back
+pub record IsRead (form : Form) (text : List ℕ) (reading : Reading) : Type 0 where
   pub done : reading .answer ≡ Done
   pub no-line : reading .line ≡ 0
   pub no-column : reading .column ≡ 0
   pub not-early : reading .early ≡ false
-  pub begun : Begun 8 text
+  pub begun : BegunWhole form text
   pub inside : reading .taken ≤ length text
-  pub spelled : take (reading .taken) text ≡ textOf (reading .content)
-  pub in-form : broken (reading .content) ≡ 0
-  pub typed : Typed (reading .content)
+  pub spelled : take (reading .taken) text ≡ textOf form (reading .content)
+  pub spellable : Spellable form (reading .content)
+
+-- a reading of texts, each in a form, where a text begins with a record or not
+pub record ReadSo (formed : List ℕ → Form) (Starts : List ℕ → Type 0) (read : List ℕ → Reading) : Type 0 where
+  -- a text is read, or it is 10
+  pub answer : (text : List ℕ) → IsRead (formed text) text (read text) ⊎ (read text .answer ≡ BrokenRecord)
+  -- it is 10 with a line and column exactly where the lines before are right and behind them the text leaves the right lines at that column
+  pub place : (text : List ℕ) (line column : ℕ) → let reading = read text in
+      ((reading .answer ≡ BrokenRecord) × (reading .line ≡ line) × (reading .column ≡ column)) ↔ WrongAt (formed text) text line column
+  -- a text ended too early exactly where it does not begin with a record, and some more of it makes it begin with one; nothing behind any other matters
+  pub early : (text : List ℕ) → (read text .early ≡ true) ↔ ((Starts text → ⊥) × ((more : List ℕ) × Starts (text ++ more)))
+  pub decided : (text more : List ℕ) → read text .early ≡ false → read (text ++ more) ≡ read text
 
 -- each answer, and the line and column that it names
 pub record Listed (m : Model) : Type 0 where
-  -- a text is read, or it is 10
-  pub read : (text : List ℕ) → IsRead text (m .read text) ⊎ (m .read text .answer ≡ BrokenRecord)
-  -- it is 10 with a line and column exactly where the lines before are right and behind them the text leaves the right lines at that column
-  pub read-at : (text : List ℕ) (line column : ℕ) → let reading = m .read text in
-      ((reading .answer ≡ BrokenRecord) × (reading .line ≡ line) × (reading .column ≡ column)) ↔ WrongAt text line column
-  -- a text ended too early exactly where it does not begin with a record, and some more of it makes it begin with one; nothing behind any other matters
-  pub read-early : (text : List ℕ) → (m .read text .early ≡ true) ↔ ((Begun 8 text → ⊥) × ((more : List ℕ) × Begun 8 (text ++ more)))
-  pub read-decided : (text more : List ℕ) → m .read text .early ≡ false → m .read (text ++ more) ≡ m .read text
-  pub write : (r : Record) (out : List ℕ)
-      → m .write r out .outcome .answer ≡ first Done (writeFaults r (length out))
-  pub write-line : (r : Record) (out : List ℕ) → m .write r out .outcome .line ≡ broken r
-  pub write-column : (r : Record) (out : List ℕ) → m .write r out .outcome .column ≡ 0
+  -- in a form that the caller names, and in the form that the text's first line is of
+  pub read : (form : Form) → ReadSo (λ text. form) (BegunWhole form) (m .read form)
+  pub read-any : ReadSo formOf BegunAny (m .read-any)
+  pub write : (form : Form) (r : Record) (out : List ℕ)
+      → m .write form r out .outcome .answer ≡ first Done (writeFaults form r (length out))
+  pub write-line : (form : Form) (r : Record) (out : List ℕ) → m .write form r out .outcome .line ≡ broken form r
+  pub write-column : (form : Form) (r : Record) (out : List ℕ) → m .write form r out .outcome .column ≡ 0
 
 -- ---- what they leave
 
+-- a refused reading takes nothing, and hands back the record of zeros
+abbrev pub HandsBackNothing : Reading → Type 0
+HandsBackNothing reading = Refused (reading .answer) → (reading .taken ≡ 0) × (reading .content ≡ blank)
+
 -- a refusal changes no lent byte
 pub record Unchanged (m : Model) : Type 0 where
-  -- a refused reading takes nothing, and hands back the record of zeros
-  pub read : (text : List ℕ) → let reading = m .read text in
-      Refused (reading .answer) → (reading .taken ≡ 0) × (reading .content ≡ blank)
-  pub write : (r : Record) (out : List ℕ) → let leaves = m .write r out in
+  pub read : (form : Form) (text : List ℕ) → HandsBackNothing (m .read form text)
+  pub read-any : (text : List ℕ) → HandsBackNothing (m .read-any text)
+  pub write : (form : Form) (r : Record) (out : List ℕ) → let leaves = m .write form r out in
       Refused (leaves .outcome .answer) → (leaves .out ≡ out) × (leaves .outcome .written ≡ 0)
 
 -- done: what is written, and the bytes of a lent place beyond it; what is read is in `Listed`
 pub record Reported (m : Model) : Type 0 where
   -- a record that is written stands at the beginning of its place, the bytes beyond it stay, and its length is told
-  pub write : (r : Record) (out : List ℕ) → let leaves = m .write r out in
-      leaves .outcome .answer ≡ Done → (leaves .outcome .written ≡ length (textOf r)) × (leaves .out ≡ textOf r ++ drop (length (textOf r)) out)
+  pub write : (form : Form) (r : Record) (out : List ℕ) → let leaves = m .write form r out in
+      leaves .outcome .answer ≡ Done → (leaves .outcome .written ≡ length (textOf form r)) × (leaves .out ≡ textOf form r ++ drop (length (textOf form r)) out)

@@ -1,6 +1,6 @@
 -- How long lines that keep their rules can be.
-use mathlib.Core.Path.{_≡_, refl}
-use mathlib.Core.Bool.{Bool, true, false, cond, _&&_}
+use mathlib.Core.Path.{_≡_, ap}
+use mathlib.Core.Bool.{Bool, true, _&&_}
 use mathlib.Core.List.{[], _∷_}
 use Prim.Native.Nat.{ℕ, zero, suc, _+_, _-_, _≤_}
 use native.Mathlib.Omega.{arith}
@@ -8,19 +8,22 @@ use lib.Dec.{leb, lit≤}
 use lib.ListN.{length, getD, length-append, length-take}
 use borrow.Author.Tests.{leb-true}
 use Rattle.digits.specs.Hex.{hexOf}
-use Rattle.digits.specs.Numbers.{numeral}
 use Rattle.digits.proofs.Spelling.{and-both, length-hex}
 use Rattle.digits.proofs.Numerals.{places-least, length-numeral}
 use Rattle.digits.specs.declared.hex.Case.the-variants.{Lower}
 use Rattle.ascon.specs.Sets.{isSet, rowOf}
 use Rattle.sets.proofs.Rows.{one-digit, row-sizes}
+use Rattle.lines.specs.declared.kinds.Value.{Value}
+use Rattle.lines.specs.declared.kinds.Value.the-variants.{Fixed, Number, Bytes}
 use Rattle.record.specs.declared.field.Field.{Field}
+use Rattle.record.specs.declared.form.Form.{Form}
+use Rattle.record.specs.declared.form.Form.the-variants.{One, Two}
 use Rattle.record.specs.declared.form.Record.{Record}
-use Rattle.record.specs.Form.{held, isField, isNumber, numberAt, fieldAt, valueKind, keeps}
-use Rattle.record.specs.Text.{names, name, valueText, lineText, textFrom, mostBytes}
+use Rattle.record.specs.Form.{held, isField, partAt, linesIn, numberAt, fieldAt, valueKind, allows, keeps}
+use Rattle.record.specs.Text.{names, name, spelledAs, valueText, lineText, textFrom, mostBytes}
 use Rattle.record.proofs.Fields.{held-most}
-use Rattle.record.proofs.Places.{each-line}
-use Rattle.record.proofs.Rules.{rule-is-field, rule-number}
+use Rattle.record.proofs.Places.{each-part, part-is}
+use Rattle.record.proofs.Rules.{small, kind-tests}
 use Rattle.record.proofs.Lines.{line-length}
 use Rattle.record.proofs.Chains.{Sound}
 
@@ -34,57 +37,67 @@ key-hex-most f set t e =
     let k : f .size ≤ rowOf set .key = leb-true _ _ (and-both t _ (and-both (isField f) _ e .1) .1) in
     omega (arith, length-hex Lower (held f), length-take (f .size) (f .bytes), row-sizes set .key)
 
--- no value of a line that keeps its rule has more than 512 digits
-pub value-most : (line : ℕ) → 1 ≤ line → line ≤ 8 → (r : Record) → keeps line r ≡ true → length (valueText line r) ≤ 512
-unfolding valueText
-value-most line h m r k = go (isNumber line) refl
-  where
-    go : (t : Bool) → isNumber line ≡ t → length (cond t (numeral (numberAt line r)) (hexOf (held (fieldAt line r)))) ≤ 512
-    go true e =
-        let few = rule-number line h m e r k in
-        omega (arith, length-numeral (numberAt line r), places-least (numberAt line r) 6 (omega arith))
-    go false e = omega (arith, length-hex Lower (held (fieldAt line r)), held-most (fieldAt line r) (rule-is-field line h m e r k))
+-- no value that is allowed has more than 512 digits
+allowed-most : (value : Value) → small value ≡ true → (n : ℕ) (f : Field) → allows value n f ≡ true → length (spelledAs value n f) ≤ 512
+allowed-most (Fixed own) s n f k = omega arith
+allowed-most (Number least most) s n f k =
+    let few : n ≤ 9_999_999 = omega (arith, leb-true n most (and-both (leb least n) _ k .1), leb-true most 9_999_999 s) in
+    omega (arith, length-numeral n, places-least n 6 (omega arith))
+allowed-most (Bytes least most case) s n f k = field-hex-most f _ k
 
--- the most bytes of a line
+-- so of a part that keeps its rule
+pub value-most : (part : ℕ) (r : Record) → keeps part r ≡ true → length (valueText part r) ≤ 512
+unfolding valueText keeps
+value-most part r k = allowed-most (valueKind part (r .set)) (kind-tests part (r .set) .1) (numberAt part r) (fieldAt part r) k
+
+-- the most bytes of a part's line
 abbrev most : ℕ → ℕ
-most line = getD (6 ∷ 37 ∷ 39 ∷ 516 ∷ 518 ∷ 520 ∷ 37 ∷ 15 ∷ []) (line - 1) 0
+most part = getD (7 ∷ 6 ∷ 11 ∷ 37 ∷ 39 ∷ 516 ∷ 518 ∷ 520 ∷ 37 ∷ 15 ∷ []) (part - 1) 0
 
--- a line that keeps its rule has no more
-line-most : (line : ℕ) → 1 ≤ line → line ≤ 8 → (r : Record) → keeps line r ≡ true → length (lineText line r) ≤ most line
+-- a part that keeps its rule has no more
+line-most : (part : ℕ) → 1 ≤ part → part ≤ 10 → (r : Record) → keeps part r ≡ true → length (lineText part r) ≤ most part
 unfolding keeps valueKind isSet name names valueText
 line-most =
-    each-line (λ (line : ℕ). (r : Record) → keeps line r ≡ true → length (lineText line r) ≤ most line)
-    (λ r k. omega (arith, line-length 1 r, length-numeral (r .set), places-least (r .set) 0 (omega (arith, one-digit (r .set) k))))
-    (λ r k. omega (arith, line-length 2 r, key-hex-most (r .key) (r .set) (leb (rowOf (r .set) .key) (r .key .size)) k))
-    (λ r k. omega (arith, line-length 3 r, key-hex-most (r .nonce) (r .set) (leb (rowOf (r .set) .key) (r .nonce .size)) k))
-    (λ r k. omega (arith, line-length 4 r, field-hex-most (r .ad) _ k))
-    (λ r k. omega (arith, line-length 5 r, field-hex-most (r .text) _ k))
-    (λ r k. omega (arith, line-length 6 r, field-hex-most (r .cipher) _ k))
-    (λ r k. omega (arith, line-length 7 r, key-hex-most (r .tag) (r .set) (leb (rowOf (r .set) .key) (r .tag .size)) k))
-    (λ r k. omega (arith, line-length 8 r, length-numeral (r .rounds), places-least (r .rounds) 6 (omega (arith, leb-true (r .rounds) 9_999_999 (and-both (leb 0 (r .rounds)) _ k .1)))))
+    each-part (λ (part : ℕ). (r : Record) → keeps part r ≡ true → length (lineText part r) ≤ most part)
+    (λ r k. omega (arith, line-length 1 r))
+    (λ r k. omega (arith, line-length 2 r, length-numeral (r .set), places-least (r .set) 0 (omega (arith, one-digit (r .set) k))))
+    (λ r k. omega (arith, line-length 3 r, length-numeral (r .chip), places-least (r .chip) 4 (omega (arith, leb-true (r .chip) 65_535 (and-both (leb 0 (r .chip)) _ k .1)))))
+    (λ r k. omega (arith, line-length 4 r, key-hex-most (r .key) (r .set) (leb (rowOf (r .set) .key) (r .key .size)) k))
+    (λ r k. omega (arith, line-length 5 r, key-hex-most (r .nonce) (r .set) (leb (rowOf (r .set) .key) (r .nonce .size)) k))
+    (λ r k. omega (arith, line-length 6 r, field-hex-most (r .ad) _ k))
+    (λ r k. omega (arith, line-length 7 r, field-hex-most (r .text) _ k))
+    (λ r k. omega (arith, line-length 8 r, field-hex-most (r .cipher) _ k))
+    (λ r k. omega (arith, line-length 9 r, key-hex-most (r .tag) (r .set) (leb (rowOf (r .set) .key) (r .tag .size)) k))
+    (λ r k. omega (arith, line-length 10 r, length-numeral (r .rounds), places-least (r .rounds) 6 (omega (arith, leb-true (r .rounds) 9_999_999 (and-both (leb 0 (r .rounds)) _ k .1)))))
 
--- the most bytes that k lines can have, from a line on
-abbrev room : ℕ → ℕ → ℕ
-room zero line = 0
-room (suc k) line = most line + room k (line + 1)
+-- the most bytes that k lines of a form can have, from a line on
+abbrev room : Form → ℕ → ℕ → ℕ
+room form zero line = 0
+room form (suc k) line = most (partAt form line) + room form k (line + 1)
 
 -- lines that keep their rules have no more
-text-room : (k line : ℕ) → 1 ≤ line → line + k ≤ 9 → (r : Record) → Sound k line r → length (textFrom k line r) ≤ room k line
-text-room zero line h m r e = omega arith
-text-room (suc k) line h m r e =
-    rw (length-append (lineText line r) (textFrom k (line + 1) r))
+text-room : (form : Form) (k line : ℕ) → 1 ≤ line → line + k ≤ linesIn form + 1 → (r : Record) → Sound form k line r → length (textFrom form k line r) ≤ room form k line
+text-room form zero line h m r e = omega arith
+text-room form (suc k) line h m r e =
+    let is = part-is form line h (omega arith) in
+    rw (length-append (lineText (partAt form line) r) (textFrom form k (line + 1) r))
     (omega (
       arith,
-      line-most line h (omega arith) r (e line (omega arith) (omega arith)),
-      text-room k (line + 1) (omega arith) (omega arith) r (λ i a b. e i (omega arith) (omega arith)),
+      line-most (partAt form line) (is .0) (is .1) r (e line (omega arith) (omega arith)),
+      text-room form k (line + 1) (omega arith) (omega arith) r (λ i a b. e i (omega arith) (omega arith)),
     ))
 
--- no lines that keep their rules have more than 1,688 bytes
-pub text-most : (k : ℕ) → k ≤ 8 → (r : Record) → Sound k 1 r → length (textFrom k 1 r) ≤ mostBytes
-text-most zero h r e = omega arith
-text-most (suc k) h r e =
-    omega (
-      arith,
-      text-room (suc k) 1 (omega arith) (omega arith) r e,
-      each-line (λ (n : ℕ). room n 1 ≤ mostBytes) (lit≤ tt) (lit≤ tt) (lit≤ tt) (lit≤ tt) (lit≤ tt) (lit≤ tt) (lit≤ tt) (lit≤ tt) (suc k) (omega arith) h,
-    )
+-- no more lines of a form than it has take more room than they all
+room-most : (form : Form) (k : ℕ) → k ≤ linesIn form → room form k 1 ≤ mostBytes form
+room-most form zero h = omega arith
+room-most One (suc k) h = each-part (λ (n : ℕ). n ≤ 8 → room One n 1 ≤ 1_688) (λ a. lit≤ tt) (λ a. lit≤ tt) (λ a. lit≤ tt) (λ a. lit≤ tt) (λ a. lit≤ tt) (λ a. lit≤ tt) (λ a. lit≤ tt) (λ a. lit≤ tt) (λ a. absurd (omega arith)) (λ a. absurd (omega arith)) (suc k) (omega arith) (omega arith) h
+room-most Two (suc k) h = each-part (λ (n : ℕ). room Two n 1 ≤ 1_706) (lit≤ tt) (lit≤ tt) (lit≤ tt) (lit≤ tt) (lit≤ tt) (lit≤ tt) (lit≤ tt) (lit≤ tt) (lit≤ tt) (lit≤ tt) (suc k) (omega arith) h
+
+-- no lines that keep their rules have more than the most bytes of their form
+pub text-most : (form : Form) (k : ℕ) → k ≤ linesIn form → (r : Record) → Sound form k 1 r → length (textFrom form k 1 r) ≤ mostBytes form
+text-most form k h r e = omega (arith, text-room form k 1 (omega arith) (omega arith) r e, room-most form k h)
+
+-- no form has more than 1,706
+pub few-bytes : (form : Form) → mostBytes form ≤ 1_706
+few-bytes One = omega arith
+few-bytes Two = omega arith

@@ -6,11 +6,11 @@ use Rattle.lines.specs.Right.{named}
 use Rattle.lines.specs.Steps.{nameStep, feedStep, valueStep, stepOf, readOf}
 use Rattle.record.specs.Form.{fieldOf, withNumber, withField, blank, valueKind}
 use Rattle.record.specs.Text.{names, name, kindOf}
-use Rattle.record.specs.Calls.{withValue, given, refusedAt, readAs, readCall}
+use Rattle.record.specs.Calls.{withValue, given, refusedAt, readAs, readCall, formOf, insideMark, readAny}
 use Rattle.record.specs.Known.{Known}
 
 pub known : Known
-unfolding readCall readOf stepOf nameStep feedStep valueStep kindOf named valueKind withValue given refusedAt readAs name names withNumber withField blank fieldOf rowOf table digitIn
+unfolding readCall readAny formOf insideMark readOf stepOf nameStep feedStep valueStep kindOf named valueKind withValue given refusedAt readAs name names withNumber withField blank fieldOf rowOf table digitIn
 known = record {
   whole-case = refl;
   name = refl;
@@ -32,4 +32,27 @@ known = record {
   cut-feed = refl;
   missing = refl;
   last-missing = refl;
+  whole-two = refl;
+  two-missing = refl;
+  two-cut = refl;
+  two-wrong = refl;
+  form-one = refl;
+  form-long = refl;
+  form-nought = refl;
+  chip-largest = refl;
+  chip-digits = refl;
+  chip-past = refl;
+  chip-far = refl;
+  chip-zeros = refl;
+  chip-none = refl;
+  two-of-one = refl;
+  one-of-two = refl;
+  any-two = refl;
+  any-one = refl;
+  any-form-one = refl;
+  any-nothing = refl;
+  any-inside = refl;
+  any-mark = refl;
+  any-off = refl;
+  any-set = refl;
 }

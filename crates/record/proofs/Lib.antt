@@ -12,4 +12,6 @@ pub mod Bounds
 pub mod Right
 pub mod InForm
 pub mod Laws
+pub mod TwoForms
+pub mod Any
 pub mod Known

@@ -1,17 +1,15 @@
 -- A line: what was written is read, and what was read is written.
 use mathlib.Core.Path.{_≡_, refl, sym, ap, _∙_}
-use mathlib.Core.Bool.{Bool, true, false, cond, _&&_, false≢true, true≢false}
+use mathlib.Core.Bool.{Bool, true, _&&_}
 use mathlib.Core.List.{List, _++_}
 use Prim.Native.Nat.{ℕ, _+_, _-_, _≤_, _<_}
 use native.Mathlib.Omega.{arith}
 use lib.Dec.{leb}
 use lib.ListN.{length, take, drop, take-append-drop}
 use lib.Seq.{drop-append-seam, length-take-le}
-use lib.Pow.{areBytes}
 use borrow.Author.Tests.{leb-true, le-leb}
 use Rattle.permutation.specs.Strings.{zeros}
 use Rattle.permutation.proofs.Strings.{same-refl}
-use Rattle.ascon.specs.Sets.{table}
 use Rattle.sets.proofs.Rows.{row-sizes}
 use Rattle.digits.specs.declared.hex.Case.the-variants.{Lower}
 use Rattle.digits.specs.Hex.{fromHex, hexOf}
@@ -19,30 +17,37 @@ use Rattle.digits.specs.Numbers.{numeral}
 use Rattle.digits.specs.Room.{lineOf}
 use Rattle.digits.proofs.Spelling.{and-both, bytes-hex}
 use Rattle.digits.proofs.Room.{length-line}
-use Rattle.lines.specs.declared.kinds.Value.the-variants.{Bytes}
+use Rattle.lines.specs.declared.kinds.Value.{Value}
+use Rattle.lines.specs.declared.kinds.Value.the-variants.{Fixed, Number, Bytes}
 use Rattle.lines.specs.declared.walk.Found.the-variants.{Line}
 use Rattle.lines.specs.Right.{Spells, Right, valueIn}
 use Rattle.lines.specs.Laws.{FoundIn}
 use Rattle.lines.proofs.Values.{value-in, written-read}
 use Rattle.record.specs.declared.field.Field.{Field}
+use Rattle.record.specs.declared.form.Form.{Form}
 use Rattle.record.specs.declared.form.Record.{Record}
-use Rattle.record.specs.Form.{fieldOf, held, isField, isNumber, numberAt, fieldAt, withNumber, withField, valueKind, keeps}
+use Rattle.record.specs.Form.{fieldOf, held, isField, partAt, linesIn, numberAt, fieldAt, withNumber, withField, valueKind, keeps}
 use Rattle.record.specs.Text.{name, kindOf, valueText, lineText}
 use Rattle.record.specs.Calls.{fitted, withValue, given, readAt}
 use Rattle.record.specs.Laws.{Whole, Typed}
 use Rattle.record.proofs.Fields.{bytes-take, whole-field, held-field, held-most, held-length, field-held}
-use Rattle.record.proofs.Places.{each-line, number-there, field-there, Alike, number-before, field-before, typed-number, typed-field}
-use Rattle.record.proofs.Rules.{rule-is-field, copiedLine}
+use Rattle.record.proofs.Places.{each-part, part-is, part-order, Alike, number-before, field-before, typed-number, typed-field}
+use Rattle.record.proofs.Rules.{copiedPart}
 use Rattle.record.proofs.Table.{name-is, fit-kind, rightAt, told}
 
 -- a line has its name's bytes, its value's, and one more
-pub line-length : (line : ℕ) (r : Record) → length (lineText line r) ≡ length (name line) + length (valueText line r) + 1
+pub line-length : (part : ℕ) (r : Record) → length (lineText part r) ≡ length (name part) + length (valueText part r) + 1
 unfolding lineText
-line-length line r = length-line (name line) (valueText line r)
+line-length part r = length-line (name part) (valueText part r)
 
--- the number that a line of a record says
+-- the number that a part of a record says in its line
+abbrev saidBy : Value → ℕ → ℕ
+saidBy (Fixed own) n = own
+saidBy (Number least most) n = n
+saidBy (Bytes least most case) n = 0
+
 abbrev pub saidAt : ℕ → Record → ℕ
-saidAt line r = cond (isNumber line) (numberAt line r) 0
+saidAt part r = saidBy (valueKind part (r .set)) (numberAt part r)
 
 -- ---- what was written is read
 
@@ -61,14 +66,16 @@ field-spells f least most w e =
       refl,
     )
 
--- a line that keeps its rule where it is copied to spells a value of its kind
-value-spells : (line : ℕ) → 1 ≤ line → line ≤ 8 → (r s : Record) → Whole (fieldAt line r) → keeps line (copiedLine line r s) ≡ true
-    → Spells (valueKind line (s .set)) (saidAt line r) (valueText line r)
-unfolding valueKind valueText keeps copiedLine withNumber withField
+-- a part that keeps its rule where it is copied to spells a value of its kind
+value-spells : (part : ℕ) → 1 ≤ part → part ≤ 10 → (r s : Record) → Whole (fieldAt part r) → keeps part (copiedPart part r s) ≡ true
+    → Spells (valueKind part (s .set)) (saidAt part r) (valueText part r)
+unfolding valueKind valueText keeps copiedPart withNumber withField
 value-spells =
-    each-line
-    (λ (line : ℕ). (r s : Record) → Whole (fieldAt line r) → keeps line (copiedLine line r s) ≡ true → Spells (valueKind line (s .set)) (saidAt line r) (valueText line r))
+    each-part
+    (λ (part : ℕ). (r s : Record) → Whole (fieldAt part r) → keeps part (copiedPart part r s) ≡ true → Spells (valueKind part (s .set)) (saidAt part r) (valueText part r))
+    (λ r s w k. (refl, refl))
     (λ r s w k. let b = and-both (leb 1 (r .set)) _ k in (leb-true _ _ (b .0), leb-true _ _ (b .1), refl))
+    (λ r s w k. let b = and-both (leb 0 (r .chip)) _ k in (leb-true _ _ (b .0), leb-true _ _ (b .1), refl))
     (λ r s w k. field-spells (r .key) _ _ w k)
     (λ r s w k. field-spells (r .nonce) _ _ w k)
     (λ r s w k. field-spells (r .ad) _ _ w k)
@@ -78,40 +85,49 @@ value-spells =
     (λ r s w k. let b = and-both (leb 0 (r .rounds)) _ k in (leb-true _ _ (b .0), leb-true _ _ (b .1), refl))
 
 -- bytes that a field in form holds are read as this field
-field-read : (f : Field) → isField f ≡ true → Whole f → fitted (fromHex (hexOf (held f))) ≡ f
-field-read f e w =
+field-read : (f : Field) (t : Bool) → (isField f && t) ≡ true → Whole f → fitted (fromHex (hexOf (held f))) ≡ f
+field-read f t k w =
+    let e = and-both (isField f) t k .0 in
     rw (bytes-hex (held f) (bytes-take (f .size) (f .bytes) (w .bytes)), le-leb (length (held f)) 256 (held-most f e)) (field-held f e w)
 
--- the value of a line, put into a record, is the line copied
-value-copied : (line : ℕ) → 1 ≤ line → line ≤ 8 → (r s : Record) → Whole (fieldAt line r) → keeps line r ≡ true
-    → withValue line s (saidAt line r) (valueText line r) ≡ copiedLine line r s
-unfolding withValue copiedLine valueText
-value-copied line l m r s w k = go (isNumber line) refl
-  where
-    go : (t : Bool) → isNumber line ≡ t
-        → cond t (withNumber line (cond t (numberAt line r) 0) s) (withField line (fitted (fromHex (cond t (numeral (numberAt line r)) (hexOf (held (fieldAt line r)))))) s)
-        ≡ cond t (withNumber line (numberAt line r) s) (withField line (fieldAt line r) s)
-    go true e = refl
-    go false e = ap (λ (f : Field). withField line f s) (field-read (fieldAt line r) (rule-is-field line l m e r k) w)
+-- the value of a part, put into a record, is the part copied
+value-copied : (part : ℕ) → 1 ≤ part → part ≤ 10 → (r s : Record) → Whole (fieldAt part r) → keeps part r ≡ true
+    → withValue part s (saidAt part r) (valueText part r) ≡ copiedPart part r s
+unfolding withValue copiedPart valueText valueKind keeps
+value-copied =
+    each-part
+    (λ (part : ℕ). (r s : Record) → Whole (fieldAt part r) → keeps part r ≡ true → withValue part s (saidAt part r) (valueText part r) ≡ copiedPart part r s)
+    (λ r s w k. refl)
+    (λ r s w k. refl)
+    (λ r s w k. refl)
+    (λ r s w k. ap (λ (f : Field). withField 4 f s) (field-read (r .key) _ k w))
+    (λ r s w k. ap (λ (f : Field). withField 5 f s) (field-read (r .nonce) _ k w))
+    (λ r s w k. ap (λ (f : Field). withField 6 f s) (field-read (r .ad) _ k w))
+    (λ r s w k. ap (λ (f : Field). withField 7 f s) (field-read (r .text) _ k w))
+    (λ r s w k. ap (λ (f : Field). withField 8 f s) (field-read (r .cipher) _ k w))
+    (λ r s w k. ap (λ (f : Field). withField 9 f s) (field-read (r .tag) _ k w))
+    (λ r s w k. refl)
 
--- a line that keeps its rule is read, and gives the line copied
-pub record Spelled (line : ℕ) (r s : Record) (rest : List ℕ) : Type 0 where
-  pub read : readAt line s (lineText line r ++ rest) ≡ Line (length (lineText line r)) (saidAt line r)
-  pub gives : given line s (saidAt line r) (lineText line r) ≡ copiedLine line r s
+-- a line of a form that keeps its rule is read, and gives the part copied
+pub record Spelled (form : Form) (line : ℕ) (r s : Record) (rest : List ℕ) : Type 0 where
+  pub read : readAt form line s (lineText (partAt form line) r ++ rest) ≡ Line (length (lineText (partAt form line) r)) (saidAt (partAt form line) r)
+  pub gives : given form line s (saidAt (partAt form line) r) (lineText (partAt form line) r) ≡ copiedPart (partAt form line) r s
 
-pub line-spelled : (line : ℕ) → 1 ≤ line → line ≤ 8 → (r s : Record) → Whole (fieldAt line r) → keeps line r ≡ true
-    → keeps line (copiedLine line r s) ≡ true → (rest : List ℕ) → Spelled line r s rest
+pub line-spelled : (form : Form) (line : ℕ) → 1 ≤ line → line ≤ linesIn form → (r s : Record) → Whole (fieldAt (partAt form line) r) → keeps (partAt form line) r ≡ true
+    → keeps (partAt form line) (copiedPart (partAt form line) r s) ≡ true → (rest : List ℕ) → Spelled form line r s rest
 unfolding lineText kindOf given
-line-spelled line l m r s w k c rest =
-    let value : List ℕ = valueText line r in
-    let spells = value-spells line l m r s w c in
-    let right : Right (kindOf line (s .set)) (lineOf (name line) value) (saidAt line r) =
-    record { value = value; spelled = spells; whole = ap (λ (x : List ℕ). lineOf x value) (sym (name-is line (s .set))) } in
+line-spelled form line l m r s w k c rest =
+    let part : ℕ = partAt form line in
+    let is = part-is form line l m in
+    let value : List ℕ = valueText part r in
+    let spells = value-spells part (is .0) (is .1) r s w c in
+    let right : Right (kindOf part (s .set)) (lineOf (name part) value) (saidAt part r) =
+    record { value = value; spelled = spells; whole = ap (λ (x : List ℕ). lineOf x value) (sym (name-is part (s .set))) } in
     record {
-      read = rw (name-is line (s .set)) at (written-read (kindOf line (s .set)) value rest (saidAt line r) (fit-kind line (s .set)) spells);
+      read = rw (name-is part (s .set)) at (written-read (kindOf part (s .set)) value rest (saidAt part r) (fit-kind part (s .set)) spells);
       gives =
-          ap (withValue line s (saidAt line r)) (value-in (kindOf line (s .set)) (lineOf (name line) value) (saidAt line r) (fit-kind line (s .set)) right)
-          ∙ value-copied line l m r s w k;
+          ap (withValue part s (saidAt part r)) (value-in (kindOf part (s .set)) (lineOf (name part) value) (saidAt part r) (fit-kind part (s .set)) right)
+          ∙ value-copied part (is .0) (is .1) r s w k;
     }
 
 -- ---- what was read is written
@@ -121,124 +137,92 @@ field-is : (x : List ℕ) → length x ≤ 256 → (isField (fieldOf x) ≡ true
 unfolding isField fieldOf
 field-is x h = (rw (le-leb (length x) 256 h, drop-append-seam x (zeros (256 - length x))) (same-refl (zeros (256 - length x))), refl)
 
--- digits that were read are the value of the record then: its line keeps its rule, and those before it stay
-pub record Follows (line : ℕ) (digits : List ℕ) (r s : Record) : Type 0 where
-  pub spelled : valueText line s ≡ digits
-  pub rule : keeps line s ≡ true
+-- digits that were read are the value of the record then: its part keeps its rule, and those before it stay
+pub record Follows (part : ℕ) (digits : List ℕ) (r s : Record) : Type 0 where
+  pub spelled : valueText part s ≡ digits
+  pub rule : keeps part s ≡ true
   pub typed : Typed r → Typed s
-  pub before : (m : ℕ) → 1 ≤ m → m < line → Alike m s r
+  pub before : (m : ℕ) → 1 ≤ m → m < part → Alike m s r
 
--- a number that was read keeps the line's rule
-number-passed : (line : ℕ) → 1 ≤ line → line ≤ 8 → isNumber line ≡ true → (r : Record) (says : ℕ) (digits : List ℕ) → Spells (valueKind line (r .set)) says digits
-    → (digits ≡ numeral says) × (keeps line (withNumber line says r) ≡ true)
-unfolding valueKind keeps withNumber
-number-passed =
-    each-line
-    (λ (line : ℕ). isNumber line ≡ true → (r : Record) (says : ℕ) (digits : List ℕ) → Spells (valueKind line (r .set)) says digits
-    → (digits ≡ numeral says) × (keeps line (withNumber line says r) ≡ true))
-    (λ e r says digits s. (s .2, rw (le-leb 1 says (s .0), le-leb says (length table) (s .1))))
-    (λ e. absurd (false≢true e))
-    (λ e. absurd (false≢true e))
-    (λ e. absurd (false≢true e))
-    (λ e. absurd (false≢true e))
-    (λ e. absurd (false≢true e))
-    (λ e. absurd (false≢true e))
-    (λ e r says digits s. (s .2, rw (le-leb 0 says (s .0), le-leb says 9_999_999 (s .1))))
-
--- bytes that were read, and a rule that their field keeps
-record BytesPassed (digits : List ℕ) (rule : Field → Bool) : Type 0 where
-  bytes : List ℕ
-  spelled : digits ≡ hexOf bytes
-  are : areBytes bytes ≡ true
-  most : length bytes ≤ 256
-  keeps : rule (fieldOf bytes) ≡ true
-
--- bytes, at least and at most so many
-field-passed : (least most says : ℕ) (digits : List ℕ) → most ≤ 256 → Spells (Bytes least most Lower) says digits
-    → BytesPassed digits (λ f. isField f && (leb least (f .size) && leb (f .size) most))
-field-passed least most says digits h s =
-    let few : length (s .1) ≤ 256 = omega (arith, s .4) in
-    let f = field-is (s .1) few in
+-- a number between two follows from its digits
+number-follows : (part : ℕ) → part ≤ 10 → (least most : ℕ) (r : Record) (says : ℕ) (digits : List ℕ) → Spells (Number least most) says digits
+    → valueText part (withNumber part says r) ≡ numeral says → keeps part (withNumber part says r) ≡ (leb least says && leb says most)
+    → Follows part digits r (withNumber part says r)
+number-follows part h least most r says digits s spelled rule =
     record {
-      bytes = s .1;
-      spelled = s .5;
-      are = s .2;
-      most = few;
-      keeps = rw (f .0, f .1, le-leb least (length (s .1)) (s .3), le-leb (length (s .1)) most (s .4));
+      spelled = spelled ∙ sym (s .2);
+      rule = rule ∙ rw (le-leb least says (s .0), le-leb says most (s .1));
+      typed = λ y. typed-number part says r y;
+      before = λ i l j. number-before i l (omega arith) part says r j;
     }
 
--- bytes that were read keep the line's rule
-bytes-passed : (line : ℕ) → 1 ≤ line → line ≤ 8 → isNumber line ≡ false → (r : Record) (says : ℕ) (digits : List ℕ) → Spells (valueKind line (r .set)) says digits
-    → BytesPassed digits (λ f. keeps line (withField line f r))
-unfolding valueKind keeps withField
-bytes-passed =
-    each-line
-    (λ (line : ℕ). isNumber line ≡ false → (r : Record) (says : ℕ) (digits : List ℕ) → Spells (valueKind line (r .set)) says digits
-    → BytesPassed digits (λ f. keeps line (withField line f r)))
-    (λ e. absurd (true≢false e))
-    (λ e r says digits s. field-passed _ _ says digits (omega (arith, row-sizes (r .set) .key)) s)
-    (λ e r says digits s. field-passed _ _ says digits (omega (arith, row-sizes (r .set) .key)) s)
-    (λ e r says digits s. field-passed 0 256 says digits (omega arith) s)
-    (λ e r says digits s. field-passed 0 256 says digits (omega arith) s)
-    (λ e r says digits s. field-passed 0 256 says digits (omega arith) s)
-    (λ e r says digits s. field-passed _ _ says digits (omega (arith, row-sizes (r .set) .key)) s)
-    (λ e. absurd (true≢false e))
+-- so do bytes, at least and at most so many
+bytes-follow : (part : ℕ) → part ≤ 10 → (least most : ℕ) → most ≤ 256 → (r : Record) (says : ℕ) (digits : List ℕ) → Spells (Bytes least most Lower) says digits
+    → ((f : Field) → valueText part (withField part f r) ≡ hexOf (held f))
+    → ((f : Field) → keeps part (withField part f r) ≡ (isField f && (leb least (f .size) && leb (f .size) most)))
+    → Follows part digits r (withField part (fitted (fromHex digits)) r)
+bytes-follow part h least most few r says digits s spelled rule =
+    let x : List ℕ = s .1 in
+    let short : length x ≤ 256 = omega (arith, s .4) in
+    let f = field-is x short in
+    let read : fitted (fromHex digits) ≡ fieldOf x =
+    ap (λ (y : List ℕ). fitted (fromHex y)) (s .5) ∙ rw (bytes-hex x (s .2), le-leb (length x) 256 short) in
+    rw read (record {
+      spelled = spelled (fieldOf x) ∙ ap hexOf (held-field x) ∙ sym (s .5);
+      rule = rule (fieldOf x) ∙ rw (f .0, f .1, le-leb least (length x) (s .3), le-leb (length x) most (s .4));
+      typed = λ y. typed-field part (fieldOf x) r (whole-field x short (s .2)) y;
+      before = λ i l j. field-before i l (omega arith) part (fieldOf x) r j;
+    })
 
 -- a value that was read follows from its digits
-value-follows : (line : ℕ) → 1 ≤ line → line ≤ 8 → (r : Record) (says : ℕ) (digits : List ℕ) → Spells (valueKind line (r .set)) says digits
-    → Follows line digits r (withValue line r says digits)
-unfolding withValue valueText
-value-follows line l m r says digits s = go (isNumber line) refl
-  where
-    go : (t : Bool) → isNumber line ≡ t → Follows line digits r (cond t (withNumber line says r) (withField line (fitted (fromHex digits)) r))
-    go true t =
-        let p = number-passed line l m t r says digits s in
-        record {
-          spelled = rw (t, number-there line l m t says r) (sym (p .0));
-          rule = p .1;
-          typed = λ y. typed-number line says r y;
-          before = λ i h j. number-before i h (omega arith) line says r j;
-        }
-    go false t =
-        let p = bytes-passed line l m t r says digits s in
-        let read : fitted (fromHex digits) ≡ fieldOf (p .bytes) =
-        ap (λ (x : List ℕ). fitted (fromHex x)) (p .spelled) ∙ rw (bytes-hex (p .bytes) (p .are), le-leb (length (p .bytes)) 256 (p .most)) in
-        rw read (record {
-          spelled = rw (t, field-there line l m t (fieldOf (p .bytes)) r, held-field (p .bytes)) (sym (p .spelled));
-          rule = p .keeps;
-          typed = λ y. typed-field line (fieldOf (p .bytes)) r (whole-field (p .bytes) (p .most) (p .are)) y;
-          before = λ i h j. field-before i h (omega arith) line (fieldOf (p .bytes)) r j;
-        })
+value-follows : (part : ℕ) → 1 ≤ part → part ≤ 10 → (r : Record) (says : ℕ) (digits : List ℕ) → Spells (valueKind part (r .set)) says digits
+    → Follows part digits r (withValue part r says digits)
+unfolding withValue valueText valueKind keeps withNumber withField
+value-follows =
+    each-part
+    (λ (part : ℕ). (r : Record) (says : ℕ) (digits : List ℕ) → Spells (valueKind part (r .set)) says digits → Follows part digits r (withValue part r says digits))
+    (λ r says digits s. record { spelled = sym (s .1); rule = refl; typed = λ y. y; before = λ i l j. absurd (omega arith) })
+    (λ r says digits s. number-follows 2 (omega arith) _ _ r says digits s refl refl)
+    (λ r says digits s. number-follows 3 (omega arith) _ _ r says digits s refl refl)
+    (λ r says digits s. bytes-follow 4 (omega arith) _ _ (omega (arith, row-sizes (r .set) .key)) r says digits s (λ f. refl) (λ f. refl))
+    (λ r says digits s. bytes-follow 5 (omega arith) _ _ (omega (arith, row-sizes (r .set) .key)) r says digits s (λ f. refl) (λ f. refl))
+    (λ r says digits s. bytes-follow 6 (omega arith) 0 256 (omega arith) r says digits s (λ f. refl) (λ f. refl))
+    (λ r says digits s. bytes-follow 7 (omega arith) 0 256 (omega arith) r says digits s (λ f. refl) (λ f. refl))
+    (λ r says digits s. bytes-follow 8 (omega arith) 0 256 (omega arith) r says digits s (λ f. refl) (λ f. refl))
+    (λ r says digits s. bytes-follow 9 (omega arith) _ _ (omega (arith, row-sizes (r .set) .key)) r says digits s (λ f. refl) (λ f. refl))
+    (λ r says digits s. number-follows 10 (omega arith) _ _ r says digits s refl refl)
 
--- a right line spells what the line may hold
-kind-spells : (line : ℕ) (r : Record) (x : List ℕ) (says : ℕ) → (t : rightAt line r x says) → Spells (valueKind line (r .set)) says (t .value)
+-- a right line spells what its part may hold
+kind-spells : (form : Form) (line : ℕ) (r : Record) (x : List ℕ) (says : ℕ) → (t : rightAt form line r x says) → Spells (valueKind (partAt form line) (r .set)) says (t .value)
 unfolding kindOf
-kind-spells line r x says t = t .spelled
+kind-spells form line r x says t = t .spelled
 
 -- a line that a text begins with was read into a record
-pub record Passed (line : ℕ) (r : Record) (text : List ℕ) (size : ℕ) (next : Record) : Type 0 where
-  pub rule : keeps line next ≡ true
+pub record Passed (form : Form) (line : ℕ) (r : Record) (text : List ℕ) (size : ℕ) (next : Record) : Type 0 where
+  pub rule : keeps (partAt form line) next ≡ true
   pub typed : Typed r → Typed next
-  pub before : (m : ℕ) → 1 ≤ m → m < line → Alike m next r
-  pub size-is : size ≡ length (lineText line next)
-  pub there : text ≡ lineText line next ++ drop size text
+  pub before : (m : ℕ) → 1 ≤ m → m < line → Alike (partAt form m) next r
+  pub size-is : size ≡ length (lineText (partAt form line) next)
+  pub there : text ≡ lineText (partAt form line) next ++ drop size text
 
 -- a line that is read was written so
-pub line-passed : (line : ℕ) → 1 ≤ line → line ≤ 8 → (r : Record) (text : List ℕ) (size says : ℕ) → readAt line r text ≡ Line size says
-    → Passed line r text size (given line r says (take size text))
+pub line-passed : (form : Form) (line : ℕ) → 1 ≤ line → line ≤ linesIn form → (r : Record) (text : List ℕ) (size says : ℕ) → readAt form line r text ≡ Line size says
+    → Passed form line r text size (given form line r says (take size text))
 unfolding lineText given
-line-passed line h m r text size says e =
-    let t : FoundIn (rightAt line r) text (Line size says) = rw e at (told line r text) in
-    let kind = kindOf line (r .set) in
+line-passed form line h m r text size says e =
+    let part : ℕ = partAt form line in
+    let is-part = part-is form line h m in
+    let t : FoundIn (rightAt form line r) text (Line size says) = rw e at (told form line r text) in
+    let kind = kindOf part (r .set) in
     let value : List ℕ = valueIn kind (take size text) in
-    let is : value ≡ t .1 .value = value-in kind (take size text) says (fit-kind line (r .set)) (t .1) in
-    let f = value-follows line h m r says value (rw is (kind-spells line r (take size text) says (t .1))) in
-    let whole : take size text ≡ lineOf (name line) (valueText line (withValue line r says value)) =
-    t .1 .whole ∙ ap (λ (x : List ℕ). lineOf x (t .1 .value)) (name-is line (r .set)) ∙ ap (lineOf (name line)) (sym (f .spelled ∙ is)) in
+    let is : value ≡ t .1 .value = value-in kind (take size text) says (fit-kind part (r .set)) (t .1) in
+    let f = value-follows part (is-part .0) (is-part .1) r says value (rw is (kind-spells form line r (take size text) says (t .1))) in
+    let whole : take size text ≡ lineOf (name part) (valueText part (withValue part r says value)) =
+    t .1 .whole ∙ ap (λ (x : List ℕ). lineOf x (t .1 .value)) (name-is part (r .set)) ∙ ap (lineOf (name part)) (sym (f .spelled ∙ is)) in
     record {
       rule = f .rule;
       typed = f .typed;
-      before = f .before;
+      before = λ i l j. f .before (partAt form i) (part-is form i l (omega arith) .0) (part-order form i line l j);
       size-is = sym (length-take-le size text (t .0)) ∙ ap length whole;
       there = sym (take-append-drop size text) ∙ ap (λ (x : List ℕ). x ++ drop size text) whole;
     }

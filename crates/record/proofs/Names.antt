@@ -1,4 +1,4 @@
--- The names of the lines: each has one to eight bytes, and no line feed.
+-- The names of the parts: each has one to eight bytes, and no line feed.
 use mathlib.Core.Path.{_≡_, refl, ap, _∙_}
 use mathlib.Core.Bool.{Bool, true, _&&_}
 use mathlib.Core.List.{List, [], _∷_, _++_}
@@ -37,38 +37,38 @@ record IsName (x : List ℕ) : Type 0 where
   plainly : plain x ≡ true
 
 -- each name is one
-is-name : (line : ℕ) → IsName (name line)
+is-name : (part : ℕ) → IsName (name part)
 unfolding name names
-is-name line =
-    let b = and-both (leb 1 (length (name line))) _ (at-each names (line - 1) (getD names 0 []) refl refl) in
-    let c = and-both (leb (length (name line)) 8) _ (b .1) in
+is-name part =
+    let b = and-both (leb 1 (length (name part))) _ (at-each names (part - 1) (getD names 0 []) refl refl) in
+    let c = and-both (leb (length (name part)) 8) _ (b .1) in
     record { some = leb-true 1 _ (b .0); few = leb-true _ 8 (c .0); plainly = c .1 }
 
 -- a name has a byte, and eight at most
-pub name-sizes : (line : ℕ) → (1 ≤ length (name line)) × (length (name line) ≤ 8)
-name-sizes line = (is-name line .some, is-name line .few)
+pub name-sizes : (part : ℕ) → (1 ≤ length (name part)) × (length (name part) ≤ 8)
+name-sizes part = (is-name part .some, is-name part .few)
 
 -- no name has a line feed
-pub name-plain : (line : ℕ) → plain (name line) ≡ true
-name-plain line = is-name line .plainly
+pub name-plain : (part : ℕ) → plain (name part) ≡ true
+name-plain part = is-name part .plainly
 
 -- a name in its places
-named-name : (line : ℕ) → named (name line) ≡ record { bytes = name line ++ zeros (16 - length (name line)); size = length (name line) }
+named-name : (part : ℕ) → named (name part) ≡ record { bytes = name part ++ zeros (16 - length (name part)); size = length (name part) }
 unfolding named
-named-name line = rw (le-leb (length (name line)) 16 (omega (arith, name-sizes line .1)))
+named-name part = rw (le-leb (length (name part)) 16 (omega (arith, name-sizes part .1)))
 
 -- its size is within them
-pub name-in-places : (line : ℕ) (n : Name) → n ≡ named (name line) → n .size ≤ length (n .bytes)
-name-in-places line n e =
-    let f = e ∙ named-name line in
-    let s : n .size ≡ length (name line) = ap (λ (m : Name). m .size) f in
-    let b = ap (λ (m : Name). length (m .bytes)) f ∙ length-append (name line) (zeros (16 - length (name line))) in
+pub name-in-places : (part : ℕ) (n : Name) → n ≡ named (name part) → n .size ≤ length (n .bytes)
+name-in-places part n e =
+    let f = e ∙ named-name part in
+    let s : n .size ≡ length (name part) = ap (λ (m : Name). m .size) f in
+    let b = ap (λ (m : Name). length (m .bytes)) f ∙ length-append (name part) (zeros (16 - length (name part))) in
     omega arith
 
 -- and out of them
-pub name-of-named : (line : ℕ) (n : Name) → n ≡ named (name line) → (n .size ≡ length (name line)) × (take (n .size) (n .bytes) ≡ name line)
-name-of-named line n e =
-    let f = e ∙ named-name line in (
+pub name-of-named : (part : ℕ) (n : Name) → n ≡ named (name part) → (n .size ≡ length (name part)) × (take (n .size) (n .bytes) ≡ name part)
+name-of-named part n e =
+    let f = e ∙ named-name part in (
       ap (λ (m : Name). m .size) f,
-      ap (λ (m : Name). take (m .size) (m .bytes)) f ∙ take-append-seam (name line) (zeros (16 - length (name line))),
+      ap (λ (m : Name). take (m .size) (m .bytes)) f ∙ take-append-seam (name part) (zeros (16 - length (name part))),
     )

@@ -1,5 +1,5 @@
--- What a bench record holds, line by line, and the rule of each line.
-use mathlib.Core.Bool.{Bool, true, cond, _&&_, _||_}
+-- What a bench record holds, part by part, the rule of each part, and which lines each of the two forms has.
+use mathlib.Core.Bool.{Bool, true, false, cond, not, _&&_, _||_}
 use mathlib.Core.List.{List, [], _∷_, _++_}
 use Prim.Native.Nat.{ℕ, zero, suc, _+_, _-_}
 use lib.Dec.{eqb, leb}
@@ -10,6 +10,8 @@ use Rattle.lines.specs.declared.kinds.Value.{Value}
 use Rattle.lines.specs.declared.kinds.Value.the-variants.{Fixed, Number, Bytes}
 use Rattle.permutation.specs.Strings.{zeros, same}
 use Rattle.record.specs.declared.field.Field.{Field}
+use Rattle.record.specs.declared.form.Form.{Form}
+use Rattle.record.specs.declared.form.Form.the-variants.{One, Two}
 use Rattle.record.specs.declared.form.Record.{Record}
 
 -- ---- fields
@@ -26,49 +28,57 @@ held f = take (f .size) (f .bytes)
 unfoldable pub isField : Field → Bool
 isField f = leb (f .size) 256 && same (drop (f .size) (f .bytes)) (zeros (256 - f .size))
 
--- ---- lines 1 to 8: set, key, nonce, ad, text, cipher, tag, rounds
+-- ---- the parts of a record: 1 form, 2 set, 3 chip, 4 key, 5 nonce, 6 ad, 7 text, 8 cipher, 9 tag, 10 rounds; no other number comes up
 
--- lines 1 and 8 hold a number, the others bytes
-abbrev pub isNumber : ℕ → Bool
-isNumber line = eqb line 1 || eqb line 8
+-- form 2 has a line for each part, in this order; form 1 has none for the form and for the chip
+abbrev pub partAt : Form → ℕ → ℕ
+partAt One line = cond (eqb line 1) 2 (line + 2)
+partAt Two line = line
 
--- lines 2, 3 and 7 have the length of the set's key
+-- how many lines a form has
+abbrev pub linesIn : Form → ℕ
+linesIn One = 8
+linesIn Two = 10
+
+-- key, nonce and tag have the length of the set's key
 abbrev pub isKeyed : ℕ → Bool
-isKeyed line = eqb line 2 || (eqb line 3 || eqb line 7)
+isKeyed part = eqb part 4 || (eqb part 5 || eqb part 9)
 
--- the number of a line
+-- the number of a part
 abbrev pub numberAt : ℕ → Record → ℕ
-numberAt line r = cond (eqb line 1) (r .set) (r .rounds)
+numberAt part r = cond (eqb part 2) (r .set) (cond (eqb part 3) (r .chip) (r .rounds))
 
--- the bytes of a line
+-- the bytes of a part
 abbrev pub fieldAt : ℕ → Record → Field
-fieldAt line r = getD (r .key ∷ r .nonce ∷ r .ad ∷ r .text ∷ r .cipher ∷ r .tag ∷ []) (line - 2) (r .key)
+fieldAt part r = getD (r .key ∷ r .nonce ∷ r .ad ∷ r .text ∷ r .cipher ∷ r .tag ∷ []) (part - 4) (r .key)
 
--- the record with another number in a line
+-- the record with another number in a part
 unfoldable pub withNumber : ℕ → ℕ → Record → Record
-withNumber line n r =
+withNumber part n r =
     record {
-      set = cond (eqb line 1) n (r .set);
+      set = cond (eqb part 2) n (r .set);
+      chip = cond (eqb part 3) n (r .chip);
       key = r .key;
       nonce = r .nonce;
       ad = r .ad;
       text = r .text;
       cipher = r .cipher;
       tag = r .tag;
-      rounds = cond (eqb line 8) n (r .rounds);
+      rounds = cond (eqb part 10) n (r .rounds);
     }
 
--- the record with other bytes in a line
+-- the record with other bytes in a part
 unfoldable pub withField : ℕ → Field → Record → Record
-withField line f r =
+withField part f r =
     record {
       set = r .set;
-      key = cond (eqb line 2) f (r .key);
-      nonce = cond (eqb line 3) f (r .nonce);
-      ad = cond (eqb line 4) f (r .ad);
-      text = cond (eqb line 5) f (r .text);
-      cipher = cond (eqb line 6) f (r .cipher);
-      tag = cond (eqb line 7) f (r .tag);
+      chip = r .chip;
+      key = cond (eqb part 4) f (r .key);
+      nonce = cond (eqb part 5) f (r .nonce);
+      ad = cond (eqb part 6) f (r .ad);
+      text = cond (eqb part 7) f (r .text);
+      cipher = cond (eqb part 8) f (r .cipher);
+      tag = cond (eqb part 9) f (r .tag);
       rounds = r .rounds;
     }
 
@@ -76,15 +86,18 @@ withField line f r =
 unfoldable pub blank : Record
 blank =
     let none = fieldOf [] in
-    record { set = 0; key = none; nonce = none; ad = none; text = none; cipher = none; tag = none; rounds = 0 }
+    record { set = 0; chip = 0; key = none; nonce = none; ad = none; text = none; cipher = none; tag = none; rounds = 0 }
 
 -- ---- rules
 
--- what a line may hold, where the set is this: the number of a known set; a number of at most seven digits; as many bytes as the set's key has, or at most 256
+-- what a part may hold, where the set is this: nothing, since the name of the form's line is all of it; the number of a known set; a number of 16 bits; a number of at most seven
+-- digits; as many bytes as the set's key has, or at most 256
 unfoldable pub valueKind : ℕ → ℕ → Value
-valueKind line set =
-    cond (eqb line 1) (Number 1 (length table))
-    (cond (eqb line 8) (Number 0 9_999_999) (cond (isKeyed line) (Bytes (rowOf set .key) (rowOf set .key) Lower) (Bytes 0 256 Lower)))
+valueKind part set =
+    cond (eqb part 1) (Fixed 2)
+    (cond (eqb part 2) (Number 1 (length table))
+    (cond (eqb part 3) (Number 0 65_535)
+    (cond (eqb part 10) (Number 0 9_999_999) (cond (isKeyed part) (Bytes (rowOf set .key) (rowOf set .key) Lower) (Bytes 0 256 Lower)))))
 
 -- a number or a field is what may be held: between two numbers; bytes, at least and at most so many, with zeros behind them
 abbrev pub allows : Value → ℕ → Field → Bool
@@ -92,15 +105,20 @@ allows (Fixed own) n f = true
 allows (Number least most) n f = leb least n && leb n most
 allows (Bytes least most case) n f = isField f && (leb least (f .size) && leb (f .size) most)
 
--- a line holds what it may
+-- a part holds what it may
 unfoldable pub keeps : ℕ → Record → Bool
-keeps line r = allows (valueKind line (r .set)) (numberAt line r) (fieldAt line r)
+keeps part r = allows (valueKind part (r .set)) (numberAt part r) (fieldAt part r)
 
--- of `count` lines, from a line on, the first that breaks its rule; 0 where none does
-abbrev pub brokenFrom : ℕ → ℕ → Record → ℕ
-brokenFrom zero line r = 0
-brokenFrom (suc count) line r = cond (keeps line r) (brokenFrom count (line + 1) r) line
+-- of `count` lines of a form, from a line on, the first that breaks its rule; 0 where none does
+abbrev pub brokenFrom : Form → ℕ → ℕ → Record → ℕ
+brokenFrom form zero line r = 0
+brokenFrom form (suc count) line r = cond (keeps (partAt form line) r) (brokenFrom form count (line + 1) r) line
 
--- the first line of a record that breaks its rule; 0 where the record is in form
-unfoldable pub broken : Record → ℕ
-broken r = brokenFrom 8 1 r
+-- the first line of a record in a form that breaks its rule; 0 where the record is in form
+unfoldable pub broken : Form → Record → ℕ
+broken form r = brokenFrom form (linesIn form) 1 r
+
+-- form 1 has no line for the chip, so a chip other than 0 would be lost in it
+abbrev pub losesChip : Form → Record → Bool
+losesChip One r = not (eqb (r .chip) 0)
+losesChip Two r = false

@@ -1,11 +1,14 @@
-// Reading a record: line by line, by the table of the lines' kinds.
+// Reading a record: line by line, by the table of its form.
 ghost use mathlib.Core.Path.{_≡_};
-ghost use Rattle.record.specs.Calls.{withValue, refusedAt, readCall};
+ghost use Prim.Native.Nat.{_≤_};
+ghost use Rattle.record.specs.Calls.{withValue, refusedAt, readCall, mark, shared, formOf, insideMark, readAny};
 use crate::field;
 use crate::form;
+use crate::form::Form;
 use crate::form::Record;
 use answers::Answer;
 use lines::Step;
+use lines::Value;
 
 // What reading answers: the answer; the line and column at which a text is wrong, and whether it only ended too early, so that more of it can make a record; how many
 // bytes were taken; and the record.
@@ -18,15 +21,19 @@ pub struct Reading {
     pub content: Record,
 }
 
-// A record with a line's value: the number that the line says, or the bytes of its digits.
-fn with_value(line: usize, entry: Record, number: u64, digits: &[u8]) -> Record
-    ensures { λ r. ⌜ r ≡ withValue line entry number (now (digits .entry)) ⌝ }
+// A record with what a line says in a part: nothing, the number, or the bytes of the digits.
+fn with_value(part: usize, entry: Record, number: u64, digits: &[u8]) -> Record
+    ensures { λ r. ⌜ r ≡ withValue part entry number (now (digits .entry)) ⌝ }
 {
-    if form::is_number(line) {
-        return form::with_number(line, entry, number);
+    let value = form::value_of(part, entry.set);
+    match value {
+        Value::Fixed(_) => entry,
+        Value::Number(_, _) => form::with_number(part, entry, number),
+        Value::Bytes(_, _, _) => {
+            let field = field::read_field(digits);
+            form::with_field(part, entry, field)
+        }
     }
-    let field = field::read_field(digits);
-    form::with_field(line, entry, field)
 }
 
 // Refused at a line and column.
@@ -44,20 +51,22 @@ fn refusal(line: usize, column: usize, early: bool) -> Reading
     }
 }
 
-// Reads the record that a text begins with.
-pub fn read(text: &[u8]) -> Reading
-    ensures { λ r. ⌜ r ≡ readCall (now (text .entry)) ⌝ }
+// Reads the record of a form that a text begins with.
+pub fn read(form: Form, text: &[u8]) -> Reading
+    ensures { λ r. ⌜ r ≡ readCall form (now (text .entry)) ⌝ }
 {
+    let last = form::lines_in(form);
     let mut entry = form::no_record();
     let mut at = 0;
     let mut line = 1;
     let mut column = 0;
     let mut early = false;
     let bad = loop {
-        if line == 9 {
+        if last < line {
             break 0;
         }
-        let kind = form::kind_of(line, entry.set);
+        let part = form::part_at(form, line);
+        let kind = form::kind_of(part, entry.set);
         let mut state = lines::begun();
         let mut end = at;
         'digits: while end < text.len() {
@@ -76,7 +85,7 @@ pub fn read(text: &[u8]) -> Reading
         let name = kind.name;
         let from = at + name.size;
         let feed = end - 1;
-        let next = with_value(line, entry, state.number, &text[from..feed]);
+        let next = with_value(part, entry, state.number, &text[from..feed]);
         entry = next;
         at = end;
         line += 1;
@@ -92,4 +101,54 @@ pub fn read(text: &[u8]) -> Reading
         taken: at,
         content: entry,
     }
+}
+
+// How many characters of `form=` a text begins with.
+fn marked(text: &[u8]) -> usize
+    ensures { λ r. ⌜ r ≡ shared mark (now (text .entry)) ⌝ }
+    ensures { λ r. ⌜ r ≤ 5 ⌝ }
+{
+    let word = *b"form=";
+    let mut at = 0;
+    while at < 5 {
+        if at == text.len() {
+            return at;
+        }
+        if word[at] != text[at] {
+            return at;
+        }
+        at += 1;
+    }
+    at
+}
+
+// The form that a text's first line is of.
+fn form_of(text: &[u8]) -> Form
+    ensures { λ r. ⌜ r ≡ formOf (now (text .entry)) ⌝ }
+{
+    if marked(text) == 5 {
+        return Form::Two;
+    }
+    Form::One
+}
+
+// Whether a text ends inside `form=`.
+fn is_inside_mark(text: &[u8]) -> bool
+    ensures { λ r. ⌜ r ≡ insideMark (now (text .entry)) ⌝ }
+{
+    if 5 <= text.len() {
+        return false;
+    }
+    marked(text) == text.len()
+}
+
+// Reads the record of either form that a text begins with.
+pub fn read_any(text: &[u8]) -> Reading
+    ensures { λ r. ⌜ r ≡ readAny (now (text .entry)) ⌝ }
+{
+    if is_inside_mark(text) {
+        return refusal(1, 1, true);
+    }
+    let form = form_of(text);
+    read(form, text)
 }

@@ -1,18 +1,19 @@
-// Writes again the records that stand one after another in the first 65,536 bytes of standard input: as they were read, in rooms around their length, and with
-// lines changed. The file `stdout` holds the second program's answers to the records in the file `stdin`.
+// Writes again the records that stand one after another in the first 65,536 bytes of standard input, of either form, in both forms: as they were read, in rooms around
+// their length, and with parts changed. The file `stdout` holds the second program's answers to the records in the file `stdin`.
 ghost use mathlib.Core.Path.{_≡_};
 ghost use Prim.Native.Nat.{_≤_};
 ghost use lib.ListN.{length};
 ghost use Rattle.io.specs.Counts.{Counts};
 use libc::STDOUT_FILENO;
 use record::Field;
+use record::Form;
 use record::Record;
 use record::Writing;
 
 // How many places a record is written in: more than any record takes.
-const PLACES: usize = 1700;
+const PLACES: usize = 1710;
 
-// How a line of a record is changed.
+// How a part of a record is changed.
 enum Change {
     // A number, or a length, that no record allows.
     Over,
@@ -43,7 +44,7 @@ fn say_line(name: &[u8], n: u64) {
 
 // Places with a byte in each that no record has, and another than its neighbours.
 fn marked() -> [u8; PLACES]
-    ensures { λ r. ⌜ 1700 ≡ length r ⌝ }
+    ensures { λ r. ⌜ 1710 ≡ length r ⌝ }
 {
     let mut places = [0; PLACES];
     let mut i = 0;
@@ -78,23 +79,25 @@ fn say_writing(writing: Writing, before: &[u8], places: &[u8])
     io::write_all(STDOUT_FILENO, &places[..written]);
 }
 
-// Writes a record in the first places, so many.
-fn write_in(entry: Record, places: &mut [u8], room: usize) -> Writing
+// Writes a record in a form, in the first places, so many.
+fn write_in(form: Form, entry: Record, places: &mut [u8], room: usize) -> Writing
     requires { ⌜ room ≤ length (now places) ⌝ }
     ensures { λ r. ⌜ Counts (r .written) (now (places .exit)) ⌝ }
 {
-    record::write(entry, &mut places[..room])
+    record::write(form, entry, &mut places[..room])
 }
 
-// Writes a record in so many marked places, and says what came of it.
-fn attempt(entry: Record, room: usize)
-    requires { ⌜ room ≤ 1700 ⌝ }
+// Writes a record in a form in so many marked places, says what came of it, and gives how many bytes were written.
+fn attempt(form: Form, entry: Record, room: usize) -> usize
+    requires { ⌜ room ≤ 1710 ⌝ }
+    ensures { λ r. ⌜ r ≤ 1710 ⌝ }
 {
     let before = marked();
     let mut places = before;
-    let writing = write_in(entry, &mut places, room);
+    let writing = write_in(form, entry, &mut places, room);
     say_count(b": room=", room);
     say_writing(writing, &before, &places);
+    writing.written
 }
 
 // A number changed.
@@ -119,66 +122,67 @@ fn change_field(field: Field, change: Change) -> Field {
     next
 }
 
-// A record with a line changed.
-fn change_line(entry: Record, line: usize, change: Change) -> Record {
+// A record with a part changed: one of those that form 2 has in its lines 2 to 10.
+fn change_part(entry: Record, part: usize, change: Change) -> Record {
     let mut next = entry;
-    match line {
-        1 => next.set = change_number(entry.set, 3, change),
-        2 => next.key = change_field(entry.key, change),
-        3 => next.nonce = change_field(entry.nonce, change),
-        4 => next.ad = change_field(entry.ad, change),
-        5 => next.text = change_field(entry.text, change),
-        6 => next.cipher = change_field(entry.cipher, change),
-        7 => next.tag = change_field(entry.tag, change),
+    match part {
+        2 => next.set = change_number(entry.set, 3, change),
+        3 => next.chip = change_number(entry.chip, 65536, change),
+        4 => next.key = change_field(entry.key, change),
+        5 => next.nonce = change_field(entry.nonce, change),
+        6 => next.ad = change_field(entry.ad, change),
+        7 => next.text = change_field(entry.text, change),
+        8 => next.cipher = change_field(entry.cipher, change),
+        9 => next.tag = change_field(entry.tag, change),
         _ => next.rounds = change_number(entry.rounds, 10000000, change),
     }
     next
 }
 
-// Writes a record with a line changed, each of the eight in turn.
-fn try_lines(name: &[u8], entry: Record, change: Change) {
-    let mut line: usize = 1;
-    while line < 9 {
-        say_count(name, line);
-        attempt(change_line(entry, line, change), PLACES);
-        line += 1;
+// Writes a record with a part changed, each of the nine in turn.
+fn try_parts(name: &[u8], form: Form, entry: Record, change: Change) {
+    let mut part: usize = 2;
+    while part < 11 {
+        say_count(name, part);
+        attempt(form, change_part(entry, part, change), PLACES);
+        part += 1;
     }
 }
 
-// Writes a record with its last lines over their limits, the last alone first and all eight in the end, in no room.
-fn try_several(entry: Record) {
+// Writes a record with its last parts over their limits, the last alone first and all nine in the end, in no room.
+fn try_several(form: Form, entry: Record) {
     let mut next = entry;
-    let mut line: usize = 8;
-    while 0 < line {
-        next = change_line(next, line, Change::Over);
-        say_count(b"over from line ", line);
-        attempt(next, 0);
-        line -= 1;
+    let mut part: usize = 10;
+    while 1 < part {
+        next = change_part(next, part, Change::Over);
+        say_count(b"over from part ", part);
+        attempt(form, next, 0);
+        part -= 1;
     }
 }
 
-// Writes a record as it was read, in so many places.
-fn try_room(entry: Record, room: usize)
-    requires { ⌜ room ≤ 1700 ⌝ }
+// Writes a record as it was read, in so many places, and gives how many bytes were written.
+fn try_room(form: Form, entry: Record, room: usize) -> usize
+    requires { ⌜ room ≤ 1710 ⌝ }
+    ensures { λ r. ⌜ r ≤ 1710 ⌝ }
 {
     io::write_all(STDOUT_FILENO, b"as read");
-    attempt(entry, room);
+    attempt(form, entry, room)
 }
 
-// Writes a record of so many bytes in every way: in rooms around its length, and with lines changed.
-fn rewrite(entry: Record, size: usize)
-    requires { ⌜ 1 ≤ size ⌝ }
-    requires { ⌜ size ≤ 1700 ⌝ }
-{
-    try_room(entry, PLACES);
-    try_room(entry, size);
-    try_room(entry, size - 1);
-    try_room(entry, 0);
-    try_lines(b"over in line ", entry, Change::Over);
-    try_lines(b"more in line ", entry, Change::More);
-    try_lines(b"less in line ", entry, Change::Less);
-    try_lines(b"last in line ", entry, Change::Last);
-    try_several(entry);
+// Writes a record in a form in every way: in rooms around its length, and with parts changed.
+fn rewrite(form: Form, entry: Record) {
+    let size = try_room(form, entry, PLACES);
+    try_room(form, entry, size);
+    if size != 0 {
+        try_room(form, entry, size - 1);
+    }
+    try_room(form, entry, 0);
+    try_parts(b"over in part ", form, entry, Change::Over);
+    try_parts(b"more in part ", form, entry, Change::More);
+    try_parts(b"less in part ", form, entry, Change::Less);
+    try_parts(b"last in part ", form, entry, Change::Last);
+    try_several(form, entry);
 }
 
 // Writes again every record of a text, up to the first that can not be read.
@@ -189,7 +193,7 @@ fn rewrite_all(text: &[u8])
     let mut number = 1;
     while at < text.len() {
         say_line(b"record=", number);
-        let reading = record::read(&text[at..]);
+        let reading = record::read_any(&text[at..]);
         let content = reading.content;
         let taken = reading.taken;
         if taken == 0 {
@@ -197,7 +201,10 @@ fn rewrite_all(text: &[u8])
             say_line(b" column=", reading.column as u64);
             return;
         }
-        rewrite(content, taken);
+        say_line(b"form=", 1);
+        rewrite(Form::One, content);
+        say_line(b"form=", 2);
+        rewrite(Form::Two, content);
         at += taken;
         number = std::num::wrapping_add_u64(number, 1);
     }

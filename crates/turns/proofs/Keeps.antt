@@ -10,8 +10,8 @@ use lib.Seq.{take-append-seam, drop-append-le}
 use borrow.Author.Tests.{eqb-true, eqb-false, eq-eqb, ne-eqb}
 use Rattle.answers.specs.Numbers.{isDone}
 use Rattle.answers.proofs.Numbers.{done-is}
-use Rattle.record.specs.Calls.{readCall}
-use Rattle.record.proofs.Laws.{taken-inside}
+use Rattle.record.specs.Calls.{readAny}
+use Rattle.record.proofs.Any.{any-inside}
 use Rattle.report.specs.declared.Verdict.{Verdict}
 use Rattle.report.specs.Reports.{reportText}
 use Rattle.report.proofs.Lengths.{length-report}
@@ -318,11 +318,11 @@ no-front x y e = no-length x (omega (arith, ap length e, length-append x y))
 
 -- a final window tells the first verdict that is to come, and what comes behind it
 first-verdict : (r : Standing) (rest : List ℕ) → (r .ended ≡ true → rest ≡ []) → r .tally .unread ≡ 0 → eqb (length (r .window)) 0 ≡ false → isFinal (r .window) (r .ended) ≡ true
-    → remaining r rest ≡ verdictRead (readCall (r .window)) ∷ remaining (withReport r) rest
+    → remaining r rest ≡ verdictRead (readAny (r .window)) ∷ remaining (withReport r) rest
 unfolding remaining withReport
 first-verdict r rest h unread some final =
     rw (eq-eqb (r .tally .unread) 0 unread, verdicts-step (r .window ++ rest) (omega (arith, length-append (r .window) rest, nonempty)), sym same)
-    (ap (λ (vs : List Verdict). verdictRead (readCall (r .window)) ∷ vs) (go (isDone (readCall (r .window) .answer)) refl))
+    (ap (λ (vs : List Verdict). verdictRead (readAny (r .window)) ∷ vs) (go (isDone (readAny (r .window) .answer)) refl))
   where
     nonempty : 1 ≤ length (r .window)
     nonempty = let z = eqb-false (length (r .window)) 0 some in omega arith
@@ -333,22 +333,22 @@ first-verdict r rest h unread some final =
     no-more : r .ended ≡ true → length (r .window ++ rest) ≤ length (r .window)
     no-more e = omega (arith, length-append (r .window) rest, ap length (h e))
 
-    same : readCall (r .window) ≡ readCall (r .window ++ rest)
+    same : readAny (r .window) ≡ readAny (r .window ++ rest)
     same = rw seam at (judges .window (r .window ++ rest) (length (r .window)) (r .ended) no-more (rw seam final))
 
-    go : (d : Bool) → isDone (readCall (r .window) .answer) ≡ d
-        → cond d (verdictsOf (drop (readCall (r .window) .taken) (r .window ++ rest))) []
-        ≡ cond (eqb (countedWith (r .tally) (verdictRead (readCall (r .window))) .unread) 0) (verdictsOf (drop (readCall (r .window) .taken) (r .window) ++ rest)) []
+    go : (d : Bool) → isDone (readAny (r .window) .answer) ≡ d
+        → cond d (verdictsOf (drop (readAny (r .window) .taken) (r .window ++ rest))) []
+        ≡ cond (eqb (countedWith (r .tally) (verdictRead (readAny (r .window))) .unread) 0) (verdictsOf (drop (readAny (r .window) .taken) (r .window) ++ rest)) []
     go true d =
-        let done = done-is (readCall (r .window) .answer) d in
-        let stays = unread-stays (r .tally) (verdictRead (readCall (r .window))) (λ line column. judges .read (r .window) line column done) in
+        let done = done-is (readAny (r .window) .answer) d in
+        let stays = unread-stays (r .tally) (verdictRead (readAny (r .window))) (λ line column. judges .read (r .window) line column done) in
         rw (
-          eq-eqb (countedWith (r .tally) (verdictRead (readCall (r .window))) .unread) 0 (stays ∙ unread),
-          drop-append-le (readCall (r .window) .taken) (r .window) rest (taken-inside (r .window) done .1),
+          eq-eqb (countedWith (r .tally) (verdictRead (readAny (r .window))) .unread) 0 (stays ∙ unread),
+          drop-append-le (readAny (r .window) .taken) (r .window) rest (any-inside (r .window) done .1),
         )
     go false d =
         let counts = ap (λ (v : Verdict). countedWith (r .tally) v .unread) (judges .unread (r .window) d) in
-        rw (ne-eqb (countedWith (r .tally) (verdictRead (readCall (r .window))) .unread) 0 (λ (z : countedWith (r .tally) (verdictRead (readCall (r .window))) .unread ≡ 0). omega (arith, counts)))
+        rw (ne-eqb (countedWith (r .tally) (verdictRead (readAny (r .window))) .unread) 0 (λ (z : countedWith (r .tally) (verdictRead (readAny (r .window))) .unread ≡ 0). omega (arith, counts)))
 
 -- a report
 keeps-report : (r : Standing) (had wrote said : List ℕ) → Keeps r had wrote said → r .stage ≡ Judge → r .tally .unread ≡ 0 → eqb (length (r .window)) 0 ≡ false
@@ -372,7 +372,7 @@ keeps-report r had wrote said k judging unread some final =
     }
   where
     verdict : Verdict
-    verdict = verdictRead (readCall (r .window))
+    verdict = verdictRead (readAny (r .window))
 
     number : recordsOf (r .tally) + 1 ≡ 1 + length (k .verdicts)
     number = omega (arith, ap recordsOf (k .counted), records-counted none (k .verdicts))

@@ -1,7 +1,7 @@
 -- The program's run keeps its promises.
 use mathlib.Core.Path.{_≡_, refl, sym, ap, ap₂, _∙_}
 use mathlib.Core.Bool.{Bool, true, false, cond, _||_, false≢true, true≢false}
-use mathlib.Core.List.{List, [], _∷_, _++_, map, append-nil, append-assoc}
+use mathlib.Core.List.{List, [], _∷_, _++_, append-nil, append-assoc}
 use mathlib.Core.Logic.{_⊎_, inl, inr, ⊎-elim}
 use Prim.Native.Nat.{ℕ, zero, suc, _+_, _≤_, _<_}
 use native.Mathlib.Omega.{arith}
@@ -10,12 +10,12 @@ use lib.ListN.{length, take, drop, length-append, length-map}
 use borrow.Author.Tests.{eqb-true, eqb-false, eq-eqb, ne-eqb}
 use Rattle.digits.specs.Ascii.{ascii}
 use Rattle.digits.specs.Numbers.{places, numeral}
-use Rattle.record.specs.declared.form.Record.{Record}
+use Rattle.record.specs.Calls.{formOf}
 use Rattle.record.specs.Laws.{WrongAt}
 use Rattle.report.specs.declared.Verdict.{Verdict}
 use Rattle.report.specs.declared.Verdict.the-variants.{Unread}
 use Rattle.judge.specs.Steps.{isFinal, verdictsOf, reportsFrom, outputFrom}
-use Rattle.judge.specs.Laws.{AllInForm, textsOf}
+use Rattle.judge.specs.Laws.{Entry, AllInForm, textsOf, verdictsOn}
 use Rattle.judge.specs.Verdicts.{verdictOn}
 use Rattle.judge.proofs.Laws.{judges}
 use Rattle.judge.proofs.Outputs.{reports-append}
@@ -561,13 +561,13 @@ located input before line column e =
     ∙ ap (λ (n : ℕ). faultLine n line column ++ endLine (countedWith t (Unread line column))) number)
 
 -- behind records in form, the place of a wrong text is said first
-place : (records : List Record) (text : List ℕ) (line column : ℕ) → AllInForm records → 1 ≤ length text → WrongAt text line column
-    → let input = textsOf records ++ text in
-    wordsOn input ≡ faultLine (length records + 1) line column ++ endLine (countedAll none (verdictsOf input))
-place records text line column sound some w =
-    let verdicts = judges .in-a-row records text sound ∙ ap (λ (vs : List Verdict). map verdictOn records ++ vs) (judges .wrong-at text line column some w) in
-    located (textsOf records ++ text) (map verdictOn records) line column verdicts
-    ∙ ap (λ (n : ℕ). faultLine (n + 1) line column ++ endLine (countedAll none (verdictsOf (textsOf records ++ text)))) (length-map records verdictOn)
+place : (entries : List Entry) (text : List ℕ) (line column : ℕ) → AllInForm entries → 1 ≤ length text → WrongAt (formOf text) text line column
+    → let input = textsOf entries ++ text in
+    wordsOn input ≡ faultLine (length entries + 1) line column ++ endLine (countedAll none (verdictsOf input))
+place entries text line column sound some w =
+    let verdicts = judges .in-a-row entries text sound ∙ ap (λ (vs : List Verdict). verdictsOn entries ++ vs) (judges .wrong-at text line column some w) in
+    located (textsOf entries ++ text) (verdictsOn entries) line column verdicts
+    ∙ ap (λ (n : ℕ). faultLine (n + 1) line column ++ endLine (countedAll none (verdictsOf (textsOf entries ++ text)))) (length-map entries (λ e. verdictOn (e .content)))
 
 -- the run keeps its promises
 pub whole-reports : WholeReports

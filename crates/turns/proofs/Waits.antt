@@ -8,9 +8,9 @@ use lib.Dec.{eqb}
 use lib.ListN.{length, drop}
 use borrow.Author.Tests.{eqb-true}
 use Rattle.record.specs.declared.reading.Reading.{Reading}
-use Rattle.record.specs.Calls.{refusedAt, readCall}
-use Rattle.record.specs.Laws.{Begun}
-use Rattle.record.proofs.Laws.{reads-and-writes}
+use Rattle.record.specs.Calls.{refusedAt, readAny}
+use Rattle.record.specs.Laws.{BegunAny}
+use Rattle.record.proofs.Any.{reads-any}
 use Rattle.judge.specs.Steps.{isFinal}
 use Rattle.turns.specs.declared.Ending.the-variants.{TooMany}
 use Rattle.turns.specs.declared.Stage.{Stage}
@@ -20,7 +20,7 @@ use Rattle.turns.specs.Run.{Standing, Reply, Came, Took, Again, Failed, 
 
 -- where a read is next, the input has not ended, and what is not judged yet ended too early
 abbrev Waits : Standing → Type 0
-Waits r = r .stage ≡ Read → (r .ended ≡ false) × (readCall (r .window) .early ≡ true)
+Waits r = r .stage ≡ Read → (r .ended ≡ false) × (readAny (r .window) .early ≡ true)
 
 -- ---- stages behind which no read is next
 
@@ -68,9 +68,9 @@ waits-heard r (Took n) k = go (isWriting (r .stage)) refl
     go false h e = k e
 
 -- of an empty window
-empty-early : (x : List ℕ) → length x ≡ 0 → readCall x .early ≡ true
+empty-early : (x : List ℕ) → length x ≡ 0 → readAny x .early ≡ true
 unfolding refusedAt
-empty-early [] e = ap (λ (r : Reading). r .early) (reads-and-writes .nothing)
+empty-early [] e = ap (λ (r : Reading). r .early) (reads-any .nothing)
 empty-early (c ∷ x) e = absurd (omega arith)
 
 -- after judging
@@ -78,7 +78,7 @@ waits-looked : (r : Standing) → Waits (looked r)
 unfolding looked withReport
 waits-looked r = go (eqb (r .tally .unread) 0) (eqb (recordsOf (r .tally) + 1) largest) (eqb (length (r .window)) 0) (isFinal (r .window) (r .ended)) refl refl
   where
-    empty : (b : Bool) → r .ended ≡ b → length (r .window) ≡ 0 → cond b Close Read ≡ Read → (r .ended ≡ false) × (readCall (r .window) .early ≡ true)
+    empty : (b : Bool) → r .ended ≡ b → length (r .window) ≡ 0 → cond b Close Read ≡ Read → (r .ended ≡ false) × (readAny (r .window) .early ≡ true)
     empty true f h e = let z : _≡_ {A = ℕ} 0 1 = cc in absurd (omega arith)
     empty false f h e = (f, empty-early (r .window) h)
 
@@ -92,7 +92,7 @@ waits-looked r = go (eqb (r .tally .unread) 0) (eqb (recordsOf (r .tally) + 1) l
     go true true w f g h e = let z : _≡_ {A = ℕ} 0 1 = cc in absurd (omega arith)
     go true false true f g h e = empty (r .ended) refl (eqb-true (length (r .window)) 0 g) e
     go true false false true g h e = let z : _≡_ {A = ℕ} 0 1 = cc in absurd (omega arith)
-    go true false false false g h e = more (r .ended) (readCall (r .window) .early) h
+    go true false false false g h e = more (r .ended) (readAny (r .window) .early) h
     go false m w f g h e = let z : _≡_ {A = ℕ} 0 1 = cc in absurd (omega arith)
 
 waits-judged : (r : Standing) → Waits r → Waits (judged r)
@@ -120,8 +120,8 @@ waits-ran (reply ∷ replies) r k = waits-ran replies (turned r reply) (waits-cl
 
 -- more is read only while it can make a record
 pub at-once : (replies : List Reply) → let r = ran replies in
-    r .stage ≡ Read → (r .ended ≡ false) × (Begun 8 (r .window) → ⊥) × ((more : List ℕ) × Begun 8 (r .window ++ more))
+    r .stage ≡ Read → (r .ended ≡ false) × (BegunAny (r .window) → ⊥) × ((more : List ℕ) × BegunAny (r .window ++ more))
 at-once replies e =
     let w = waits-ran replies begun (λ f. (refl, empty-early [] refl)) e in
-    let can = reads-and-writes .early (ran replies .window) .0 (w .1) in
+    let can = reads-any .early (ran replies .window) .0 (w .1) in
     (w .0, can .0, can .1)

@@ -6,10 +6,10 @@ use mathlib.Core.Path.{_≡_}
 use Prim.Native.Nat.{ℕ, _+_, _≤_, _<_}
 use lib.ListN.{length}
 use Rattle.digits.specs.Ascii.{ascii}
-use Rattle.record.specs.declared.form.Record.{Record}
-use Rattle.record.specs.Laws.{Begun, WrongAt}
+use Rattle.record.specs.Calls.{formOf}
+use Rattle.record.specs.Laws.{BegunAny, WrongAt}
 use Rattle.report.specs.declared.Verdict.the-variants.{Equal, Rounds, Cipher, Tag, Unread}
-use Rattle.judge.specs.Laws.{AllInForm, textsOf}
+use Rattle.judge.specs.Laws.{Entry, AllInForm, textsOf}
 use Rattle.judge.specs.Steps.{verdictsOf, outputFrom}
 use Rattle.turns.specs.declared.Ending.the-variants.{Said}
 use Rattle.turns.specs.declared.Stage.the-variants.{Read, Over}
@@ -40,14 +40,14 @@ pub record WholeReports : Type 0 where
   pub fault : lastWords (record { equal = 1; differ = 1; unread = 1; line = 4; column = 17 })
       ≡ ascii "bench: record 3: line 4, column 17\nbench: 3 records: 1 equal, 1 differ, 1 unread\n"
   pub no-fault : (t : Tally) → t .unread ≡ 0 → lastWords t ≡ endLine t
-  -- behind records in form, a text that is wrong at a line and column: the last words begin with its number, that line and that column
-  pub place : (records : List Record) (text : List ℕ) (line column : ℕ) → AllInForm records → 1 ≤ length text → WrongAt text line column
-      → let input = textsOf records ++ text in
-      wordsOn input ≡ faultLine (length records + 1) line column ++ endLine (countedAll none (verdictsOf input))
+  -- behind records in form, of either form, a text that is wrong at a line and column: the last words begin with its number, that line and that column
+  pub place : (entries : List Entry) (text : List ℕ) (line column : ℕ) → AllInForm entries → 1 ≤ length text → WrongAt (formOf text) text line column
+      → let input = textsOf entries ++ text in
+      wordsOn input ≡ faultLine (length entries + 1) line column ++ endLine (countedAll none (verdictsOf input))
   -- more is read only while the input has not ended and what is not judged yet is no record, but some more makes it one: what no input can mend is reported before
   -- anything more is read
   pub at-once : (replies : List Reply) → let r = ran replies in
-      r .stage ≡ Read → (r .ended ≡ false) × (Begun 8 (r .window) → ⊥) × ((more : List ℕ) × Begun 8 (r .window ++ more))
+      r .stage ≡ Read → (r .ended ≡ false) × (BegunAny (r .window) → ⊥) × ((more : List ℕ) × BegunAny (r .window ++ more))
   -- whatever the operating system answers, what is written is the beginning of the output
   pub begins : (replies : List Reply) (input : List ℕ) → Of replies input → (more : List ℕ) × (outputFrom 1 input ≡ written replies ++ more)
   -- where the end is said, all of the output is written, and the last words are those on its verdicts

@@ -4,7 +4,7 @@ use mathlib.Core.List.{List, [], _∷_, _++_}
 use Prim.Native.Nat.{ℕ, suc, _+_}
 use lib.Dec.{eqb}
 use lib.ListN.{length, take, drop}
-use Rattle.record.specs.Calls.{readCall}
+use Rattle.record.specs.Calls.{readAny}
 use Rattle.report.specs.Reports.{reportText}
 use Rattle.judge.specs.Steps.{verdictRead, isFinal}
 use Rattle.turns.specs.declared.Ending.the-variants.{Said, ReadFailed, WriteFailed, SayFailed, TooMany}
@@ -87,7 +87,7 @@ asks stage = isReading stage || isWriting stage
 -- the record that the window begins with is counted, and its report is next
 unfoldable pub withReport : Standing → Standing
 withReport r =
-    let reading = readCall (r .window) in
+    let reading = readAny (r .window) in
     let verdict = verdictRead reading in
     record {
       window = drop (reading .taken) (r .window);

@@ -1,23 +1,54 @@
-//! What is left when a report is whole, and what the command says of one that isn't.
+//! What a run leaves that comes to its end, and what the command says of one that doesn't.
 
-use crate::program::Tried;
+use crate::program::{Task, Tried};
 use second::judge::{fault_line, judge_all};
+use second::moving::{move_all, Direction};
 use std::process::ExitStatus;
 
 /// What the command says of a report that broke off.
 pub const NOT_WHOLE: &str = "bench: the report is not whole";
 
+/// What the command says of a text that was not moved.
+pub const NOT_MOVED: &str = "bench: the text was not moved";
+
+/// Gives what the command says of a run with this task that came to no end.
+pub fn broken_off(task: Task) -> &'static str {
+    match task {
+        Task::Judge => NOT_WHOLE,
+        Task::Move(_) => NOT_MOVED,
+    }
+}
+
 /// What a whole run leaves, by the second program.
 pub struct Whole {
+    /// What is printed: the report, or the moved records.
     pub report: Vec<u8>,
-    /// What is said on standard error: the place of an unread record, and the counts.
+    /// What is said on standard error: of a report the place of an unread record and the counts, of moved records how many they are, or why there are none.
     pub words: String,
     /// The command's status.
     pub status: i32,
 }
 
 impl Whole {
-    /// Gives what a run on this input leaves.
+    /// Gives what a run with this task on this input leaves.
+    pub fn of(task: Task, input: &[u8]) -> Whole {
+        match task {
+            Task::Judge => Whole::on(input),
+            Task::Move(direction) => Whole::moved(direction, input),
+        }
+    }
+
+    /// Gives what moving this input leaves.
+    fn moved(direction: Direction, input: &[u8]) -> Whole {
+        let moved = move_all(direction, input);
+        Whole {
+            report: moved.output,
+            words: moved.said,
+            status: moved.status.into(),
+        }
+    }
+
+    /// Gives what judging this input leaves.
     pub fn on(input: &[u8]) -> Whole {
         let report = judge_all(input);
         let counts = Counts::of(&report);
@@ -67,9 +98,9 @@ impl Counts {
     }
 }
 
-/// Panics unless a run on this input has the end, on standard error and in its status, by which its report is whole.
-pub fn ends_whole(tried: Tried, status: ExitStatus, said: &str, input: &[u8]) {
-    let whole = Whole::on(input);
+/// Panics unless a run with this task on this input has the end, on standard error and in its status, by which what it printed is whole.
+pub fn ends_whole(tried: Tried, task: Task, status: ExitStatus, said: &str, input: &[u8]) {
+    let whole = Whole::of(task, input);
     assert_eq!(said, whole.words, "{tried:?}, on standard error");
     let wanted = tried.status(whole.status);
     assert_eq!(status.code(), Some(wanted), "{tried:?}");

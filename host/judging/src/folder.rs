@@ -1,27 +1,27 @@
 //! The folder of inputs: a folder for each class, a file for each input.
 
-use crate::classes::CLASSES;
+use crate::classes::Class;
 use second::judge::{fault_line, judge_all};
 use std::fs::{self, File};
 use std::io::Write;
 use std::path::{Path, PathBuf};
 
-/// A file of the folder, and the name of its class.
+/// A file of the folder, and the place of its class among all.
 pub struct Case {
-    pub class: &'static str,
+    pub class: usize,
     pub path: PathBuf,
 }
 
-/// Writes every class anew; panics when one has another number of inputs than was set out, or when
+/// Writes every class anew and gives every file, in the order of the classes; panics when one has another number of inputs than was set out, or when
 /// the second program doesn't say of an input what it was made for.
-pub fn write(folder: &Path) {
+pub fn write(folder: &Path, classes: &[Class]) -> Vec<Case> {
     if folder.exists() {
         fs::remove_dir_all(folder).expect("the last run's folder can be removed");
     }
-    for class in &CLASSES {
+    for class in classes {
         let inputs = (class.make)();
         assert_eq!(inputs.len(), class.inputs, "inputs of: {}", class.name);
-        let room = folder.join(file_name(class.name));
+        let room = folder.join(file_name(&class.name));
         fs::create_dir_all(&room).expect("a folder for the class");
         for input in inputs {
             if let Some(output) = input.output {
@@ -36,22 +36,19 @@ pub fn write(folder: &Path) {
                 .unwrap_or_else(|error| panic!("{}: {error}", input.name));
         }
     }
+    cases(folder, classes)
 }
 
 /// Gives every file that the folder has, in the order of the classes.
-pub fn cases(folder: &Path) -> Vec<Case> {
+fn cases(folder: &Path, classes: &[Class]) -> Vec<Case> {
     let mut cases = Vec::new();
-    for class in &CLASSES {
-        let room = folder.join(file_name(class.name));
-        let mut paths: Vec<PathBuf> = fs::read_dir(room)
+    for (class, Class { name, .. }) in classes.iter().enumerate() {
+        let mut paths: Vec<PathBuf> = fs::read_dir(folder.join(file_name(name)))
             .expect("the class has a folder")
             .map(|entry| entry.expect("the folder can be read").path())
             .collect();
         paths.sort();
-        cases.extend(paths.into_iter().map(|path| Case {
-            class: class.name,
-            path,
-        }));
+        cases.extend(paths.into_iter().map(|path| Case { class, path }));
     }
     cases
 }

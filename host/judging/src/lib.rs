@@ -1,12 +1,15 @@
-//! Inputs for the bench program and for the command that runs it, and ways to run both on them. What
-//! they have to print comes from the second program and, where a case says it by itself, from the case.
+//! Inputs for the bench program and for the command that runs it, and ways to have both judge or move
+//! them. What they have to print comes from the second program and, where a case says it by itself, from
+//! the case.
 //!
 //! The program is what `host/run bench` runs; the variable `KVISTMAUR_BENCH` names another
 //! executable in its place, by a whole path. `KVISTMAUR_REWRITING` does so for `rewriting`, the
 //! program that writes records again.
 
 pub mod classes;
+pub mod comparing;
 pub mod end;
+pub mod failing;
 pub mod folder;
 pub mod input;
 pub mod layout;

@@ -1,6 +1,7 @@
 //! What is tried, the program or the command that runs it: how it is found, started and waited for.
 
 use crate::layout::lay_out;
+use second::moving::Direction;
 use std::ffi::{OsStr, OsString};
 use std::io::Read;
 use std::path::{Path, PathBuf};
@@ -79,6 +80,26 @@ fn built() -> PathBuf {
     path
 }
 
+/// What is asked: to judge the records, or to move them.
+#[derive(Clone, Copy, Debug, PartialEq, Eq)]
+pub enum Task {
+    Judge,
+    Move(Direction),
+}
+
+impl Task {
+    pub const MOVES: [Task; 2] = [Task::Move(Direction::Forward), Task::Move(Direction::Back)];
+
+    /// Gives the word that asks for it, of which judging needs none.
+    pub fn word(self) -> Option<&'static str> {
+        match self {
+            Task::Judge => None,
+            Task::Move(Direction::Forward) => Some("forward"),
+            Task::Move(Direction::Back) => Some("back"),
+        }
+    }
+}
+
 /// What is tried: the program, or the command for people, which runs it.
 #[derive(Clone, Copy, Debug, PartialEq, Eq)]
 pub enum Tried {
@@ -102,25 +123,39 @@ impl Tried {
         }
     }
 
-    /// Gives a line of a shell script that runs it in the shell's place.
+    /// Gives a shell script that runs it in the shell's place, with the word that stands behind the name of the program.
     pub fn script(self) -> String {
         let words = self.words();
         let quoted = words.iter().map(|word| format!("'{}'", word.display()));
-        format!("exec {}", quoted.collect::<Vec<_>>().join(" "))
+        let quoted: Vec<_> = quoted.collect();
+        format!("shift\nexec {} \"$@\"", quoted.join(" "))
     }
 
-    /// Gives the command that starts it.
+    /// Gives the command that starts it to judge.
     pub fn start(self) -> Command {
-        match self {
+        self.start_to(Task::Judge)
+    }
+
+    /// Gives the command that starts it with this task.
+    pub fn start_to(self, task: Task) -> Command {
+        let mut command = match self {
             Tried::Program => program_by(&self.words()),
             Tried::Command => started_by(&self.words()),
-        }
+        };
+        command.args(task.word());
+        command
     }
 
-    /// Gives the command that has a shell run the script, in which `"$@"` are the words that start it.
+    /// Gives the command that has a shell run the script, in which `"$@"` are the words that start it to judge.
     pub fn in_shell(self, script: &str) -> Command {
+        self.in_shell_to(Task::Judge, script)
+    }
+
+    /// Gives the command that has a shell run the script, in which `"$@"` are the words that start it with this task.
+    pub fn in_shell_to(self, task: Task, script: &str) -> Command {
         let mut command = Command::new("sh");
         command.args(["-c", script, "sh"]).args(self.words());
+        command.args(task.word());
         command
     }
 

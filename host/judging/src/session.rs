@@ -1,7 +1,7 @@
 //! The program or the command at work, with its streams in our hands.
 
 use crate::end::ends_whole;
-use crate::program::{ended, Tried, LIMIT};
+use crate::program::{ended, Task, Tried, LIMIT};
 use std::fs::{read_dir, read_to_string};
 use std::io::{Read, Write};
 use std::mem::take;
@@ -13,6 +13,7 @@ use std::time::{Duration, Instant};
 /// What runs, and all that it has printed so far.
 pub struct Session {
     tried: Tried,
+    task: Task,
     child: Child,
     input: Option<Box<dyn Write>>,
     fed: Vec<u8>,
@@ -22,18 +23,28 @@ pub struct Session {
 }
 
 impl Session {
-    /// Starts it at a pipe.
+    /// Starts it at a pipe to judge.
     pub fn start(tried: Tried) -> Session {
-        let mut session = Session::start_on(tried, Stdio::piped(), Stdio::piped());
+        Session::start_to(tried, Task::Judge)
+    }
+
+    /// Starts it at a pipe with this task.
+    pub fn start_to(tried: Tried, task: Task) -> Session {
+        let mut session = Session::start_on(tried, task, Stdio::piped(), Stdio::piped());
         let pipe = session.child.stdin.take().expect("a pipe");
         session.input = Some(Box::new(pipe));
         session
     }
 
-    /// Starts it on this input and this output.
-    pub fn start_on(tried: Tried, input: impl Into<Stdio>, output: impl Into<Stdio>) -> Session {
+    /// Starts it with this task on this input and this output.
+    pub fn start_on(
+        tried: Tried,
+        task: Task,
+        input: impl Into<Stdio>,
+        output: impl Into<Stdio>,
+    ) -> Session {
         let mut child = tried
-            .start()
+            .start_to(task)
             .stdin(input)
             .stdout(output)
             .stderr(Stdio::piped())
@@ -41,6 +52,7 @@ impl Session {
             .expect("it starts");
         Session {
             tried,
+            task,
             input: None,
             fed: Vec::new(),
             output: pieces(child.stdout.take()),
@@ -50,7 +62,7 @@ impl Session {
         }
     }
 
-    /// Hands over bytes that fit into the pipe at once.
+    /// Hands over bytes; what doesn't fit into the pipe waits until it is read.
     pub fn feed(&mut self, bytes: &[u8]) {
         let input = self.input.as_mut().expect("the input is still open");
         input.write_all(bytes).expect("the input is taken");
@@ -117,11 +129,11 @@ impl Session {
         send(name, &self.child.id().to_string());
     }
 
-    /// Closes the input, panics unless the report then ends as a whole one on all that was fed does, and gives all of it.
+    /// Closes the input, panics unless the run then ends as a whole one on all that was fed does, and gives all that it printed.
     pub fn close(mut self) -> String {
-        let (tried, fed) = (self.tried, take(&mut self.fed));
+        let (tried, task, fed) = (self.tried, self.task, take(&mut self.fed));
         let (status, printed, said) = self.end();
-        ends_whole(tried, status, &said, &fed);
+        ends_whole(tried, task, status, &said, &fed);
         printed
     }
 

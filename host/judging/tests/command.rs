@@ -1,9 +1,11 @@
 //! The words of the command for people, `./bench`, and its status.
 
-use judging::end::Whole;
+use judging::end::{Whole, NOT_MOVED};
+use judging::failing::full;
 use judging::layout::{file_of, place};
-use judging::program::{root, run, Tried};
+use judging::program::{root, run, Task, Tried};
 use second::judge::judge_all;
+use second::moving::Direction::{Back, Forward};
 use std::fs::{self, File};
 use std::io::pipe;
 use std::process::{Command, Output, Stdio};
@@ -35,7 +37,12 @@ fn ends(command: Command, input: Stdio, status: i32) -> Output {
 
 /// Gives the sample.
 fn sample() -> Vec<u8> {
-    fs::read(root().join("samples/records.txt")).expect("the sample can be read")
+    named_sample("records.txt")
+}
+
+/// Gives the sample of this name.
+fn named_sample(name: &str) -> Vec<u8> {
+    fs::read(root().join("samples").join(name)).expect("the sample can be read")
 }
 
 /// Says that the sample is judged as it was made, however the command is given it.
@@ -116,6 +123,80 @@ fn the_broken_sample() {
     assert_eq!(output.stderr, words);
 }
 
+/// Says that the sample of form 2 is judged whatever its chips are, and is refused going back for the first that isn't 0.
+#[test]
+fn the_sample_of_chips() {
+    let wanted = Whole::on(&named_sample("chips.txt"));
+    let output = ends(bench("", &["samples/chips.txt"]), Stdio::null(), 1);
+    assert!(output.stdout == wanted.report);
+    let counts = "bench: 4 records: 3 equal, 1 differ, 0 unread\n";
+    assert_eq!(
+        (&wanted.words[..], &output.stderr[..]),
+        (counts, counts.as_bytes())
+    );
+
+    let refused = b"bench: refused: answer=11 record=2\n";
+    let output = ends(bench("", &["back", "samples/chips.txt"]), Stdio::null(), 1);
+    assert_eq!(
+        (&output.stdout[..], &output.stderr[..]),
+        (&b""[..], &refused[..])
+    );
+    let refused = b"bench: refused: answer=10 record=1 line=1 column=1\n";
+    let output = ends(
+        bench("", &["forward", "samples/chips.txt"]),
+        Stdio::null(),
+        1,
+    );
+    assert_eq!(
+        (&output.stdout[..], &output.stderr[..]),
+        (&b""[..], &refused[..])
+    );
+}
+
+/// Says that the sample is moved forward, however the command is given it, and that moving the result back gives the sample's own bytes.
+#[test]
+fn the_sample_moved() {
+    let path = place("moved-sample");
+    let forward = Whole::of(Task::Move(Forward), &sample());
+    let back = Whole::of(Task::Move(Back), &forward.report);
+    fs::write(&path, &forward.report).expect("a file for the test");
+    let (old, new) = (root().join("samples/records.txt"), path);
+    let mut ran = 0;
+    for (word, path, wanted) in [("forward", &old, &forward), ("back", &new, &back)] {
+        let named = path.to_str().expect("a plain path");
+        let opened = || Stdio::from(File::open(path).expect("it opens"));
+        for (words, input) in [
+            (&[word, named][..], Stdio::null()),
+            (&[word, "--", named], Stdio::null()),
+            (&[word, "-"], opened()),
+            (&[word, "--", "-"], opened()),
+            (&[word], opened()),
+        ] {
+            let output = ends(bench("", words), input, 0);
+            assert!(output.stdout == wanted.report, "{words:?}");
+            assert_eq!(output.stderr, b"bench: done: records=6\n");
+            ran += 1;
+        }
+    }
+    assert_eq!(ran, 10);
+    assert!(back.report == sample());
+}
+
+/// Says that the broken sample is not moved, and where it is broken.
+#[test]
+fn the_broken_sample_is_not_moved() {
+    let output = ends(
+        bench("", &["forward", "samples/broken.txt"]),
+        Stdio::null(),
+        1,
+    );
+    let refused = b"bench: refused: answer=10 record=3 line=4 column=17\n";
+    assert_eq!(
+        (&output.stdout[..], &output.stderr[..]),
+        (&b""[..], &refused[..])
+    );
+}
+
 /// Says which status each kind of report has, and that what stands behind `&&` is done for no other than 0.
 #[test]
 fn the_status() {
@@ -148,6 +229,42 @@ fn the_status() {
     assert_eq!(ran, 7);
 }
 
+/// Says which status a moving has, that what stands behind `&&` is done for no other than 0, and that a refusal prints nothing.
+#[test]
+fn the_status_of_a_moving() {
+    let (one, chips) = (sample(), named_sample("chips.txt"));
+    let mut ran = 0;
+    for (direction, bytes, status) in [
+        (Forward, &b""[..], 0),
+        (Forward, &one, 0),
+        (Forward, &chips, 1),
+        (Forward, &one[..100], 1),
+        (Forward, b"\n", 1),
+        (Back, b"", 0),
+        (Back, &chips[..chips.len() / 5], 1),
+        (Back, &chips, 1),
+        (Back, &one, 1),
+        (Back, b"\n", 1),
+    ] {
+        let path = place("status-moved");
+        fs::write(&path, bytes).expect("a file for the test");
+        let task = Task::Move(direction);
+        let mut command = Tried::Command.in_shell_to(task, r#""$@" && echo shipped"#);
+        command.arg(&path);
+        let output = ends(command, Stdio::null(), status);
+        let Whole {
+            mut report, words, ..
+        } = Whole::of(task, bytes);
+        if status == 0 {
+            report.extend(b"shipped\n");
+        }
+        assert!(output.stdout == report, "{words}");
+        assert_eq!(output.stderr, words.as_bytes());
+        ran += 1;
+    }
+    assert_eq!(ran, 10);
+}
+
 /// Says that the name of a file may have blanks, begin with a minus behind `--` or in a folder, or be a word of the command in a folder.
 #[test]
 fn names_of_files() {
@@ -162,6 +279,11 @@ fn names_of_files() {
         ("--help", &["judge", "--", "--help"]),
         ("judge", &["./judge"]),
         ("judge", &["judge", "judge"]),
+        ("forward", &["--", "forward"]),
+        ("forward", &["judge", "forward"]),
+        ("forward", &["./forward"]),
+        ("back", &["--", "back"]),
+        ("back", &["judge", "back"]),
     ] {
         fs::write(folder.join(name), sample()).expect("a file for the test");
         let mut command = bench("", words);
@@ -170,7 +292,21 @@ fn names_of_files() {
         assert!(output.stdout == judge_all(&sample()));
         ran += 1;
     }
-    assert_eq!(ran, 7);
+    assert_eq!(ran, 12);
+    for (name, words) in [
+        ("forward", &["forward", "forward"][..]),
+        ("judge", &["forward", "judge"]),
+        ("back", &["forward", "--", "back"]),
+        ("-h", &["forward", "--", "-h"]),
+    ] {
+        fs::write(folder.join(name), sample()).expect("a file for the test");
+        let mut command = bench("", words);
+        command.current_dir(&folder);
+        let output = ends(command, Stdio::null(), 0);
+        assert!(output.stdout == Whole::of(Task::Move(Forward), &sample()).report);
+        ran += 1;
+    }
+    assert_eq!(ran, 16);
 }
 
 /// Says that a file which can't be opened and words that aren't understood are status 2, with no report.
@@ -188,25 +324,55 @@ fn what_cannot_be_done() {
         &["samples/records.txt", "samples/records.txt"],
         &["--", "samples/records.txt", "samples/records.txt"],
         &["-h", "samples/records.txt"],
+        &["forward", "samples/no-such-file"],
+        &["back", "samples/no-such-file"],
+        &["forward", ""],
+        &["forward", "-x"],
+        &["forward", "--"],
+        &["back", "--"],
+        &["back", "-x"],
+        &["forward", "forward", "samples/records.txt"],
+        &["forward", "back", "samples/records.txt"],
+        &["judge", "forward", "samples/records.txt"],
+        &["samples/records.txt", "forward"],
+        &["forward", "samples/records.txt", "samples/records.txt"],
+        &["forward", "-h", "samples/records.txt"],
+        &["forwards", "samples/records.txt"],
+        &["Forward", "samples/records.txt"],
+        &["backward", "samples/chips.txt"],
+        &["--", "forward", "samples/records.txt"],
+        &["-", "forward"],
     ] {
         let output = ends(bench("", words), Stdio::null(), 2);
         assert!(output.stdout.is_empty() && !output.stderr.is_empty());
         ran += 1;
     }
-    assert_eq!(ran, 10);
+    assert_eq!(ran, 28);
 }
 
 /// Says that help is printed when it is asked for, or is status 2 where it can't be.
 #[test]
 fn help() {
-    for words in [&["-h"][..], &["--help"], &["judge", "-h"]] {
+    for words in [
+        &["-h"][..],
+        &["--help"],
+        &["judge", "-h"],
+        &["forward", "-h"],
+        &["back", "--help"],
+    ] {
         let output = ends(bench("", words), Stdio::null(), 0);
         let usage = String::from_utf8_lossy(&output.stdout);
         assert!(usage.starts_with("usage: bench [judge] [FILE]\n"));
-        assert!(usage.contains("bench: record 3: line 4, column 17"));
-        let full = File::options().write(true).open("/dev/full");
-        let full = full.expect("the device opens");
-        let output = run(bench("", words), Stdio::null(), full).expect("it ends");
+        for named in [
+            "\n       bench forward [FILE]\n",
+            "\n       bench back [FILE]\n",
+            "bench: record 3: line 4, column 17",
+            "bench: done: records=6",
+            "bench: refused: answer=10 record=2 line=4 column=7",
+        ] {
+            assert!(usage.contains(named), "{named}");
+        }
+        let output = run(bench("", words), Stdio::null(), full()).expect("it ends");
         assert_eq!(output.status.code(), Some(2));
     }
 }
@@ -224,6 +390,13 @@ fn what_fails() {
     let output = run(command, Stdio::null(), writer).expect("it ends");
     assert!(output.stderr.starts_with(b"bench: writing failed"));
     assert_eq!(output.status.code(), Some(2));
+
+    let output = ends(bench("", &["forward", "samples"]), Stdio::null(), 2);
+    assert!(output.stdout.is_empty());
+    let said = String::from_utf8_lossy(&output.stderr);
+    assert!(
+        said.starts_with("bench: reading failed") && said.ends_with(&format!("\n{NOT_MOVED}\n"))
+    );
 }
 
 /// Says that a closed stream is status 2, whichever it is; a file needs no standard input.
@@ -262,4 +435,29 @@ fn closed_streams() {
         ran += 1;
     }
     assert_eq!(ran, 13);
+}
+
+/// Says that a closed stream is status 2 for a moving, too.
+#[test]
+fn closed_streams_of_a_moving() {
+    let mut ran = 0;
+    let (no_input, no_output) = ("standard input is closed", "standard output is closed");
+    for (closed, status, said) in [
+        ("<&-", 2, no_input),
+        (">&-", 2, no_output),
+        (r#""$SAMPLE" <&-"#, 0, "done: records=6"),
+        (r#""$SAMPLE" >&-"#, 2, no_output),
+        (r#""$SAMPLE" 2>&-"#, 2, ""),
+    ] {
+        let task = Task::Move(Forward);
+        let mut command = Tried::Command.in_shell_to(task, &format!(r#""$@" {closed}"#));
+        command.env("SAMPLE", root().join("samples/records.txt"));
+        let output = ends(command, Stdio::null(), status);
+        if !said.is_empty() {
+            assert_eq!(output.stderr, format!("bench: {said}\n").as_bytes());
+            assert_eq!(output.stdout.is_empty(), status == 2, "{closed}");
+        }
+        ran += 1;
+    }
+    assert_eq!(ran, 5);
 }

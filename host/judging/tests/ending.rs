@@ -4,10 +4,11 @@ use judging::classes::many;
 use judging::end::{ends_whole, Whole, NOT_WHOLE};
 use judging::layout::file_of;
 use judging::lines::Lines;
-use judging::program::{run_on, Tried};
+use judging::program::{run_on, Task, Tried};
 use judging::session::Session;
 use second::cipher::SETS;
 use second::judge::judge_all;
+use second::record::Form::One;
 use std::io::{pipe, Read, Write};
 use std::os::fd::OwnedFd;
 use std::os::unix::net::UnixStream;
@@ -26,7 +27,7 @@ const NEVER: Option<Duration> = Some(Duration::from_secs(600));
 
 /// Gives one right record.
 fn record() -> Vec<u8> {
-    Lines::right(&SETS[0], 9, 20).bytes()
+    Lines::right(One, &SETS[0], 9, 20).bytes()
 }
 
 /// Says that on one pipe for both streams the place of an unread record and the end's line come behind every report.
@@ -118,7 +119,8 @@ fn stopped_while_it_reads() {
     for tried in Tried::BOTH {
         let (mut ours, theirs) = UnixStream::pair().expect("a pair of sockets");
         theirs.set_read_timeout(NEVER).expect("it can be set");
-        let mut session = Session::start_on(tried, OwnedFd::from(theirs), Stdio::piped());
+        let mut session =
+            Session::start_on(tried, Task::Judge, OwnedFd::from(theirs), Stdio::piped());
         let bytes = record().repeat(3);
         let (first, others) = bytes.split_at(record().len());
         ours.write_all(first).expect("the socket has room");
@@ -133,7 +135,7 @@ fn stopped_while_it_reads() {
         assert_eq!(session.printed(wanted.len()), wanted);
         drop(ours);
         let (status, printed, said) = session.end();
-        ends_whole(tried, status, &said, &bytes);
+        ends_whole(tried, Task::Judge, status, &said, &bytes);
         assert_eq!(printed, wanted);
     }
 }
@@ -147,7 +149,7 @@ fn stopped_while_it_writes() {
         let (mut ours, theirs) = UnixStream::pair().expect("a pair of sockets");
         theirs.set_write_timeout(NEVER).expect("it can be set");
         let input = file_of("stopped-while-it-writes", &records);
-        let session = Session::start_on(tried, input, OwnedFd::from(theirs));
+        let session = Session::start_on(tried, Task::Judge, input, OwnedFd::from(theirs));
         let mut found: Vec<u8> = Vec::new();
         let mut room = [0; 7];
         while let Ok(count @ 1..) = ours.read(&mut room) {
@@ -160,6 +162,6 @@ fn stopped_while_it_writes() {
         }
         assert!(found == wanted, "{tried:?}");
         let (status, _, said) = session.end();
-        ends_whole(tried, status, &said, &records);
+        ends_whole(tried, Task::Judge, status, &said, &records);
     }
 }

@@ -1,30 +1,30 @@
 //! The program and the command with streams that fail: they say so, report no more, end by themselves, and never say the end's line.
 
 use judging::classes::many;
-use judging::end::{Whole, NOT_WHOLE};
+use judging::end::Whole;
+use judging::failing::{broke_off, full, reset_after, undisturbed, UNDISTURBED};
 use judging::layout::{file_of, place};
 use judging::lines::Lines;
-use judging::program::{run, run_on, Tried};
+use judging::program::{run, run_on, Task, Tried};
 use second::cipher::SETS;
 use second::judge::judge_all;
+use second::record::Form::One;
+use second::record::Line;
 use std::fs::{self, File};
 use std::io::{self, pipe, PipeReader, PipeWriter, Read, Write};
 use std::os::fd::OwnedFd;
 use std::os::unix::net::UnixStream;
 use std::path::{Path, PathBuf};
-use std::process::{Command, Output, Stdio};
+use std::process::{Command, Stdio};
 use std::thread::spawn;
 
 const EQUAL: &str = "record=1\nverdict=equal\nfield=none\n";
-
-/// The signals for failed writes are ignored, as the command does by itself.
-const UNDISTURBED: &str = r#"trap "" PIPE XFSZ; exec "$@""#;
 
 /// Panics unless exactly this is printed, and then said that reading failed.
 fn fails_to_read(tried: Tried, input: impl Into<Stdio>, wanted: &str) {
     let output = run(tried.start(), input, Stdio::piped()).expect("it ends");
     assert_eq!(String::from_utf8_lossy(&output.stdout), wanted);
-    broke_off(tried, &output, "bench: reading failed");
+    broke_off(tried, Task::Judge, &output, "bench: reading failed");
 }
 
 /// Panics unless it ends, though more input could come, and says that writing failed.
@@ -32,23 +32,7 @@ fn fails_to_write(tried: Tried, command: Command, output: impl Into<Stdio>) {
     let (input, feeder) = open_input();
     let output = run(command, input, output).expect("it ends");
     drop(feeder);
-    broke_off(tried, &output, "bench: writing failed");
-}
-
-/// Panics unless the program said why in one line, which the command passes on, and the report counts as broken off.
-fn broke_off(tried: Tried, output: &Output, why: &str) {
-    let words = String::from_utf8_lossy(&output.stderr);
-    let lines: Vec<&str> = words.split_inclusive('\n').collect();
-    let rest = match tried {
-        Tried::Program => vec![],
-        Tried::Command => vec![format!("{NOT_WHOLE}\n")],
-    };
-    assert!(words.starts_with(why), "{tried:?} said {words:?}");
-    assert!(
-        words.ends_with('\n') && lines[1..] == rest,
-        "{tried:?} said {words:?}"
-    );
-    assert_eq!(output.status.code(), Some(tried.status(2)), "{tried:?}");
+    broke_off(tried, Task::Judge, &output, "bench: writing failed");
 }
 
 /// Gives a pipe with some 30 records in it, which stays open as long as its other end is kept.
@@ -58,24 +42,9 @@ fn open_input() -> (PipeReader, PipeWriter) {
     (reader, writer)
 }
 
-/// Gives the device that is always full.
-fn full() -> File {
-    let device = File::options().write(true).open("/dev/full");
-    device.expect("the device opens")
-}
-
 /// Gives as many right records of which each is equal.
 fn equal(count: usize) -> Vec<u8> {
-    Lines::right(&SETS[0], 9, 20).bytes().repeat(count)
-}
-
-/// Gives an input whose reads give these bytes and then fail, once.
-fn reset_after(bytes: &[u8]) -> OwnedFd {
-    let (mut ours, mut theirs) = UnixStream::pair().expect("a pair of sockets");
-    ours.write_all(bytes).expect("the socket has room");
-    // A socket closed with unread bytes resets its peer.
-    theirs.write_all(b"unread").expect("the socket has room");
-    theirs.into()
+    Lines::right(One, &SETS[0], 9, 20).bytes().repeat(count)
 }
 
 /// Says that a folder is no empty input.
@@ -91,7 +60,12 @@ fn a_folder_as_input() {
 fn an_input_that_cannot_be_read() {
     let closed = Tried::Program.in_shell(r#"exec "$@" <&-"#);
     let output = run(closed, Stdio::null(), Stdio::piped()).expect("it ends");
-    broke_off(Tried::Program, &output, "bench: reading failed");
+    broke_off(
+        Tried::Program,
+        Task::Judge,
+        &output,
+        "bench: reading failed",
+    );
     for tried in Tried::BOTH {
         let write_only = File::create(place("write-only")).expect("a file for the test");
         fails_to_read(tried, write_only, "");
@@ -137,7 +111,7 @@ fn a_full_disk() {
 /// Says that a report counts as broken off, too, when only its last record could not be written, whatever is said of that.
 #[test]
 fn a_full_disk_at_the_last_record() {
-    let differs = Lines::short(0).with_other_digit(7, 3).bytes();
+    let differs = Lines::short(One, 0).with_other_digit(Line::Tag, 3).bytes();
     let mut ran = 0;
     for tried in Tried::BOTH {
         for (name, record) in [
@@ -146,7 +120,7 @@ fn a_full_disk_at_the_last_record() {
             ("last-unread", b"set=3\n".to_vec()),
         ] {
             let output = run(tried.start(), file_of(name, &record), full()).expect("it ends");
-            broke_off(tried, &output, "bench: writing failed");
+            broke_off(tried, Task::Judge, &output, "bench: writing failed");
             ran += 1;
         }
     }
@@ -190,7 +164,7 @@ fn an_output_that_cannot_be_written() {
         theirs.set_nonblocking(true).expect("it can be set");
         let input = file_of("too-many-for-a-socket", &many(4_000));
         let output = run(tried.start(), input, OwnedFd::from(theirs)).expect("it ends");
-        broke_off(tried, &output, "bench: writing failed");
+        broke_off(tried, Task::Judge, &output, "bench: writing failed");
         drop(ours);
     }
 }
@@ -198,7 +172,7 @@ fn an_output_that_cannot_be_written() {
 /// Says that a reader who has gone is a failed write, where the signal for it is ignored; the command does that.
 #[test]
 fn a_reader_who_has_gone() {
-    for (tried, command) in undisturbed() {
+    for (tried, command) in undisturbed(Task::Judge) {
         let (reader, writer) = pipe().expect("a pipe");
         drop(reader);
         fails_to_write(tried, command, writer);
@@ -208,22 +182,14 @@ fn a_reader_who_has_gone() {
 /// Says that a reader who goes in the middle is a failed write, too.
 #[test]
 fn a_reader_who_goes() {
-    for (tried, command) in undisturbed() {
+    for (tried, command) in undisturbed(Task::Judge) {
         let (mut reader, writer) = pipe().expect("a pipe");
         let reading = spawn(move || reader.read_exact(&mut [0; 1_000]));
         let input = file_of("too-many-for-a-pipe", &many(4_000));
         let output = run(command, input, writer).expect("it ends");
         reading.join().expect("it ends").expect("so much is read");
-        broke_off(tried, &output, "bench: writing failed");
+        broke_off(tried, Task::Judge, &output, "bench: writing failed");
     }
-}
-
-/// Gives the program behind a shell that ignores the signals for failed writes, and the command as it is.
-fn undisturbed() -> [(Tried, Command); 2] {
-    [
-        (Tried::Program, Tried::Program.in_shell(UNDISTURBED)),
-        (Tried::Command, Tried::Command.start()),
-    ]
 }
 
 /// Says that a file which may not grow any more gets a beginning of the report, be it all but the end of one record, and counts as broken off.
@@ -247,7 +213,7 @@ fn a_file_that_may_not_grow() {
                 assert_eq!(String::from_utf8_lossy(&output.stderr), wanted.words);
                 assert!(output.status.success() && left == wanted.report);
             } else {
-                broke_off(tried, &output, "bench: writing failed");
+                broke_off(tried, Task::Judge, &output, "bench: writing failed");
                 assert_eq!((left.len(), &left[..]), (512, &wanted.report[..512]));
             }
             ran += 1;
@@ -272,7 +238,7 @@ fn a_small_disk() {
         command.args(inner.get_args()).env("ROOM", &room);
         let input = file_of("small-disk-input", &many(400));
         let output = run(command, input, Stdio::piped()).expect("it ends");
-        broke_off(tried, &output, "bench: writing failed");
+        broke_off(tried, Task::Judge, &output, "bench: writing failed");
         assert_eq!(
             (output.stdout.len(), &output.stdout[..]),
             (8_192, &wanted[..8_192])

@@ -1,9 +1,11 @@
-//! The program where each read delivers one byte, each write takes few, and signals come in between: the report and the end's line are the same.
+//! The program where each read delivers one byte, each write takes few, and signals come in between: what it prints and its last words are the same.
 
-use judging::classes::many;
+use judging::classes::{many, many_in};
 use judging::end::Whole;
 use judging::layout::file_of;
-use judging::program::{run, Tried};
+use judging::program::{run, Task, Tried};
+use second::moving::Direction::{Back, Forward};
+use second::record::Form::Two;
 use std::path::{Path, PathBuf};
 use std::process::{Command, Stdio};
 
@@ -22,8 +24,8 @@ fn small_answers() -> PathBuf {
 }
 
 /// Gives what the program prints and says where a write takes at most so many bytes.
-fn printed_and_said(library: &Path, records: &[u8], takes: usize) -> [String; 2] {
-    let mut command = Tried::Program.start();
+fn printed_and_said(library: &Path, task: Task, records: &[u8], takes: usize) -> [String; 2] {
+    let mut command = Tried::Program.start_to(task);
     command
         .env("LD_PRELOAD", library)
         .env("BENCH_TAKES", takes.to_string());
@@ -32,9 +34,9 @@ fn printed_and_said(library: &Path, records: &[u8], takes: usize) -> [String; 2]
     [output.stdout, output.stderr].map(|bytes| String::from_utf8_lossy(&bytes).into_owned())
 }
 
-/// Says that the smallest answers change neither the report nor the line that ends it, and that writes which take nothing leave neither.
+/// Says that the smallest answers change neither what is printed nor the last words, and that writes which take nothing leave neither.
 #[test]
-fn the_report_is_the_same() {
+fn all_is_the_same() {
     // Where the program runs in an emulator, no library can be loaded in front of its own.
     if !cfg!(target_arch = "x86_64") {
         println!("not run: the program is emulated on this machine");
@@ -42,21 +44,27 @@ fn the_report_is_the_same() {
     }
     let library = small_answers();
     let mut ran = 0;
-    for records in [
-        Vec::new(),
-        many(20),
-        [many(5), b"set=3\n".to_vec()].concat(),
+    let broken = [many(5), b"set=3\n".to_vec()].concat();
+    for (task, records) in [
+        (Task::Judge, Vec::new()),
+        (Task::Judge, many(20)),
+        (Task::Judge, broken.clone()),
+        (Task::Move(Forward), Vec::new()),
+        (Task::Move(Forward), many(20)),
+        (Task::Move(Forward), broken),
+        (Task::Move(Back), many_in(|_| Two, 2, 7)),
+        (Task::Move(Back), many_in(|_| Two, 20, 7)),
     ] {
-        let Whole { report, words, .. } = Whole::on(&records);
+        let Whole { report, words, .. } = Whole::of(task, &records);
         let wanted = [String::from_utf8_lossy(&report).into_owned(), words];
         for takes in TAKES {
-            let found = printed_and_said(&library, &records, takes);
+            let found = printed_and_said(&library, task, &records, takes);
             assert_eq!(found, wanted, "writes of at most {takes} bytes");
             ran += 1;
         }
-        let nothing = printed_and_said(&library, &records, 0);
+        let nothing = printed_and_said(&library, task, &records, 0);
         assert_eq!(nothing, [String::new(), String::new()]);
         ran += 1;
     }
-    assert_eq!(ran, 15);
+    assert_eq!(ran, 40);
 }

@@ -4,6 +4,8 @@ use judging::lines::Lines;
 use judging::program::Tried;
 use judging::session::Session;
 use second::cipher::SETS;
+use second::record::Form::{self, One, Two};
+use second::record::Line;
 use std::thread::sleep;
 use std::time::Duration;
 
@@ -18,16 +20,22 @@ fn halves() {
 
 /// Tries it with one of the two.
 fn halves_at(tried: Tried) {
-    let right = SETS.each_ref().map(|set| Lines::right(set, 9, 20));
+    let right = SETS.each_ref().map(|set| Lines::right(One, set, 9, 20));
+    let other_form = SETS.each_ref().map(|set| Lines::right(Two, set, 9, 20));
     let cases = [
         (&right[0], "verdict=equal\nfield=none"),
         (
-            &right[1].with_other_digit(7, 3),
+            &right[1].with_other_digit(Line::Tag, 3),
             "verdict=differs\nfield=tag",
         ),
         (
-            &right[0].with_other_digit(6, 3),
+            &right[0].with_other_digit(Line::Cipher, 3),
             "verdict=differs\nfield=cipher",
+        ),
+        (&other_form[0], "verdict=equal\nfield=none"),
+        (
+            &other_form[1].with_other_digit(Line::Tag, 3),
+            "verdict=differs\nfield=tag",
         ),
         (&right[1], "verdict=equal\nfield=none"),
     ];
@@ -54,7 +62,7 @@ fn two_and_a_half() {
 
 /// Tries it with one of the two.
 fn two_and_a_half_at(tried: Tried) {
-    let bytes = Lines::right(&SETS[0], 3, 4).bytes().repeat(3);
+    let bytes = Lines::right(One, &SETS[0], 3, 4).bytes().repeat(3);
     let (first, second) = bytes.split_at(bytes.len() / 6 * 5);
     let equal = |number| format!("record={number}\nverdict=equal\nfield=none\n");
     let mut session = Session::start(tried);
@@ -78,8 +86,10 @@ fn byte_by_byte() {
 fn byte_by_byte_at(tried: Tried) {
     let mut session = Session::start(tried);
     let mut wanted = String::new();
-    for (number, set) in (1..).zip(&SETS) {
-        let bytes = Lines::right(set, 2, 3).bytes();
+    let forms = [One, Two].into_iter();
+    let records = forms.flat_map(|form| SETS.each_ref().map(|set| Lines::right(form, set, 2, 3)));
+    for (number, lines) in (1..).zip(records) {
+        let bytes = lines.bytes();
         let (last, others) = bytes.split_last().expect("a record has bytes");
         for byte in others {
             session.feed(&[*byte]);
@@ -106,18 +116,22 @@ fn a_pause_and_the_end() {
 /// Tries it with one of the two.
 fn a_pause_and_the_end_at(tried: Tried) {
     let mut ran = 0;
-    for line in 1..=8 {
-        let lines = Lines::right(&SETS[line % 2], 5, 6);
-        let before: usize = (1..line).map(|line| lines.line(line).len()).sum();
+    let lines_of = |form: Form| (1..).zip(form.lines()).map(move |line| (form, line));
+    for (form, (number, line)) in lines_of(One).chain(lines_of(Two)) {
+        let lines = Lines::right(form, &SETS[number % 2], 5, 6);
+        let half = [
+            &lines.before(*line),
+            &lines.line(*line)[..lines.line(*line).len() / 2],
+        ];
         let mut session = Session::start(tried);
         session.feed(&lines.bytes());
         let equal = "record=1\nverdict=equal\nfield=none\n";
         assert_eq!(session.printed(equal.len()), equal);
-        session.feed(&lines.bytes()[..before + lines.line(line).len() / 2]);
-        assert_eq!(session.after(PAUSE), equal, "line {line}");
-        let wanted = format!("{equal}record=2\nverdict=unread\nfield={line}\n");
-        assert_eq!(session.close(), wanted, "line {line}");
+        session.feed(&half.concat());
+        assert_eq!(session.after(PAUSE), equal, "line {number}");
+        let wanted = format!("{equal}record=2\nverdict=unread\nfield={number}\n");
+        assert_eq!(session.close(), wanted, "line {number}");
         ran += 1;
     }
-    assert_eq!(ran, 8);
+    assert_eq!(ran, 18);
 }

@@ -1,16 +1,18 @@
 //! The command with programs that do not end as the program does: only a whole and right last line gives a status below 2.
 
 use judging::classes::many;
-use judging::end::NOT_WHOLE;
+use judging::end::broken_off;
+use judging::failing::full;
 use judging::layout::{file_of, lay_out, place};
-use judging::program::{run, run_on, Tried};
+use judging::program::{run, run_on, Task, Tried};
 use second::judge::judge_all;
+use second::moving::Direction::{Back, Forward};
 use std::fs::File;
 use std::io::pipe;
 use std::path::PathBuf;
 use std::process::{Command, Output, Stdio};
 
-/// A program that reports two records and then says and does what the environment tells it.
+/// A program that prints a report on two records and then says and does what the environment tells it.
 const PROGRAM: &str = r#"printf 'record=1\nverdict=equal\nfield=none\nrecord=2\nverdict=equal\nfield=none\n'
 printf '%s' "$SAID" >&2
 [ -z "${SIGNAL-}" ] || kill -s "$SIGNAL" $$
@@ -25,20 +27,39 @@ const UNREAD: [&str; 2] = [
     "bench: 3 records: 2 equal, 0 differ, 1 unread\n",
 ];
 
+/// The last line where twelve records were moved.
+const DONE: &str = "bench: done: records=12\n";
+
+/// The last lines where a record was refused: it is broken, or of another chip than 0.
+const REFUSED: [&str; 2] = [
+    "bench: refused: answer=10 record=2 line=4 column=17\n",
+    "bench: refused: answer=11 record=12\n",
+];
+
 /// Gives the command with that program, which says this.
 fn saying(command: &PathBuf, said: &str) -> Command {
+    saying_to(Task::Judge, command, said)
+}
+
+/// Gives the command with this task and that program, which says this.
+fn saying_to(task: Task, command: &PathBuf, said: &str) -> Command {
     let mut command = Command::new(command);
-    command.env("SAID", said);
+    command.args(task.word()).env("SAID", said);
     command
 }
 
 /// Panics unless the command ends with this status, and passes on what the program says before anything of its own.
 fn ends(command: Command, said: &str, status: i32) -> Output {
+    ends_to(Task::Judge, command, said, status)
+}
+
+/// Panics unless the command with this task ends with this status, and passes on what the program says before anything of its own.
+fn ends_to(task: Task, command: Command, said: &str, status: i32) -> Output {
     let output = run(command, Stdio::null(), Stdio::piped()).expect("it ends");
     let words = String::from_utf8_lossy(&output.stderr);
     assert_eq!(output.status.code(), Some(status), "{words}");
     assert!(words.starts_with(said), "{words}");
-    assert_eq!(words.contains(NOT_WHOLE), status == 2, "{words}");
+    assert_eq!(words.contains(broken_off(task)), status == 2, "{words}");
     output
 }
 
@@ -68,6 +89,14 @@ fn right_lines() {
             1,
         ),
         (
+            "bench: record 1: line 9, column 1\nbench: 1 records: 0 equal, 0 differ, 1 unread\n",
+            1,
+        ),
+        (
+            "bench: record 12: line 10, column 15\nbench: 12 records: 9 equal, 2 differ, 1 unread\n",
+            1,
+        ),
+        (
             "bench: record 6000: line 8, column 15\nbench: 6000 records: 5990 equal, 9 differ, 1 unread\n",
             1,
         ),
@@ -90,7 +119,7 @@ fn right_lines() {
         ends(saying(&command, said), said, status);
         ran += 1;
     }
-    assert_eq!(ran, 11);
+    assert_eq!(ran, 13);
 }
 
 /// Says that the end's line cut at any byte is none, and that the place of an unread record before it is none either.
@@ -127,7 +156,9 @@ fn wrong_places() {
         "bench: record : line 4, column 17\n",
         "bench: record *: line 4, column 17\n",
         "bench: record 3: line 0, column 17\n",
-        "bench: record 3: line 9, column 17\n",
+        "bench: record 3: line 11, column 17\n",
+        "bench: record 3: line 100, column 17\n",
+        "bench: record 3: line 010, column 17\n",
         "bench: record 3: line 04, column 17\n",
         "bench: record 3: line 14, column 17\n",
         "bench: record 3: line 44, column 17\n",
@@ -179,7 +210,7 @@ fn wrong_places() {
         ends(saying(&command, &said), &said, 2);
         ran += 1;
     }
-    assert_eq!(ran, 48);
+    assert_eq!(ran, 50);
 }
 
 /// Says that lines which are no end's line, or not the last, or whose counts don't fit, are status 2.
@@ -259,47 +290,52 @@ fn wrong_ends() {
         ("SIGNAL", "TERM"),
         ("SIGNAL", "USR1"),
     ] {
-        let mut command = saying(&command, RIGHT);
-        command.env(name, value);
-        let output = run(command, Stdio::null(), Stdio::piped()).expect("it ends");
-        let words = String::from_utf8_lossy(&output.stderr);
-        assert_eq!(output.status.code(), Some(2), "{words}");
-        assert!(words.contains(NOT_WHOLE), "{words}");
-        ran += 1;
+        for (task, said) in [
+            (Task::Judge, RIGHT),
+            (Task::Move(Forward), DONE),
+            (Task::Move(Back), DONE),
+        ] {
+            let mut command = saying_to(task, &command, said);
+            command.env(name, value);
+            ends_to(task, command, said, 2);
+            ran += 1;
+        }
     }
-    assert_eq!(ran, 7);
+    assert_eq!(ran, 21);
 }
 
 /// Says that a right line which can't be passed on is status 2.
 #[test]
 fn lines_that_cannot_be_passed_on() {
     let command = lay_out("unfinished-passing", PROGRAM);
-    let full = File::options().write(true).open("/dev/full");
-    let read_only = File::open("Cargo.toml").expect("the file opens");
-    let (reader, gone) = pipe().expect("a pipe");
-    drop(reader);
     let mut ran = 0;
-    for stderr in [
-        Stdio::from(full.expect("the device opens")),
-        Stdio::from(read_only),
-        Stdio::from(gone),
-    ] {
-        let command = saying(&command, RIGHT);
-        let output = run_on(command, Stdio::null(), Stdio::null(), stderr).expect("it ends");
-        assert_eq!(output.status.code(), Some(2));
-        ran += 1;
+    for (task, said) in [(Task::Judge, RIGHT), (Task::Move(Back), DONE)] {
+        let read_only = File::open("Cargo.toml").expect("the file opens");
+        let (reader, gone) = pipe().expect("a pipe");
+        drop(reader);
+        for stderr in [
+            Stdio::from(full()),
+            Stdio::from(read_only),
+            Stdio::from(gone),
+        ] {
+            let command = saying_to(task, &command, said);
+            let output = run_on(command, Stdio::null(), Stdio::null(), stderr).expect("it ends");
+            assert_eq!(output.status.code(), Some(2));
+            ran += 1;
+        }
+        for (script, stderr) in [
+            (r#"exec "$0" "$@" 2>&-"#, Stdio::null()),
+            (r#"ulimit -f 0; exec "$0" "$@""#, Stdio::from(limited())),
+        ] {
+            let mut shell = Command::new("sh");
+            shell.args(["-c", script]).arg(&command);
+            shell.args(task.word()).env("SAID", said);
+            let output = run_on(shell, Stdio::null(), Stdio::null(), stderr).expect("it ends");
+            assert_eq!(output.status.code(), Some(2), "{script}");
+            ran += 1;
+        }
     }
-    for (script, stderr) in [
-        (r#"exec "$0" 2>&-"#, Stdio::null()),
-        (r#"ulimit -f 0; exec "$0""#, Stdio::from(limited())),
-    ] {
-        let mut shell = Command::new("sh");
-        shell.args(["-c", script]).arg(&command).env("SAID", RIGHT);
-        let output = run_on(shell, Stdio::null(), Stdio::null(), stderr).expect("it ends");
-        assert_eq!(output.status.code(), Some(2), "{script}");
-        ran += 1;
-    }
-    assert_eq!(ran, 5);
+    assert_eq!(ran, 10);
 }
 
 /// Gives an empty file.
@@ -342,4 +378,224 @@ fn missing_parts() {
         ran += 1;
     }
     assert_eq!(ran, 5);
+}
+
+/// Says that what the program says at the end of a moving gives the status that it tells, whatever stands before it that isn't the program's own.
+#[test]
+fn right_lines_of_a_moving() {
+    let command = lay_out("unfinished-moving-right", PROGRAM);
+    let [broken, chip] = REFUSED;
+    let mut ran = 0;
+    for (directions, said, status) in [
+        (&[Forward, Back][..], DONE, 0),
+        (&[Forward, Back], "bench: done: records=0\n", 0),
+        (
+            &[Forward, Back],
+            "bench: done: records=18446744073709551615\n",
+            0,
+        ),
+        (
+            &[Forward, Back],
+            "a loader's warning\nbench: done: records=1\n",
+            0,
+        ),
+        (&[Forward, Back], broken, 1),
+        (
+            &[Forward, Back],
+            "bench: refused: answer=10 record=1 line=1 column=1\n",
+            1,
+        ),
+        (
+            &[Forward, Back],
+            "bench: refused: answer=10 record=6000 line=8 column=15\n",
+            1,
+        ),
+        (
+            &[Back],
+            "bench: refused: answer=10 record=1 line=9 column=5\n",
+            1,
+        ),
+        (
+            &[Back],
+            "bench: refused: answer=10 record=1 line=10 column=15\n",
+            1,
+        ),
+        (&[Back], chip, 1),
+        (&[Back], "bench: refused: answer=11 record=1\n", 1),
+        (
+            &[Back],
+            "a loader's warning\nbench: refused: answer=11 record=1\n",
+            1,
+        ),
+    ] {
+        for direction in directions {
+            let task = Task::Move(*direction);
+            let output = ends_to(task, saying_to(task, &command, said), said, status);
+            assert_eq!(output.stderr, said.as_bytes());
+            ran += 1;
+        }
+    }
+    assert_eq!(ran, 19);
+}
+
+/// Says that the last line of a moving cut at any byte is none, be it with a line feed behind it.
+#[test]
+fn cut_lines_of_a_moving() {
+    let command = lay_out("unfinished-moving-cut", PROGRAM);
+    let task = Task::Move(Back);
+    let mut cut = Vec::new();
+    for line in [DONE, REFUSED[0], REFUSED[1]] {
+        cut.extend((0..line.len()).map(|length| line[..length].to_string()));
+        // Without its last digit alone it is another number.
+        cut.extend((0..line.len() - 2).map(|length| format!("{}\n", &line[..length])));
+    }
+    let mut ran = 0;
+    for said in &cut {
+        ends_to(task, saying_to(task, &command, said), said, 2);
+        ran += 1;
+    }
+    assert_eq!(ran, 218);
+}
+
+/// Says that any other line, or another one of the program's own before it, is status 2.
+#[test]
+fn wrong_lines_of_a_moving() {
+    let command = lay_out("unfinished-moving-wrong", PROGRAM);
+    let mut ran = 0;
+    for said in [
+        "",
+        "\n",
+        "Killed\n",
+        "bench: reading failed: Input/output error\n",
+        "bench: writing failed: No space left on device\n",
+        "bench: the input has more than 1048576 bytes\n",
+        "bench: unknown task\n",
+        "bench: too many turns\n",
+        // The end of another task.
+        RIGHT,
+        "bench: 0 records: 0 equal, 0 differ, 0 unread\n",
+        "bench: record 1: line 1, column 1\nbench: 1 records: 0 equal, 0 differ, 1 unread\n",
+        // The number of records is none.
+        "bench: done: records=\n",
+        "bench: done: records=02\n",
+        "bench: done: records=00\n",
+        "bench: done: records=-1\n",
+        "bench: done: records=+1\n",
+        "bench: done: records=0x2\n",
+        "bench: done: records=two\n",
+        "bench: done: records=*\n",
+        "bench: done: records=1 \n",
+        "bench: done: records= 1\n",
+        "bench: done: records=1 2\n",
+        "bench: done: records=1.\n",
+        "bench: done: records=1\r\n",
+        // The line has another form.
+        "bench: done: record=2\n",
+        "bench: done: 2\n",
+        "bench: done:\n",
+        "bench: done\n",
+        "bench: done records=2\n",
+        "bench: done:  records=2\n",
+        "bench:  done: records=2\n",
+        " bench: done: records=2\n",
+        "Bench: done: records=2\n",
+        "done: records=2\n",
+        "bench: bench: done: records=2\n",
+        "bench: refused: done: records=2\n",
+        // The answer is no refusal of a moving.
+        "bench: refused: answer=0 record=2\n",
+        "bench: refused: answer=6 record=2\n",
+        "bench: refused: answer=1 record=2 line=4 column=17\n",
+        "bench: refused: answer=12 record=2\n",
+        "bench: refused: answer=100 record=2 line=4 column=17\n",
+        "bench: refused: answer=010 record=2 line=4 column=17\n",
+        "bench: refused: answer= record=2 line=4 column=17\n",
+        "bench: refused: record=2 line=4 column=17\n",
+        "bench: refused: record=2\n",
+        "bench: refused:\n",
+        "bench: refused\n",
+        // What belongs to it is missing, or more stands there.
+        "bench: refused: answer=10\n",
+        "bench: refused: answer=10 record=2\n",
+        "bench: refused: answer=10 record=2 line=4\n",
+        "bench: refused: answer=10 record=2 column=17\n",
+        "bench: refused: answer=10 line=4 column=17\n",
+        "bench: refused: answer=10 record=2 column=17 line=4\n",
+        "bench: refused: answer=10 line=4 column=17 record=2\n",
+        "bench: refused: answer=10 record=2 record=2 line=4 column=17\n",
+        "bench: refused: answer=10 record=2, line=4, column=17\n",
+        "bench: refused: answer=10 record=2  line=4 column=17\n",
+        "bench: refused: answer=10 record=2 line=4 column=17 \n",
+        "bench: refused: answer=10 record=2 line=4 column=17 more\n",
+        "bench: refused: answer=10 record=2 line=4 column=17\r\n",
+        "bench: refused: answer=11\n",
+        "bench: refused: answer=11 record=\n",
+        "bench: refused: answer=11 record=2 line=3\n",
+        "bench: refused: answer=11 record=2 line=3 column=6\n",
+        "bench: refused: answer=11 record=2 line=0 column=0\n",
+        "bench: refused: answer=11 record=2 record=2\n",
+        // The numbers are none that a record has.
+        "bench: refused: answer=10 record=0 line=4 column=17\n",
+        "bench: refused: answer=10 record=02 line=4 column=17\n",
+        "bench: refused: answer=10 record=x line=4 column=17\n",
+        "bench: refused: answer=10 record= line=4 column=17\n",
+        "bench: refused: answer=10 record=2 line=0 column=17\n",
+        "bench: refused: answer=10 record=2 line=04 column=17\n",
+        "bench: refused: answer=10 record=2 line=11 column=17\n",
+        "bench: refused: answer=10 record=2 line=44 column=17\n",
+        "bench: refused: answer=10 record=2 line=100 column=17\n",
+        "bench: refused: answer=10 record=2 line= column=17\n",
+        "bench: refused: answer=10 record=2 line=* column=17\n",
+        "bench: refused: answer=10 record=2 line=? column=17\n",
+        "bench: refused: answer=10 record=2 line=-4 column=17\n",
+        "bench: refused: answer=10 record=2 line=18446744073709551616 column=17\n",
+        "bench: refused: answer=10 record=2 line=4 column=0\n",
+        "bench: refused: answer=10 record=2 line=4 column=017\n",
+        "bench: refused: answer=10 record=2 line=4 column=\n",
+        "bench: refused: answer=10 record=2 line=4 column=x\n",
+        "bench: refused: answer=11 record=0\n",
+        "bench: refused: answer=11 record=02\n",
+        "bench: refused: answer=11 record=x\n",
+        // Another line of the program's own stands before it, or any line behind it.
+        "bench: done: records=2\nbench: done: records=2\n",
+        "bench: refused: answer=11 record=2\nbench: refused: answer=11 record=2\n",
+        "bench: refused: answer=11 record=2\nbench: done: records=2\n",
+        "bench: writing failed: Broken pipe\nbench: done: records=2\n",
+        "bench: record 2: line 4, column 17\nbench: refused: answer=10 record=2 line=4 column=17\n",
+        "bench: done: records=2\nbench: writing failed: Broken pipe\n",
+        "bench: done: records=2\nmore\n",
+        "bench: done: records=2\n\n",
+        "bench: done: records=2\n ",
+    ] {
+        for task in Task::MOVES {
+            ends_to(task, saying_to(task, &command, said), said, 2);
+            ran += 1;
+        }
+    }
+    assert_eq!(ran, 192);
+}
+
+/// Says that no record of form 1 has lines 9 and 10 or a chip, and that the end of a moving is none of a judging.
+#[test]
+fn lines_of_another_task() {
+    let command = lay_out("unfinished-other-task", PROGRAM);
+    let mut ran = 0;
+    for (task, said) in [
+        (
+            Task::Move(Forward),
+            "bench: refused: answer=10 record=2 line=9 column=1\n",
+        ),
+        (
+            Task::Move(Forward),
+            "bench: refused: answer=10 record=2 line=10 column=1\n",
+        ),
+        (Task::Move(Forward), REFUSED[1]),
+        (Task::Judge, DONE),
+        (Task::Judge, REFUSED[0]),
+        (Task::Judge, REFUSED[1]),
+    ] {
+        ends_to(task, saying_to(task, &command, said), said, 2);
+        ran += 1;
+    }
+    assert_eq!(ran, 6);
 }

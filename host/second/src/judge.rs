@@ -1,7 +1,7 @@
 //! Judging records against our own sealing, and the report on them.
 
 use crate::calls::seal;
-use crate::record::{first_broken_line, read, Broken, Record};
+use crate::record::{first_broken_line, form_of, read, Broken, Form, Record};
 
 /// What the bench says of one record.
 #[derive(Clone, Copy, Debug, PartialEq, Eq)]
@@ -41,9 +41,9 @@ fn differs(wanted: &[u8], found: &[u8]) -> bool {
     matches!(first_difference(wanted, found), Difference::At { .. })
 }
 
-/// Gives the verdict on a record; one that has no right form counts as unread.
-pub fn verdict(record: &Record) -> Verdict {
-    if let Some(line) = first_broken_line(record) {
+/// Gives the verdict on a record, in which its chip takes no part; one not right in the form is unread.
+pub fn verdict(form: Form, record: &Record) -> Verdict {
+    if let Some(line) = first_broken_line(form, record) {
         return Verdict::Unread(Broken { line, column: 0 });
     }
     let text = record.text.held();
@@ -81,14 +81,15 @@ pub fn report(number: u64, verdict: Verdict) -> String {
     format!("record={number}\nverdict={word}\nfield={field}\n")
 }
 
-/// Gives the records of the input up to its end or its first broken record, and where that breaks.
-fn records(input: &[u8]) -> (Vec<Record>, Option<Broken>) {
+/// Gives the records and their forms up to the end or the first broken record, and where that breaks.
+fn records(input: &[u8]) -> (Vec<(Form, Record)>, Option<Broken>) {
     let mut records = Vec::new();
     let mut place = 0;
     while place < input.len() {
-        match read(&input[place..]) {
+        let form = form_of(&input[place..]);
+        match read(form, &input[place..]) {
             Ok((record, taken)) => {
-                records.push(record);
+                records.push((form, record));
                 place += taken;
             }
             Err(broken) => return (records, Some(broken)),
@@ -100,7 +101,7 @@ fn records(input: &[u8]) -> (Vec<Record>, Option<Broken>) {
 /// Gives the whole standard output of the program for the given input.
 pub fn judge_all(input: &[u8]) -> Vec<u8> {
     let (records, broken) = records(input);
-    let verdicts = records.iter().map(verdict);
+    let verdicts = records.iter().map(|(form, record)| verdict(*form, record));
     let all = verdicts.chain(broken.map(Verdict::Unread));
     let reports = (1..).zip(all).map(|(number, one)| report(number, one));
     reports.collect::<String>().into_bytes()

@@ -9,6 +9,7 @@ pub mod formula;
 pub mod hex;
 pub mod judge;
 pub mod make;
+pub mod moving;
 pub mod permutation;
 pub mod random;
 pub mod record;

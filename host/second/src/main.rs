@@ -4,7 +4,9 @@ use second::calls::{open, seal, Answer, AD_LIMIT, TEXT_LIMIT};
 use second::cipher::set_of;
 use second::judge::{fault_line, judge_all};
 use second::make::{lines_of, right_record, Unmade};
+use second::moving::{move_all, Direction};
 use second::random::Random;
+use second::record::Form;
 use second::{hex, vectors};
 use std::fs::File;
 use std::io::{self, BufWriter, Read, Write};
@@ -13,9 +15,12 @@ use std::process::ExitCode;
 
 const USAGE: &str = "usage:
   second judge
+  second forward
+  second back
   second seal SET KEYHEX NONCEHEX ADHEX TEXTHEX
   second open SET KEYHEX NONCEHEX ADHEX CIPHERHEX TAGHEX
   second vectors COUNT SEED
+  second vectors2 COUNT SEED
   second rounds SET ADLEN TEXTLEN
 hex is lower-case, two digits a byte, and may be empty; numbers are decimal";
 
@@ -30,7 +35,7 @@ enum Trouble {
 /// Gives the status of the program: 0 done, 1 refused or failed, 2 a bad command line.
 fn main() -> ExitCode {
     let (words, status) = match work() {
-        Ok(()) => return ExitCode::SUCCESS,
+        Ok(status) => return ExitCode::from(status),
         Err(Trouble::Usage) => (USAGE.to_string(), 2),
         Err(Trouble::Said(words)) => (format!("second: {words}"), 1),
     };
@@ -39,15 +44,17 @@ fn main() -> ExitCode {
     ExitCode::from(status)
 }
 
-/// Does what the command line asks and gives the trouble met, if any.
-fn work() -> Result<(), Trouble> {
+/// Does what the command line asks and gives the status, or the trouble met.
+fn work() -> Result<u8, Trouble> {
     let mut arguments = Vec::new();
     for argument in std::env::args_os().skip(1) {
         arguments.push(argument.into_string().map_err(|_| Trouble::Usage)?);
     }
     let parts: Vec<&str> = arguments.iter().map(String::as_str).collect();
-    match parts.as_slice() {
+    let done = match parts.as_slice() {
         ["judge"] => print_judged(&input()?),
+        ["forward"] => return print_moved(Direction::Forward, &input()?),
+        ["back"] => return print_moved(Direction::Back, &input()?),
         ["seal", set, key, nonce, ad, text] => {
             let parts = [bytes(key)?, bytes(nonce)?, bytes(ad)?, bytes(text)?];
             print_sealed(number(set)?, parts)
@@ -56,10 +63,12 @@ fn work() -> Result<(), Trouble> {
             let front = [bytes(key)?, bytes(nonce)?, bytes(ad)?];
             print_opened(number(set)?, front, bytes(cipher)?, bytes(tag)?)
         }
-        ["vectors", count, seed] => print_vectors(number(count)?, number(seed)?),
+        ["vectors", count, seed] => print_vectors(Form::One, number(count)?, number(seed)?),
+        ["vectors2", count, seed] => print_vectors(Form::Two, number(count)?, number(seed)?),
         ["rounds", set, ad, text] => print_rounds(number(set)?, number(ad)?, number(text)?),
         _ => Err(Trouble::Usage),
-    }
+    };
+    done.map(|()| 0)
 }
 
 /// Gives the number that decimal digits write.
@@ -118,13 +127,21 @@ fn print_judged(input: &[u8]) -> Result<(), Trouble> {
     write_all(io::stderr(), fault_line(input).as_bytes())
 }
 
+/// Prints the moved records, and on standard error how it went, and gives the status or the trouble met.
+fn print_moved(direction: Direction, input: &[u8]) -> Result<u8, Trouble> {
+    let moved = move_all(direction, input);
+    say(&moved.output)?;
+    write_all(io::stderr(), moved.said.as_bytes())?;
+    Ok(moved.status)
+}
+
 /// Prints the record of one message and gives the trouble met, if any.
 fn print_sealed(set: u64, [key, nonce, ad, text]: [Vec<u8>; 4]) -> Result<(), Trouble> {
     let record = right_record(set, &key, &nonce, &ad, &text).map_err(|unmade| match unmade {
         Unmade::Answer(answer) => refused(answer),
         Unmade::Line(line) => Trouble::Said(format!("too long for line {line} of a record")),
     })?;
-    say(&lines_of(&record).expect("a right record can be written"))
+    say(&lines_of(Form::One, &record).expect("a right record can be written"))
 }
 
 /// Prints what opening answers, with the text when it is done, and gives the trouble met, if any.
@@ -146,12 +163,12 @@ fn print_opened(
 }
 
 /// Prints pseudo-random right records one after another and gives the trouble met, if any.
-fn print_vectors(count: u64, seed: u64) -> Result<(), Trouble> {
+fn print_vectors(form: Form, count: u64, seed: u64) -> Result<(), Trouble> {
     let mut random = Random::new(seed);
     let mut out = plain(io::stdout())?;
     for index in 0..count {
-        let record = vectors::record(&mut random, index);
-        let lines = lines_of(&record).expect("a right record can be written");
+        let record = vectors::record_in(form, &mut random, index);
+        let lines = lines_of(form, &record).expect("a right record can be written");
         out.write_all(&lines).map_err(unwritten)?;
     }
     out.flush().map_err(unwritten)

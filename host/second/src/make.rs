@@ -2,18 +2,18 @@
 
 use crate::calls::seal;
 use crate::cipher::set_of;
-use crate::record::{write, Field, Record, Refused, LONGEST};
+use crate::record::{write, Field, Form, Record, Refused, LONGEST_2};
 
 /// Why no record could be made.
 #[derive(Clone, Copy, Debug, PartialEq, Eq)]
 pub enum Unmade {
     /// Sealing answered this number.
     Answer(u64),
-    /// The message is longer than a record can hold; the number is that of its first such line.
+    /// The message is longer than a record can hold; the number is that of its first such line in form 1.
     Line(u64),
 }
 
-/// Gives the record of a message with our cipher, tag and rounds.
+/// Gives the record of a message with our cipher, tag and rounds, and with chip 0.
 pub fn right_record(
     set: u64,
     key: &[u8],
@@ -29,6 +29,7 @@ pub fn right_record(
     }
     Ok(Record {
         set,
+        chip: 0,
         key: Field::of(key).ok_or(Unmade::Line(2))?,
         nonce: Field::of(nonce).ok_or(Unmade::Line(3))?,
         ad: Field::of(ad).ok_or(Unmade::Line(4))?,
@@ -39,10 +40,11 @@ pub fn right_record(
     })
 }
 
-/// Gives the eight lines of a record, or the refusal of the writer.
-pub fn lines_of(record: &Record) -> Result<Vec<u8>, Refused> {
-    let mut out = vec![0; LONGEST];
-    let length = write(record, &mut out)?;
+/// Gives the lines of a record in the form, or the refusal of the writer.
+pub fn lines_of(form: Form, record: &Record) -> Result<Vec<u8>, Refused> {
+    // What suffices for form 2 suffices for form 1.
+    let mut out = vec![0; LONGEST_2];
+    let length = write(form, record, &mut out)?;
     out.truncate(length);
     Ok(out)
 }

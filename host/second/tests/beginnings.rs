@@ -2,40 +2,47 @@
 
 mod forms;
 
-use forms::{each_change, each_short_value, place_of, text_of, Forms, SET_1, SET_2};
+use forms::{
+    each_change, each_short_value, in_form_2, place_of, text_of, Forms, FORMS, SET_1, SET_2,
+};
 use second::make::lines_of;
 use second::random::Random;
-use second::record::{may_begin, read};
+use second::record::{may_begin, may_begin_in, read, Form};
 use second::vectors;
 
-/// Gives how many bytes at the front of the text may begin a record, told from reading it once.
-fn good_by_reading(text: &[u8]) -> usize {
-    match read(text) {
+/// Gives how many bytes at the front of the text may begin a record of the form, told from reading it once.
+fn good_by_reading(form: Form, text: &[u8]) -> usize {
+    match read(form, text) {
         Ok((_, taken)) => taken,
         Err(broken) => place_of(text, broken),
     }
 }
 
-/// Checks what is said of a text by a search, and of it and its last good beginning by reading.
+/// Checks what is said of a text by a search, and of it and its last good beginning by reading, in each form and in either.
 fn check(forms: &Forms, text: &[u8]) {
-    let said = may_begin(text);
     let shown = String::from_utf8_lossy(text);
-    assert_eq!(said, forms.record_from(text).is_some(), "{shown}");
-    let good = good_by_reading(text);
-    assert_eq!(said, good == text.len(), "{shown}");
-    assert!(may_begin(&text[..good]), "{shown}");
-    if good < text.len() {
-        assert!(!may_begin(&text[..=good]), "{shown}");
+    let mut either = false;
+    for form in FORMS {
+        let said = may_begin_in(form, text);
+        assert_eq!(said, forms.record_from(form, text).is_some(), "{shown}");
+        let good = good_by_reading(form, text);
+        assert_eq!(said, good == text.len(), "{shown}");
+        assert!(may_begin_in(form, &text[..good]), "{shown}");
+        if good < text.len() {
+            assert!(!may_begin_in(form, &text[..=good]), "{shown}");
+        }
+        either |= said;
     }
+    assert_eq!(may_begin(text), either, "{shown}");
 }
 
 /// Checks what is said of each beginning of the text, and gives how many it asked of.
 fn check_beginnings(text: &[u8]) -> usize {
-    let good = good_by_reading(text);
+    let [one, two] = FORMS.map(|form| good_by_reading(form, text));
     let mut ran = 0;
     for end in 0..=text.len() {
         let shown = String::from_utf8_lossy(&text[..end]);
-        assert_eq!(may_begin(&text[..end]), end <= good, "{shown}");
+        assert_eq!(may_begin(&text[..end]), end <= one.max(two), "{shown}");
         ran += 1;
     }
     ran
@@ -94,6 +101,71 @@ fn cases_written_down() {
     assert_eq!(bad.iter().filter(|text| !may_begin(text)).count(), 22);
 }
 
+/// Says what is told of the front of form 2 in cases small enough to be read off.
+#[test]
+fn cases_of_form_2_written_down() {
+    let good: [&[u8]; 24] = [
+        b"f",
+        b"fo",
+        b"for",
+        b"form",
+        b"form=",
+        b"form=2",
+        b"form=2\n",
+        b"form=2\ns",
+        b"form=2\nset=",
+        b"form=2\nset=2",
+        b"form=2\nset=1\n",
+        b"form=2\nset=1\nc",
+        b"form=2\nset=1\nchip",
+        b"form=2\nset=1\nchip=",
+        b"form=2\nset=1\nchip=0",
+        b"form=2\nset=1\nchip=7000",
+        b"form=2\nset=1\nchip=6553",
+        b"form=2\nset=1\nchip=9999",
+        b"form=2\nset=1\nchip=65535",
+        b"form=2\nset=1\nchip=0\n",
+        b"form=2\nset=1\nchip=65535\n",
+        b"form=2\nset=2\nchip=7\nk",
+        b"form=2\nset=2\nchip=7\nkey=000102030405060708090a0b\n",
+        b"form=2\nset=1\nchip=7\nkey=000102030405060708090a0b0",
+    ];
+    let bad: [&[u8]; 29] = [
+        b"F",
+        b"ff",
+        b"form\n",
+        b"form=\n",
+        b"form=1",
+        b"form=3",
+        b"form=02",
+        b"form=22",
+        b"form=2 ",
+        b"form=2\r",
+        b"form= 2",
+        b"form=2\nf",
+        b"form=2\nform=2",
+        b"form=2\nchip",
+        b"form=2\nkey",
+        b"form=2\nset=3",
+        b"form=2\nset=1\nk",
+        b"form=2\nset=1\nkey=00",
+        b"form=2\nset=1\nchip=\n",
+        b"form=2\nset=1\nchip=00",
+        b"form=2\nset=1\nchip=01",
+        b"form=2\nset=1\nchip=65536",
+        b"form=2\nset=1\nchip=70000",
+        b"form=2\nset=1\nchip=+1",
+        b"form=2\nset=1\nchip=a",
+        b"set=1\nchip=",
+        b"set=1\nform=2",
+        b"form=2\nset=1\nchip=7\nkey=000102030405060708090a0b\n",
+        b"form=2\nset=2\nchip=7\nkey=000102030405060708090a0b0",
+    ];
+    assert_eq!(good.iter().filter(|text| may_begin(text)).count(), 24);
+    assert_eq!(bad.iter().filter(|text| !may_begin(text)).count(), 29);
+    assert!(good.iter().all(|text| !may_begin_in(Form::One, text)));
+}
+
 /// Says what may stand as a last line that has no line feed yet.
 #[test]
 fn last_lines_written_down() {
@@ -147,13 +219,17 @@ fn last_lines_written_down() {
     ];
     let mut ran = 0;
     for record in [SET_1, SET_2] {
-        let whole = |number: usize, last: &[u8]| [&text_of(&record[..number - 1]), last].concat();
+        let one = |number: usize, last: &[u8]| [&text_of(&record[..number - 1]), last].concat();
+        let lines = in_form_2(&record);
+        let two = |number: usize, last: &[u8]| [&text_of(&lines[..number + 1]), last].concat();
         for (number, last) in good {
-            assert!(may_begin(&whole(number, last)), "{last:?}");
+            assert!(may_begin(&one(number, last)), "{last:?}");
+            assert!(may_begin(&two(number, last)), "{last:?}");
             ran += 1;
         }
         for (number, last) in bad {
-            assert!(!may_begin(&whole(number, last)), "{last:?}");
+            assert!(!may_begin(&one(number, last)), "{last:?}");
+            assert!(!may_begin(&two(number, last)), "{last:?}");
             ran += 1;
         }
     }
@@ -183,9 +259,10 @@ fn the_most_bytes() {
 fn right_records_and_bytes_behind_them() {
     let mut random = Random::new(61);
     let (mut beginnings, mut lengths, mut behind_them) = (0, 0, 0);
-    for index in 0..40 {
-        let record = vectors::record(&mut random, index);
-        let text = lines_of(&record).expect("a right record");
+    for index in 0..80 {
+        let form = FORMS[index as usize / 40];
+        let record = vectors::record_in(form, &mut random, index);
+        let text = lines_of(form, &record).expect("a right record");
         for end in 0..=text.len() {
             assert!(may_begin(&text[..end]));
             beginnings += 1;
@@ -198,9 +275,9 @@ fn right_records_and_bytes_behind_them() {
         assert!(!may_begin(&[&text[..], &text[..]].concat()));
         behind_them += 1;
     }
-    assert_eq!((beginnings, behind_them), (lengths + 40, 40 * 257));
-    // No record is shorter than one of set 2 without data and text.
-    assert!(lengths >= 40 * 123, "{lengths}");
+    assert_eq!((beginnings, behind_them), (lengths + 80, 80 * 257));
+    // No record is shorter than one of set 2 without data and text, in form 2 by 14 more.
+    assert!(lengths >= 40 * 123 + 40 * 137, "{lengths}");
 }
 
 /// Says that search and reading agree for each change of any byte to any other.
@@ -208,12 +285,14 @@ fn right_records_and_bytes_behind_them() {
 fn every_change_of_one_byte() {
     let forms = Forms::new();
     let mut ran = 0;
-    each_change(|place, text| {
-        check(&forms, text);
-        check(&forms, &text[..=place]);
-        ran += 2;
-    });
-    assert_eq!(ran, (163 + 139) * 256 * 2);
+    for form in FORMS {
+        each_change(form, |place, text| {
+            check(&forms, text);
+            check(&forms, &text[..=place]);
+            ran += 2;
+        });
+    }
+    assert_eq!(ran, (163 + 139 + 180 + 156) * 256 * 2);
 }
 
 /// Says that search and reading agree for all short values of each line, ended or not.
@@ -221,11 +300,13 @@ fn every_change_of_one_byte() {
 fn all_short_values() {
     let forms = Forms::new();
     let mut ran = 0;
-    each_short_value(|text, _| {
-        check(&forms, text);
-        ran += 1;
-    });
-    assert_eq!(ran, 2 * 8 * (1 + 12 + 144 + 1_728) * 3);
+    for form in FORMS {
+        each_short_value(form, |text, _| {
+            check(&forms, text);
+            ran += 1;
+        });
+    }
+    assert_eq!(ran, 2 * (8 + 10) * (1 + 12 + 144 + 1_728) * 3);
 }
 
 /// Says that reading agrees at every length of records with bytes changed, lost and put in.
@@ -234,9 +315,10 @@ fn beginnings_of_damaged_records() {
     let forms = Forms::new();
     let mut random = Random::new(62);
     let (mut ran, mut beginnings, mut broken) = (0, 0, 0);
-    for index in 0..400 {
-        let record = vectors::record(&mut random, index);
-        let mut text = lines_of(&record).expect("a right record");
+    for index in 0..800 {
+        let form = FORMS[index as usize / 400];
+        let record = vectors::record_in(form, &mut random, index);
+        let mut text = lines_of(form, &record).expect("a right record");
         for _ in 0..=random.below(2) {
             let place = random.below(text.len());
             let new = b"0129afgA =\r\n\0\xff"[random.below(14)];
@@ -248,10 +330,10 @@ fn beginnings_of_damaged_records() {
         }
         beginnings += check_beginnings(&text);
         check(&forms, &text);
-        broken += usize::from(read(&text).is_err());
+        broken += usize::from(read(form, &text).is_err());
         ran += 1;
     }
-    assert_eq!(ran, 400);
-    assert!(beginnings > 100_000, "{beginnings}");
-    assert!(broken > 200 && broken < 400, "{broken}");
+    assert_eq!(ran, 800);
+    assert!(beginnings > 200_000, "{beginnings}");
+    assert!(broken > 400 && broken < 800, "{broken}");
 }

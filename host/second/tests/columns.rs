@@ -2,25 +2,33 @@
 
 mod forms;
 
-use forms::{each_change, each_short_value, label_of, place_of, text_of, Forms, SET_1, SET_2};
-use second::record::{read, Broken};
+use forms::{
+    count_of_lines, each_change, each_short_value, in_form_2, label_of, place_of, records_in,
+    text_of, Forms, FORMS, SET_1, SET_2,
+};
+use second::record::{read, Broken, Form};
 
 /// A broken line and the column of its fault.
 type Row<'a> = (&'a [u8], u64);
 
-/// Checks where a record breaks.
-fn check_at(text: &[u8], line: u64, column: u64) {
-    let found = read(text).map(|(_, taken)| taken);
+/// Checks where a record of the form breaks.
+fn check_in(form: Form, text: &[u8], line: u64, column: u64) {
+    let found = read(form, text).map(|(_, taken)| taken);
     let shown = String::from_utf8_lossy(text);
     assert_eq!(found, Err(Broken { line, column }), "{shown}");
 }
 
-/// Checks each broken line in place of line `number` of the record, and gives how many texts it read.
-fn check_rows(record: &[&[u8]; 8], number: usize, rows: &[Row]) -> usize {
+/// Checks where a record of form 1 breaks.
+fn check_at(text: &[u8], line: u64, column: u64) {
+    check_in(Form::One, text, line, column);
+}
+
+/// Checks each broken line in place of line `number` of the lines, and gives how many texts it read.
+fn check_lines(form: Form, lines: &[&[u8]], number: usize, rows: &[Row]) -> usize {
     let mut ran = 0;
     for (broken, column) in rows {
-        let before = text_of(&record[..number - 1]);
-        let after = text_of(&record[number..]);
+        let before = text_of(&lines[..number - 1]);
+        let after = text_of(&lines[number..]);
         for rest in [
             &b""[..],
             b"\n",
@@ -29,14 +37,23 @@ fn check_rows(record: &[&[u8]; 8], number: usize, rows: &[Row]) -> usize {
             b"\nset=3\n",
         ] {
             let text = [&before, *broken, rest].concat();
-            check_at(&text, number as u64, *column);
+            check_in(form, &text, number as u64, *column);
             ran += 1;
         }
     }
     ran
 }
 
-/// Checks the rows in both sets, and gives how many texts it read.
+/// Checks each broken line in place of line `number` of form 1 and of the same line in form 2, and gives how many texts it read in each.
+fn check_rows(record: &[&[u8]; 8], number: usize, rows: &[Row]) -> usize {
+    let later = if number == 1 { 2 } else { number + 2 };
+    let ran = check_lines(Form::One, record, number, rows);
+    let again = check_lines(Form::Two, &in_form_2(record), later, rows);
+    assert_eq!(again, ran);
+    ran
+}
+
+/// Checks the rows in both sets, and gives how many texts it read in each form.
 fn check_in_both_sets(number: usize, rows: &[Row]) -> usize {
     check_rows(&SET_1, number, rows) + check_rows(&SET_2, number, rows)
 }
@@ -48,8 +65,8 @@ fn the_right_records() {
     // The lengths of the lines and the eight line feeds.
     assert_eq!(one.len(), 5 + 36 + 38 + 7 + 11 + 13 + 36 + 9 + 8);
     assert_eq!(two.len(), 5 + 28 + 30 + 7 + 11 + 13 + 28 + 9 + 8);
-    assert_eq!(read(&one).map(|(_, taken)| taken), Ok(163));
-    assert_eq!(read(&two).map(|(_, taken)| taken), Ok(139));
+    assert_eq!(read(Form::One, &one).map(|(_, taken)| taken), Ok(163));
+    assert_eq!(read(Form::One, &two).map(|(_, taken)| taken), Ok(139));
 }
 
 /// Says where the set line breaks.
@@ -736,7 +753,10 @@ fn the_most_bytes() {
             let mut lines = record;
             lines[number - 1] = full.as_bytes();
             let text = text_of(&lines);
-            assert_eq!(read(&text).map(|(_, taken)| taken), Ok(text.len()));
+            assert_eq!(
+                read(Form::One, &text).map(|(_, taken)| taken),
+                Ok(text.len())
+            );
             // Without its line feed it has ended early.
             let mut cut = text_of(&lines[..number]);
             cut.pop();
@@ -826,7 +846,9 @@ fn a_line_feed_at_every_place() {
                     (5, 6 | 8 | 10) => check_at(&text, 6, 1),
                     (6, 8 | 10 | 12) => check_at(&text, 7, 1),
                     // After one of two digits the record is whole.
-                    (8, 9) => assert_eq!(read(&text).map(|(_, t)| t), Ok(text.len() - 2)),
+                    (8, 9) => {
+                        assert_eq!(read(Form::One, &text).map(|(_, t)| t), Ok(text.len() - 2))
+                    }
                     (other, _) => check_at(&text, other, column),
                 }
                 ran += 1;
@@ -921,43 +943,366 @@ fn whole_texts() {
     assert_eq!(ran, 19);
 }
 
+/// Checks each broken line in place of line `number` of form 2 in both sets, and gives how many texts it read.
+fn check_in_form_2(number: usize, rows: &[Row]) -> usize {
+    let [one, two] = records_in(Form::Two);
+    check_lines(Form::Two, &one, number, rows) + check_lines(Form::Two, &two, number, rows)
+}
+
+/// Says that the two records of form 2 from which all others are made are right.
+#[test]
+fn the_right_records_of_form_2() {
+    let [one, two] = records_in(Form::Two).map(|record| text_of(&record));
+    // As in form 1, and two lines of 6 and of 9 characters with their line feeds.
+    assert_eq!((one.len(), two.len()), (163 + 17, 139 + 17));
+    assert_eq!(read(Form::Two, &one).map(|(_, taken)| taken), Ok(180));
+    assert_eq!(read(Form::Two, &two).map(|(_, taken)| taken), Ok(156));
+}
+
+/// Says where the form line breaks.
+#[test]
+fn the_form_line() {
+    let rows: [Row; 56] = [
+        (b"", 1),
+        (b"2", 1),
+        (b"=2", 1),
+        (b"Form=2", 1),
+        (b"FORM=2", 1),
+        (b" form=2", 1),
+        (b"\tform=2", 1),
+        (b"\rform=2", 1),
+        (b"\0form=2", 1),
+        (b"\xef\xbb\xbfform=2", 1),
+        (b"\xff", 1),
+        (b"orm=2", 1),
+        (b"set=1", 1),
+        (b"chip=0", 1),
+        (b"f", 2),
+        (b"fOrm=2", 2),
+        (b"frm=2", 2),
+        (b"fform=2", 2),
+        (b"f orm=2", 2),
+        (b"fo", 3),
+        (b"foRm=2", 3),
+        (b"foam=2", 3),
+        (b"for", 4),
+        (b"forM=2", 4),
+        (b"for=2", 4),
+        (b"form", 5),
+        (b"form2", 5),
+        (b"forms=2", 5),
+        (b"form =2", 5),
+        (b"form:2", 5),
+        (b"form\r", 5),
+        (b"form=", 6),
+        (b"form=0", 6),
+        (b"form=1", 6),
+        (b"form=3", 6),
+        (b"form=9", 6),
+        (b"form=02", 6),
+        (b"form=12", 6),
+        (b"form= 2", 6),
+        (b"form=+2", 6),
+        (b"form=-2", 6),
+        (b"form==2", 6),
+        (b"form=two", 6),
+        (b"form=\r", 6),
+        (b"form=\0", 6),
+        (b"form=\x02", 6),
+        (b"form=\xc2\xb2", 6),
+        (b"form=22", 7),
+        (b"form=20", 7),
+        (b"form=2 ", 7),
+        (b"form=2\t", 7),
+        (b"form=2\r", 7),
+        (b"form=2\0", 7),
+        (b"form=2.0", 7),
+        (b"form=2=", 7),
+        (b"form=2set=1", 7),
+    ];
+    assert_eq!(check_in_form_2(1, &rows), 2 * 56 * 5);
+}
+
+/// Says where the chip line breaks.
+#[test]
+fn the_chip_line() {
+    let rows: [Row; 92] = [
+        (b"", 1),
+        (b"0", 1),
+        (b"=0", 1),
+        (b"Chip=0", 1),
+        (b"CHIP=0", 1),
+        (b" chip=0", 1),
+        (b"\rchip=0", 1),
+        (b"hip=0", 1),
+        (b"set=1", 1),
+        (b"key=000102030405060708090a0b0c0d0e0f", 1),
+        (b"\xff", 1),
+        (b"c", 2),
+        (b"cHip=0", 2),
+        (b"cchip=0", 2),
+        (b"c hip=0", 2),
+        (b"cipher=c0c1c2", 2),
+        (b"ch", 3),
+        (b"chIp=0", 3),
+        (b"chop=0", 3),
+        (b"chi", 4),
+        (b"chiP=0", 4),
+        (b"chi=0", 4),
+        (b"chip", 5),
+        (b"chip0", 5),
+        (b"chips=0", 5),
+        (b"chip =0", 5),
+        (b"chip:0", 5),
+        (b"chip\r", 5),
+        (b"chip=", 6),
+        (b"chip=a", 6),
+        (b"chip=f", 6),
+        (b"chip=A", 6),
+        (b"chip=one", 6),
+        (b"chip=-0", 6),
+        (b"chip=-1", 6),
+        (b"chip=+1", 6),
+        (b"chip= 1", 6),
+        (b"chip=\t1", 6),
+        (b"chip=\r", 6),
+        (b"chip=\0", 6),
+        (b"chip=/", 6),
+        (b"chip=:", 6),
+        (b"chip==0", 6),
+        (b"chip=\xff", 6),
+        (b"chip=\xd9\xa1", 6),
+        // A zero alone is right, so only what follows it is at fault.
+        (b"chip=00", 7),
+        (b"chip=01", 7),
+        (b"chip=09", 7),
+        (b"chip=000", 7),
+        (b"chip=065535", 7),
+        (b"chip=00000", 7),
+        (b"chip=0x1", 7),
+        (b"chip=0 ", 7),
+        (b"chip=0\r", 7),
+        (b"chip=0.0", 7),
+        (b"chip=0key=00", 7),
+        (b"chip=1 ", 7),
+        (b"chip=1a", 7),
+        (b"chip=1e3", 7),
+        (b"chip=1,000", 7),
+        (b"chip=9\r", 7),
+        (b"chip=10 ", 8),
+        (b"chip=10a", 8),
+        (b"chip=99\t", 8),
+        (b"chip=100.", 9),
+        (b"chip=655 ", 9),
+        (b"chip=6553 ", 10),
+        (b"chip=6553a", 10),
+        // A fifth digit that takes the number past 65535 is at fault itself.
+        (b"chip=65536", 10),
+        (b"chip=65537", 10),
+        (b"chip=65539", 10),
+        (b"chip=65540", 10),
+        (b"chip=65600", 10),
+        (b"chip=66000", 10),
+        (b"chip=70000", 10),
+        (b"chip=80000", 10),
+        (b"chip=99999", 10),
+        (b"chip=65536\r", 10),
+        (b"chip=70000a", 10),
+        (b"chip=655360", 10),
+        (b"chip=700000", 10),
+        (b"chip=999999999999999999999999999999", 10),
+        (b"chip=18446744073709551616", 11),
+        // After five digits that are still right any more is at fault.
+        (b"chip=100000", 11),
+        (b"chip=655350", 11),
+        (b"chip=655351", 11),
+        (b"chip=123456", 11),
+        (b"chip=65535 ", 11),
+        (b"chip=65535\r", 11),
+        (b"chip=65535a", 11),
+        (b"chip=10000 ", 11),
+        (b"chip=65535key=00", 11),
+    ];
+    assert_eq!(check_in_form_2(3, &rows), 2 * 92 * 5);
+}
+
+/// Says that a wrong character at or put in at any place of the form and chip lines is told there.
+#[test]
+fn every_place_of_the_lines_only_form_2_has() {
+    let mut ran = 0;
+    let lines: [(&[u8], usize); 2] = [(b"form=2", 1), (b"chip=6553", 3)];
+    for (line, number) in lines {
+        for place in 0..=line.len() {
+            for wrong in b"XG~ \t\r\0\x80\xff/:`@-" {
+                let column = place as u64 + 1;
+                let (front, back) = line.split_at(place);
+                let put_in = [front, &[*wrong], back].concat();
+                ran += check_in_form_2(number, &[(&put_in, column)]);
+                if let Some(rest) = back.get(1..) {
+                    let instead = [front, &[*wrong], rest].concat();
+                    ran += check_in_form_2(number, &[(&instead, column)]);
+                }
+            }
+        }
+    }
+    assert_eq!(ran, (6 + 7 + 9 + 10) * 14 * 2 * 5);
+}
+
+/// Says that an input of form 2 that ends at any place is broken one past its last character.
+#[test]
+fn the_input_of_form_2_ends_at_every_place() {
+    let mut ran = 0;
+    let in_set_1 = [6, 5, 9, 36, 38, 7, 11, 13, 36, 9];
+    let in_set_2 = [6, 5, 9, 28, 30, 7, 11, 13, 28, 9];
+    for (record, lengths) in records_in(Form::Two).iter().zip([in_set_1, in_set_2]) {
+        let text = text_of(record);
+        let mut end = 0;
+        for (length, line) in lengths.into_iter().zip(1..) {
+            for column in 1..=length + 1 {
+                check_in(Form::Two, &text[..end], line, column);
+                end += 1;
+                ran += 1;
+            }
+        }
+        assert_eq!(end, text.len());
+    }
+    assert_eq!(ran, 180 + 156);
+}
+
+/// Says where records of form 2 with lines lost, doubled, exchanged or empty break.
+#[test]
+fn lines_of_form_2_out_of_order() {
+    let mut ran = 0;
+    for record in records_in(Form::Two) {
+        for place in 0..9 {
+            let number = place as u64 + 1;
+            let mut lines = record.clone();
+            lines.remove(place);
+            check_in(Form::Two, &text_of(&lines), number, 1);
+
+            let mut lines = record.clone();
+            lines.insert(place, record[place]);
+            check_in(Form::Two, &text_of(&lines), number + 1, 1);
+
+            let mut lines = record.clone();
+            lines.swap(place, place + 1);
+            check_in(Form::Two, &text_of(&lines), number, 1);
+
+            let mut lines = record.clone();
+            lines.insert(place, b"");
+            check_in(Form::Two, &text_of(&lines), number, 1);
+
+            check_in(Form::Two, &text_of(&record[..place]), number, 1);
+            ran += 5;
+        }
+        // The names of these two begin with the same character.
+        let mut lines = record.clone();
+        lines.swap(2, 7);
+        check_in(Form::Two, &text_of(&lines), 3, 2);
+        check_in(Form::Two, &text_of(&record[..9]), 10, 1);
+        ran += 2;
+    }
+    assert_eq!(ran, 2 * (9 * 5 + 2));
+}
+
+/// Says where whole texts of form 2 break that a technician may meet.
+#[test]
+fn whole_texts_of_form_2() {
+    let [one, two] = records_in(Form::Two)
+        .map(|record| String::from_utf8(text_of(&record)).expect("plain text"));
+    let old = String::from_utf8(text_of(&SET_1)).expect("plain text");
+    let cases = [
+        (String::new(), 1, 1),
+        ("\n".to_string(), 1, 1),
+        ("\n".to_string() + &one, 1, 1),
+        (one.replace('\n', "\r\n"), 1, 7),
+        (one.replace('\n', ""), 1, 7),
+        (one.replace('\n', "\n\n"), 2, 1),
+        (one.replace('=', " = "), 1, 5),
+        (one.replace('=', ""), 1, 5),
+        (one.to_uppercase(), 1, 1),
+        ("\u{feff}".to_string() + &one, 1, 1),
+        // A record of form 1, alone and behind the form line.
+        (old.clone(), 1, 1),
+        ("form=2\n".to_string() + &old, 3, 1),
+        ("form=1\n".to_string() + &old, 1, 6),
+        // The record of one set under the number of the other.
+        (one.replace("set=1", "set=2"), 4, 29),
+        (two.replace("set=2", "set=1"), 4, 29),
+        // The chip in each of the places where it isn't.
+        (
+            one.replace("set=1\nchip=6553\n", "chip=6553\nset=1\n"),
+            2,
+            1,
+        ),
+        (one.replace("chip=6553\n", "") + "chip=6553\n", 3, 1),
+        // A broken line is told though the one after it is broken too.
+        (
+            one.replace("6553", "65536").replace("key=0", "key=X"),
+            3,
+            10,
+        ),
+        (one.replace("set=1", "set=3").replace("6553", "x"), 2, 5),
+        (one.replace("rounds=30", "rounds=030"), 10, 9),
+    ];
+    let mut ran = 0;
+    for (text, line, column) in cases {
+        check_in(Form::Two, text.as_bytes(), line, column);
+        ran += 1;
+    }
+    assert_eq!(ran, 20);
+}
+
+/// Says that no record of form 2 is read as form 1, and where form 1 breaks on it.
+#[test]
+fn form_2_read_as_form_1() {
+    let mut ran = 0;
+    for record in records_in(Form::Two) {
+        let text = text_of(&record);
+        check_at(&text, 1, 1);
+        // Behind its form line the chip line is at fault, as form 1 has none.
+        check_at(&text[7..], 2, 1);
+        ran += 1;
+    }
+    assert_eq!(ran, 2);
+}
+
 /// Says whether the characters, line feed included, are a right line `number` of the text.
-fn is_right(forms: &Forms, text: &[u8], number: usize, line: &[u8]) -> bool {
-    forms.completed(text, number, line).as_deref() == Some(line)
+fn is_right(forms: &Forms, form: Form, text: &[u8], number: usize, line: &[u8]) -> bool {
+    forms.completed(form, text, number, line).as_deref() == Some(line)
 }
 
 /// Checks what reading says of a text by the definition of line and column, and says if it was broken.
-fn check_by_definition(forms: &Forms, text: &[u8]) -> bool {
+fn check_by_definition(forms: &Forms, form: Form, text: &[u8]) -> bool {
     let lines: Vec<&[u8]> = text.split_inclusive(|byte| *byte == b'\n').collect();
-    let broken = match read(text) {
+    let count = count_of_lines(form);
+    let broken = match read(form, text) {
         Ok((_, taken)) => {
-            let mut first_eight = (1..=8).zip(&lines);
-            assert!(first_eight.all(|(number, line)| is_right(forms, text, number, line)));
-            let length: usize = lines[..8].iter().map(|line| line.len()).sum();
+            let mut own = (1..=count).zip(&lines);
+            assert!(own.all(|(number, line)| is_right(forms, form, text, number, line)));
+            let length: usize = lines[..count].iter().map(|line| line.len()).sum();
             assert_eq!(taken, length);
             return false;
         }
         Err(broken) => broken,
     };
-    assert!((1..=8).contains(&broken.line) && broken.column >= 1);
+    assert!((1..=count as u64).contains(&broken.line) && broken.column >= 1);
     let number = broken.line as usize;
     assert!(number <= lines.len() + 1, "{broken:?}");
     for before in 1..number {
-        assert!(
-            is_right(forms, text, before, lines[before - 1]),
-            "{broken:?}"
-        );
+        let line = lines[before - 1];
+        assert!(is_right(forms, form, text, before, line), "{broken:?}");
     }
     let line = lines.get(number - 1).copied().unwrap_or_default();
     let good = broken.column as usize - 1;
     assert!(good <= line.len(), "{broken:?}");
     for end in 0..=good {
-        let whole = forms.completed(text, number, &line[..end]);
+        let whole = forms.completed(form, text, number, &line[..end]);
         let whole = whole.unwrap_or_else(|| panic!("no right line goes on: {broken:?} {end}"));
         assert!(whole.starts_with(&line[..end]) && whole.ends_with(b"\n"));
     }
     if good < line.len() {
-        let whole = forms.completed(text, number, &line[..=good]);
+        let whole = forms.completed(form, text, number, &line[..=good]);
         assert_eq!(whole, None, "a right line goes on: {broken:?}");
     } else {
         assert!(!line.ends_with(b"\n"), "a right line: {broken:?}");
@@ -966,44 +1311,64 @@ fn check_by_definition(forms: &Forms, text: &[u8]) -> bool {
     true
 }
 
+/// Checks the definition for each change of any byte to any other, and gives how many records broke and how many didn't.
+fn check_changes(form: Form) -> (usize, usize) {
+    let forms = Forms::new();
+    let (mut broken, mut right) = (0, 0);
+    each_change(form, |_, text| {
+        match check_by_definition(&forms, form, text) {
+            true => broken += 1,
+            false => right += 1,
+        }
+    });
+    (broken, right)
+}
+
 /// Says that the definition holds for each change of any byte to any other.
 #[test]
 fn the_definition_for_every_change_of_one_byte() {
-    let forms = Forms::new();
-    let (mut broken, mut right) = (0, 0);
-    each_change(|_, text| match check_by_definition(&forms, text) {
-        true => broken += 1,
-        false => right += 1,
-    });
+    let (broken, right) = check_changes(Form::One);
     // Right are: no change, any digit for another of 112 and 88 in hex, and in `30` any digit but
     // a zero in front, or a line feed for the last.
     assert_eq!(right, 163 + 112 * 15 + 18 + 139 + 88 * 15 + 18);
     assert_eq!(broken + right, (163 + 139) * 256);
+    let (broken, right) = check_changes(Form::Two);
+    // In form 2 also any digit in `6553` but a zero in front.
+    assert_eq!(right, 180 + 112 * 15 + 18 + 35 + 156 + 88 * 15 + 18 + 35);
+    assert_eq!(broken + right, (180 + 156) * 256);
+}
+
+/// Checks the definition for each byte lost, each byte put in and each cut, and gives how many texts it read.
+fn check_lost_and_put_in(form: Form) -> usize {
+    let forms = Forms::new();
+    let mut ran = 0;
+    for record in records_in(form) {
+        let text = text_of(&record);
+        for place in 0..=text.len() {
+            let (front, back) = text.split_at(place);
+            for new in b"0129afgAFGsktncr=+ .:/`@\t\r\n\0\x7f\x80\xff" {
+                check_by_definition(&forms, form, &[front, &[*new], back].concat());
+                ran += 1;
+            }
+            if let Some(rest) = back.get(1..) {
+                check_by_definition(&forms, form, &[front, rest].concat());
+                ran += 1;
+            }
+            check_by_definition(&forms, form, front);
+            check_by_definition(&forms, form, back);
+            ran += 2;
+        }
+    }
+    ran
 }
 
 /// Says that the definition holds for each byte lost, each byte put in and each cut.
 #[test]
 fn the_definition_for_bytes_lost_and_put_in() {
-    let forms = Forms::new();
-    let mut ran = 0;
-    for record in [SET_1, SET_2] {
-        let text = text_of(&record);
-        for place in 0..=text.len() {
-            let (front, back) = text.split_at(place);
-            for new in b"0129afgAFGsktncr=+ .:/`@\t\r\n\0\x7f\x80\xff" {
-                check_by_definition(&forms, &[front, &[*new], back].concat());
-                ran += 1;
-            }
-            if let Some(rest) = back.get(1..) {
-                check_by_definition(&forms, &[front, rest].concat());
-                ran += 1;
-            }
-            check_by_definition(&forms, front);
-            check_by_definition(&forms, back);
-            ran += 2;
-        }
-    }
-    assert_eq!(ran, (164 + 140) * (31 + 2) + 163 + 139);
+    let in_form_1 = check_lost_and_put_in(Form::One);
+    assert_eq!(in_form_1, (164 + 140) * (31 + 2) + 163 + 139);
+    let in_form_2 = check_lost_and_put_in(Form::Two);
+    assert_eq!(in_form_2, (181 + 157) * (31 + 2) + 180 + 156);
 }
 
 /// Says that the definition holds for all short values of each line, and for all short name ends.
@@ -1011,12 +1376,14 @@ fn the_definition_for_bytes_lost_and_put_in() {
 fn the_definition_for_all_short_values() {
     let forms = Forms::new();
     let mut ran = 0;
-    each_short_value(|text, after| {
-        check_by_definition(&forms, text);
-        check_by_definition(&forms, &[text, b"\n", after].concat());
-        ran += 2;
-    });
-    assert_eq!(ran, 2 * 8 * (1 + 12 + 144 + 1_728) * 3 * 2);
+    for form in FORMS {
+        each_short_value(form, |text, after| {
+            check_by_definition(&forms, form, text);
+            check_by_definition(&forms, form, &[text, b"\n", after].concat());
+            ran += 2;
+        });
+    }
+    assert_eq!(ran, 2 * (8 + 10) * (1 + 12 + 144 + 1_728) * 3 * 2);
 }
 
 /// Says that the definition holds for values of many lengths, ended rightly and wrongly.
@@ -1024,22 +1391,44 @@ fn the_definition_for_all_short_values() {
 fn the_definition_for_values_of_many_lengths() {
     let forms = Forms::new();
     let mut ran = 0;
-    for record in [SET_1, SET_2] {
-        for (line, number) in record.iter().zip(1..) {
-            let before = text_of(&record[..number - 1]);
-            let after = text_of(&record[number..]);
-            let label = label_of(line);
-            for digits in (0..=40).chain(505..=520) {
-                for end in [&b"\n"[..], b"", b"g\n", b"\r\n"] {
-                    let value = vec![b'4'; digits];
-                    let text = [&before, label, &value, end, &after].concat();
-                    check_by_definition(&forms, &text);
-                    ran += 1;
+    for form in FORMS {
+        for record in records_in(form) {
+            for (line, number) in record.iter().zip(1..) {
+                let before = text_of(&record[..number - 1]);
+                let after = text_of(&record[number..]);
+                let label = label_of(line);
+                for digits in (0..=40).chain(505..=520) {
+                    for end in [&b"\n"[..], b"", b"g\n", b"\r\n"] {
+                        let value = vec![b'4'; digits];
+                        let text = [&before, label, &value, end, &after].concat();
+                        check_by_definition(&forms, form, &text);
+                        ran += 1;
+                    }
                 }
             }
         }
     }
-    assert_eq!(ran, 2 * 8 * (41 + 16) * 4);
+    assert_eq!(ran, 2 * (8 + 10) * (41 + 16) * 4);
+}
+
+/// Says that the definition holds for each number of one to six digits, and zeros before it, as a chip.
+#[test]
+fn the_definition_for_many_chips() {
+    let forms = Forms::new();
+    let (mut broken, mut right) = (0, 0);
+    let [record, _] = records_in(Form::Two);
+    let after = text_of(&record[3..]);
+    for number in (0..=70_000).chain([99_999, 100_000, 655_350, 655_351, 999_999]) {
+        for zeros in ["", "0", "00"] {
+            let front = format!("form=2\nset=1\nchip={zeros}{number}\n");
+            let text = [front.as_bytes(), &after].concat();
+            match check_by_definition(&forms, Form::Two, &text) {
+                true => broken += 1,
+                false => right += 1,
+            }
+        }
+    }
+    assert_eq!((broken, right), (70_006 * 3 - 65_536, 65_536));
 }
 
 /// Says that every beginning of a right record can be completed, and what it becomes is read.
@@ -1047,14 +1436,17 @@ fn the_definition_for_values_of_many_lengths() {
 fn completions_are_read() {
     let forms = Forms::new();
     let mut ran = 0;
-    for record in [SET_1, SET_2] {
-        let text = text_of(&record);
-        for end in 0..=text.len() {
-            let whole = forms.record_from(&text[..end]).expect("a right beginning");
-            assert!(whole.starts_with(&text[..end]));
-            assert_eq!(read(&whole).map(|(_, taken)| taken), Ok(whole.len()));
-            ran += 1;
+    for form in FORMS {
+        for record in records_in(form) {
+            let text = text_of(&record);
+            for end in 0..=text.len() {
+                let begun = &text[..end];
+                let whole = forms.record_from(form, begun).expect("a right beginning");
+                assert!(whole.starts_with(begun));
+                assert_eq!(read(form, &whole).map(|(_, taken)| taken), Ok(whole.len()));
+                ran += 1;
+            }
         }
     }
-    assert_eq!(ran, 164 + 140);
+    assert_eq!(ran, 164 + 140 + 181 + 157);
 }

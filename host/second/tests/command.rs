@@ -56,6 +56,130 @@ fn vectors_and_judge() {
     assert_eq!(done(&["judge"], b""), "");
 }
 
+/// Says that made records of form 2 are right, the same for the same seed, and of many chips.
+#[test]
+fn vectors_of_form_2_and_judge() {
+    let records = done(&["vectors2", "400", "42"], b"");
+    assert_eq!(records, done(&["vectors2", "400", "42"], b""));
+    assert_ne!(records, done(&["vectors2", "400", "43"], b""));
+    assert_eq!(records.matches("form=2\nset=1\nchip=").count(), 200);
+    assert_eq!(records.matches("form=2\nset=2\nchip=").count(), 200);
+    assert_eq!(records.lines().count(), 400 * 10);
+    let of_chip_0 = records.matches("\nchip=0\n").count();
+    let of_chip_65535 = records.matches("\nchip=65535\n").count();
+    assert!(of_chip_0 >= 100 && of_chip_65535 >= 100);
+    assert!(of_chip_0 + of_chip_65535 < 250);
+    let report = done(&["judge"], records.as_bytes());
+    assert_eq!(report.matches("verdict=equal\nfield=none\n").count(), 400);
+    assert_eq!(report.lines().count(), 1_200);
+    let mixed = done(&["vectors", "5", "1"], b"") + &records;
+    let report = done(&["judge"], mixed.as_bytes());
+    assert_eq!(report.matches("verdict=equal\nfield=none\n").count(), 405);
+    assert_eq!(done(&["vectors2", "0", "1"], b""), "");
+}
+
+/// Gives status, standard output and standard error of moving an input.
+fn moved(command: &str, input: &str) -> (Option<i32>, String, String) {
+    let output = run(&[command], input.as_bytes());
+    let text = |bytes| String::from_utf8(bytes).expect("plain text");
+    (
+        output.status.code(),
+        text(output.stdout),
+        text(output.stderr),
+    )
+}
+
+/// Says what moving prints, letter for letter, done and refused.
+#[test]
+fn forward_and_back() {
+    let zeros = "00".repeat(12);
+    let rest = format!("key={zeros}\nnonce={zeros}\nad=\ntext=\ncipher=\ntag={zeros}\nrounds=24\n");
+    let old = format!("set=2\n{rest}");
+    let new = format!("form=2\nset=2\nchip=0\n{rest}");
+    let other = format!("form=2\nset=2\nchip=12\n{rest}");
+    let cases = [
+        ("forward", String::new(), "", "done: records=0", 0),
+        ("back", String::new(), "", "done: records=0", 0),
+        ("forward", old.clone(), &new, "done: records=1", 0),
+        ("back", new.clone(), &old, "done: records=1", 0),
+        (
+            "forward",
+            old.repeat(3),
+            &new.repeat(3),
+            "done: records=3",
+            0,
+        ),
+        ("back", new.repeat(3), &old.repeat(3), "done: records=3", 0),
+        (
+            "forward",
+            old.clone() + &old.replace("ad=", "ad=abC"),
+            "",
+            "refused: answer=10 record=2 line=4 column=6",
+            1,
+        ),
+        (
+            "forward",
+            new.clone(),
+            "",
+            "refused: answer=10 record=1 line=1 column=1",
+            1,
+        ),
+        (
+            "back",
+            new.clone() + &old,
+            "",
+            "refused: answer=10 record=2 line=1 column=1",
+            1,
+        ),
+        (
+            "back",
+            new.clone() + &new + &other + &old,
+            "",
+            "refused: answer=11 record=3",
+            1,
+        ),
+        (
+            "back",
+            other.replace("rounds=24", "rounds=x"),
+            "",
+            "refused: answer=10 record=1 line=10 column=8",
+            1,
+        ),
+    ];
+    let mut ran = 0;
+    for (command, input, output, said, status) in cases {
+        let wanted = (Some(status), output.to_string(), format!("bench: {said}\n"));
+        assert_eq!(moved(command, &input), wanted, "{command}");
+        ran += 1;
+    }
+    assert_eq!(ran, 11);
+}
+
+/// Says that made records moved forward and back are the same, and one chip anywhere stops it.
+#[test]
+fn made_records_there_and_back() {
+    let records = done(&["vectors", "300", "9"], b"");
+    let (status, newer, said) = moved("forward", &records);
+    assert_eq!((status, &said[..]), (Some(0), "bench: done: records=300\n"));
+    assert_eq!(newer.matches("\nchip=0\nkey=").count(), 300);
+    let done_again = (
+        Some(0),
+        records.clone(),
+        "bench: done: records=300\n".to_string(),
+    );
+    assert_eq!(moved("back", &newer), done_again);
+    let mut ran = 0;
+    for number in [1, 2, 150, 300] {
+        let places: Vec<_> = newer.match_indices("chip=0").collect();
+        let (place, _) = places[number - 1];
+        let input = format!("{}chip=8{}", &newer[..place], &newer[place + 6..]);
+        let said = format!("bench: refused: answer=11 record={number}\n");
+        assert_eq!(moved("back", &input), (Some(1), String::new(), said));
+        ran += 1;
+    }
+    assert_eq!(ran, 4);
+}
+
 /// Says that the printed case of the rules comes out through the program.
 #[test]
 fn the_printed_case() {
@@ -217,8 +341,15 @@ fn rounds() {
 #[test]
 fn bad_command_lines() {
     let key = "00".repeat(16);
-    let cases: [&[&str]; 18] = [
+    let cases: [&[&str]; 25] = [
         &[],
+        &["forward", "more"],
+        &["back", "more"],
+        &["Forward"],
+        &["backward"],
+        &["vectors2"],
+        &["vectors2", "5"],
+        &["vectors2", "5", "x"],
         &["help"],
         &["judge", "more"],
         &["Judge"],
@@ -245,7 +376,7 @@ fn bad_command_lines() {
         assert!(output.stderr.starts_with(b"usage:"));
         ran += 1;
     }
-    assert_eq!(ran, 18);
+    assert_eq!(ran, 25);
 }
 
 /// Says that refused messages are said on standard error with status 1.
@@ -286,26 +417,51 @@ fn write_only() -> File {
 /// Says that a failed read is said with a nonzero status and isn't the end of the input.
 #[test]
 fn failed_reads() {
-    let folder = File::open(".").expect("the folder opens");
     let mut ran = 0;
-    for input in [folder, write_only()] {
-        let output = Command::new(env!("CARGO_BIN_EXE_second"))
-            .arg("judge")
-            .stdin(Stdio::from(input))
-            .output()
-            .expect("the program starts");
-        assert_eq!(output.status.code(), Some(1));
-        assert!(output.stdout.is_empty());
-        assert!(output.stderr.starts_with(b"second: reading failed"));
-        ran += 1;
+    for command in ["judge", "forward", "back"] {
+        let folder = File::open(".").expect("the folder opens");
+        for input in [folder, write_only()] {
+            let output = Command::new(env!("CARGO_BIN_EXE_second"))
+                .arg(command)
+                .stdin(Stdio::from(input))
+                .output()
+                .expect("the program starts");
+            assert_eq!(output.status.code(), Some(1));
+            assert!(output.stdout.is_empty());
+            assert!(output.stderr.starts_with(b"second: reading failed"));
+            ran += 1;
+        }
     }
-    assert_eq!(ran, 2);
+    assert_eq!(ran, 6);
+}
+
+/// Says that moved records that can't be written are a failed write, of which nothing else is told.
+#[test]
+fn moved_records_unwritten() {
+    let records = done(&["vectors", "3", "1"], b"");
+    let path = std::path::Path::new(env!("CARGO_TARGET_TMPDIR")).join("old-records");
+    std::fs::write(&path, records).expect("a file for the test");
+    let output = Command::new(env!("CARGO_BIN_EXE_second"))
+        .arg("forward")
+        .stdin(Stdio::from(File::open(&path).expect("the file opens")))
+        // A file opened for reading takes no output.
+        .stdout(Stdio::from(File::open(&path).expect("the file opens")))
+        .stderr(Stdio::piped())
+        .output()
+        .expect("the program starts");
+    assert_eq!(output.status.code(), Some(1));
+    assert!(output.stderr.starts_with(b"second: writing failed"));
+    assert_eq!(
+        output.stderr.iter().filter(|byte| **byte == b'\n').count(),
+        1
+    );
 }
 
 /// Says that a failed write is said with a nonzero status.
 #[test]
 fn failed_writes() {
-    let cases: [&[&str]; 4] = [
+    let cases: [&[&str]; 5] = [
+        &["vectors2", "3", "1"],
         &["vectors", "3", "1"],
         &["vectors", "300", "1"],
         &["rounds", "1", "0", "0"],
@@ -325,5 +481,5 @@ fn failed_writes() {
         assert!(output.stderr.starts_with(b"second: writing failed"));
         ran += 1;
     }
-    assert_eq!(ran, 4);
+    assert_eq!(ran, 5);
 }

@@ -4,7 +4,7 @@ use second::hex;
 use second::judge::{fault_line, judge_all, report, verdict, Verdict};
 use second::make::{lines_of, right_record};
 use second::random::Random;
-use second::record::{Broken, Field, Record};
+use second::record::{Broken, Field, Form, Record};
 use second::vectors;
 
 /// Gives right records of both sets in turn.
@@ -17,7 +17,7 @@ fn samples(count: u64) -> Vec<Record> {
 
 /// Gives the lines of a record.
 fn lines(record: &Record) -> Vec<u8> {
-    lines_of(record).expect("a right record")
+    lines_of(Form::One, record).expect("a right record")
 }
 
 /// Gives the report lines of one record as they must stand.
@@ -70,7 +70,7 @@ fn the_first_differing_field() {
                 record.rounds += 1;
                 wanted = Verdict::Differs("rounds");
             }
-            assert_eq!(verdict(&record), wanted);
+            assert_eq!(verdict(Form::One, &record), wanted);
             ran += 1;
         }
     }
@@ -99,7 +99,7 @@ fn changed_inputs_show() {
                     2 => record.key.bytes[0] ^= 1,
                     _ => record.nonce.bytes[0] ^= 1,
                 }
-                assert_eq!(verdict(&record), Verdict::Differs("cipher"));
+                assert_eq!(verdict(Form::One, &record), Verdict::Differs("cipher"));
                 ran += 1;
             }
         }
@@ -127,10 +127,10 @@ fn cut_off_ciphers() {
     for set in [1, 2] {
         for text in lengths() {
             let right = sized(set, 3, text);
-            assert_eq!(verdict(&right), Verdict::Equal);
+            assert_eq!(verdict(Form::One, &right), Verdict::Equal);
             for length in 0..text {
                 let record = with_cipher(&right, &right.cipher.held()[..length]);
-                assert_eq!(verdict(&record), Verdict::Differs("cipher"));
+                assert_eq!(verdict(Form::One, &record), Verdict::Differs("cipher"));
                 ran += 1;
             }
         }
@@ -149,7 +149,7 @@ fn lengthened_ciphers() {
                 for count in 1..=256 - text {
                     let longer = [right.cipher.held(), &more[..count]].concat();
                     let record = with_cipher(&right, &longer);
-                    assert_eq!(verdict(&record), Verdict::Differs("cipher"));
+                    assert_eq!(verdict(Form::One, &record), Verdict::Differs("cipher"));
                     ran += 1;
                 }
             }
@@ -164,12 +164,12 @@ fn empty_ciphers_and_empty_texts() {
     let mut ran = 0;
     for set in [1, 2] {
         let empty = sized(set, 3, 0);
-        assert_eq!(verdict(&empty), Verdict::Equal);
+        assert_eq!(verdict(Form::One, &empty), Verdict::Equal);
         for length in 1..=256 {
             let full = sized(set, 3, length);
             let cipher = full.cipher.held();
             for record in [with_cipher(&full, b""), with_cipher(&empty, cipher)] {
-                assert_eq!(verdict(&record), Verdict::Differs("cipher"));
+                assert_eq!(verdict(Form::One, &record), Verdict::Differs("cipher"));
                 ran += 1;
             }
         }
@@ -199,10 +199,10 @@ fn ciphers_of_zeros() {
             for length in 0..=256 {
                 let record = with_cipher(&right, &vec![0; length]);
                 if length == text {
-                    assert_eq!(verdict(&record), Verdict::Equal);
+                    assert_eq!(verdict(Form::One, &record), Verdict::Equal);
                     equal += 1;
                 } else {
-                    assert_eq!(verdict(&record), Verdict::Differs("cipher"));
+                    assert_eq!(verdict(Form::One, &record), Verdict::Differs("cipher"));
                     other += 1;
                 }
             }
@@ -221,13 +221,13 @@ fn each_byte_of_cipher_and_tag() {
             for place in 0..right.cipher.len {
                 let mut record = right.clone();
                 record.cipher.bytes[place] ^= 1;
-                assert_eq!(verdict(&record), Verdict::Differs("cipher"));
+                assert_eq!(verdict(Form::One, &record), Verdict::Differs("cipher"));
                 ciphers += 1;
             }
             for place in 0..right.tag.len {
                 let mut record = right.clone();
                 record.tag.bytes[place] ^= 1;
-                assert_eq!(verdict(&record), Verdict::Differs("tag"));
+                assert_eq!(verdict(Form::One, &record), Verdict::Differs("tag"));
                 tags += 1;
             }
         }
@@ -253,11 +253,11 @@ fn wrong_lengths_beside_other_faults() {
             ] {
                 let mut record = with_cipher(&right, found);
                 record.tag.bytes[0] ^= 1;
-                assert_eq!(verdict(&record), Verdict::Differs("cipher"));
+                assert_eq!(verdict(Form::One, &record), Verdict::Differs("cipher"));
                 record.rounds += 1;
-                assert_eq!(verdict(&record), Verdict::Differs("rounds"));
+                assert_eq!(verdict(Form::One, &record), Verdict::Differs("rounds"));
                 record.tag = right.tag.clone();
-                assert_eq!(verdict(&record), Verdict::Differs("rounds"));
+                assert_eq!(verdict(Form::One, &record), Verdict::Differs("rounds"));
                 ran += 1;
             }
         }
@@ -280,7 +280,7 @@ fn tags_of_another_length() {
                 let mut other = record.clone();
                 other.tag.len = length;
                 other.tag.bytes[length.min(16)..].fill(0);
-                assert_eq!(verdict(&other), unread(7, 0));
+                assert_eq!(verdict(Form::One, &other), unread(7, 0));
                 ran += 1;
             }
         }
@@ -325,11 +325,11 @@ fn records_of_no_right_form() {
     for right in samples(20) {
         let mut record = right.clone();
         record.rounds = 10_000_000;
-        assert_eq!(verdict(&record), unread(8, 0));
+        assert_eq!(verdict(Form::One, &record), unread(8, 0));
         record.text.len = 257;
-        assert_eq!(verdict(&record), unread(5, 0));
+        assert_eq!(verdict(Form::One, &record), unread(5, 0));
         record.set = 3;
-        assert_eq!(verdict(&record), unread(1, 0));
+        assert_eq!(verdict(Form::One, &record), unread(1, 0));
         ran += 1;
     }
     assert_eq!(ran, 20);

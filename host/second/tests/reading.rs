@@ -1,9 +1,14 @@
-//! Reading records: right ones, every cut, every line broken in many ways.
+//! Reading records of form 1: right ones, every cut, every line broken in many ways.
 
 use second::make::{lines_of, right_record};
 use second::random::Random;
-use second::record::{read, Broken, Record, LABELS, LONGEST};
+use second::record::{read, Broken, Form, Record, LONGEST_1};
 use second::vectors;
+
+/// The labels of the eight lines of form 1, in their order.
+const LABELS: [&[u8]; 8] = [
+    b"set=", b"key=", b"nonce=", b"ad=", b"text=", b"cipher=", b"tag=", b"rounds=",
+];
 
 /// Gives records of both sets: empty, middling and longest.
 fn samples() -> Vec<Record> {
@@ -22,7 +27,7 @@ fn samples() -> Vec<Record> {
 
 /// Gives the lines of a record without their line feeds.
 fn split(record: &Record) -> Vec<Vec<u8>> {
-    let whole = lines_of(record).expect("a right record");
+    let whole = lines_of(Form::One, record).expect("a right record");
     let mut lines: Vec<Vec<u8>> = whole
         .split(|byte| *byte == b'\n')
         .map(<[u8]>::to_vec)
@@ -49,7 +54,7 @@ fn with_value(lines: &[Vec<u8>], number: usize, value: &[u8]) -> Vec<u8> {
 
 /// Gives what reading says, of a broken record only the line.
 fn read_by_line(bytes: &[u8]) -> Result<(Record, usize), u64> {
-    read(bytes).map_err(|broken| broken.line)
+    read(Form::One, bytes).map_err(|broken| broken.line)
 }
 
 /// Says that each right record comes back equal and takes just its own bytes.
@@ -63,19 +68,19 @@ fn right_records_come_back() {
     let mut ran = 0;
     let mut longest = 0;
     for record in &records {
-        let mut bytes = lines_of(record).expect("a right record");
+        let mut bytes = lines_of(Form::One, record).expect("a right record");
         let length = bytes.len();
         longest = longest.max(length);
-        assert_eq!(read(&bytes), Ok((record.clone(), length)));
+        assert_eq!(read(Form::One, &bytes), Ok((record.clone(), length)));
         for rest in [&b"x"[..], b"\n", b"set=1\n", b"\0\xff"] {
             bytes.truncate(length);
             bytes.extend(rest);
-            assert_eq!(read(&bytes), Ok((record.clone(), length)));
+            assert_eq!(read(Form::One, &bytes), Ok((record.clone(), length)));
         }
         ran += 1;
     }
     assert_eq!(ran, 410);
-    assert!(longest > 1_600 && longest <= LONGEST);
+    assert!(longest > 1_600 && longest <= LONGEST_1);
 }
 
 /// Says that every cut of a record is broken where the bytes end.
@@ -83,13 +88,17 @@ fn right_records_come_back() {
 fn every_cut_is_broken() {
     let mut ran = 0;
     for record in samples() {
-        let bytes = lines_of(&record).expect("a right record");
+        let bytes = lines_of(Form::One, &record).expect("a right record");
         for end in 0..bytes.len() {
             let part = &bytes[..end];
             let ends: Vec<&[u8]> = part.split(|byte| *byte == b'\n').collect();
             let line = ends.len() as u64;
             let column = ends[ends.len() - 1].len() as u64 + 1;
-            assert_eq!(read(part), Err(Broken { line, column }), "cut at {end}");
+            assert_eq!(
+                read(Form::One, part),
+                Err(Broken { line, column }),
+                "cut at {end}"
+            );
             ran += 1;
         }
     }
@@ -392,12 +401,12 @@ fn after_change(bytes: &[u8], place: usize, new: u8) -> Result<(), Broken> {
 fn every_change_of_one_byte() {
     let mut ran = 0;
     for record in samples().iter().filter(|record| record.text.len < 256) {
-        let right = lines_of(record).expect("a right record");
+        let right = lines_of(Form::One, record).expect("a right record");
         for place in 0..right.len() {
             for new in 0..=255 {
                 let mut bytes = right.clone();
                 bytes[place] = new;
-                let found = read(&bytes);
+                let found = read(Form::One, &bytes);
                 let plain = found.as_ref().map(|_| ()).map_err(|broken| *broken);
                 assert_eq!(
                     plain,
@@ -405,7 +414,7 @@ fn every_change_of_one_byte() {
                     "place {place} new {new}"
                 );
                 if let Ok((record, taken)) = found {
-                    assert_eq!(lines_of(&record), Ok(bytes[..taken].to_vec()));
+                    assert_eq!(lines_of(Form::One, &record), Ok(bytes[..taken].to_vec()));
                 }
                 ran += 1;
             }
@@ -435,9 +444,9 @@ fn any_bytes_at_all() {
             }
         }
         let bytes = joined(&lines);
-        match read(&bytes) {
+        match read(Form::One, &bytes) {
             Ok((record, taken)) => {
-                assert_eq!(lines_of(&record), Ok(bytes[..taken].to_vec()));
+                assert_eq!(lines_of(Form::One, &record), Ok(bytes[..taken].to_vec()));
                 read_well += 1;
             }
             Err(Broken { line, column }) => {

@@ -7,6 +7,7 @@ use Prim.Native.Nat.{ℕ, _+_, _≤_, _<_}
 use native.Mathlib.Omega.{arith}
 use lib.ListN.{length, length-append}
 use borrow.Author.Needs.{needs}
+use Rattle.record.specs.declared.form.Form.the-variants.{Two}
 use Rattle.record.specs.Text.{mostBytes}
 use Rattle.bench.specs.declared.progress.Progress.{Progress}
 use Rattle.turns.specs.Tallies.{largest}
@@ -26,7 +27,7 @@ record Going (buffer₀ text₀ buffer text : List ℕ) (p : Progress) (turns : 
   same-text : length text ≡ length text₀
 
 -- the beginning is within the bounds
-fresh-sound : (buffer text : List ℕ) → mostBytes < length buffer → 256 ≤ length text → Sound fresh buffer text
+fresh-sound : (buffer text : List ℕ) → mostBytes Two < length buffer → 256 ≤ length text → Sound fresh buffer text
 fresh-sound buffer text wide long =
     record {
       begins = omega arith;

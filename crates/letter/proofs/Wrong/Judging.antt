@@ -16,7 +16,7 @@ use Rattle.lines.specs.Right.{named}
 use Rattle.lines.specs.Steps.{nameStep, feedStep, valueStep, stepOf, readOf}
 use Rattle.record.specs.Form.{fieldOf, withNumber, withField, isField, valueKind, keeps, broken, blank}
 use Rattle.record.specs.Text.{names, name, kindOf}
-use Rattle.record.specs.Calls.{withValue, given, refusedAt, readCall}
+use Rattle.record.specs.Calls.{withValue, given, refusedAt, readCall, formOf, insideMark, readAny}
 use Rattle.report.specs.declared.Verdict.the-variants.{Rounds, Cipher, Tag, Unread}
 use Rattle.report.specs.Reports.{recordLine, verdictLine, fieldLine, reportText, ReportLeaves, reportCall}
 use Rattle.judge.specs.declared.difference.Difference.the-variants.{Same, At}
@@ -30,7 +30,7 @@ use Rattle.letter.specs.Wrong.Judging.{Wrong}
 use Rattle.letter.proofs.Calls.{off}
 
 pub wrong : Wrong
-unfolding finalise adBlocks textBlocks messageRounds ourSealing verdictOn verdicts.ourRounds verdictRead stepBy stepCall readCall readOf stepOf nameStep feedStep valueStep kindOf named valueKind withValue given refusedAt name names keeps broken isField fieldOf withNumber withField blank digitIn sealed encrypted pad count beforeText isSet rowOf table roundsOf constantsOf constants separate initialise firstBlock p permute rounds round diffuse Σ₀ Σ₁ Σ₂ Σ₃ Σ₄ _⋙_ substitute substituted column fromBits bit sBox addConstant stringOf stateOf bytesOf valueOf places numeral lineOf recordLine verdictLine fieldLine reportText reportCall
+unfolding finalise adBlocks textBlocks messageRounds ourSealing verdictOn verdicts.ourRounds verdictRead stepBy stepCall readAny formOf insideMark readCall readOf stepOf nameStep feedStep valueStep kindOf named valueKind withValue given refusedAt name names keeps broken isField fieldOf withNumber withField blank digitIn sealed encrypted pad count beforeText isSet rowOf table roundsOf constantsOf constants separate initialise firstBlock p permute rounds round diffuse Σ₀ Σ₁ Σ₂ Σ₃ Σ₄ _⋙_ substitute substituted column fromBits bit sBox addConstant stringOf stateOf bytesOf valueOf places numeral lineOf recordLine verdictLine fieldLine reportText reportCall
 wrong = record {
   difference-cut = λ κ e p. let told : Same ≡ At 1 = p in off (cc told);
   difference-longer = λ κ e p. let told : Same ≡ At 1 = p in off (cc told);
@@ -50,12 +50,15 @@ wrong = record {
   judge-cut-off = λ κ e p. let verdict : Tag ≡ Cipher = p in off (cc verdict);
   judge-rounds = λ κ e p. let verdict : Tag ≡ Rounds = p in off (cc verdict);
   judge-tag = λ r other κ e p. other (judges .equal r .0 (sym p) .tag);
+  judge-chip = λ κ e p. let verdict : Unread 3 0 ≡ Rounds = p in off (cc verdict);
   judge-column = λ line column κ e p. let verdict : Unread line (suc column) ≡ Unread 1 0 = p in let none : suc column ≡ 0 = cc in absurd (omega arith);
   judge-line = λ κ e p. let verdict : Unread 0 0 ≡ Unread 1 0 = p in off (cc verdict);
   step-end = λ κ e p. let step : Wait ≡ End = ap (λ (x : StepLeaves). x .step) p in off (cc step);
   step-column = λ written κ e p. let step : Stopped 1 2 written ≡ Stopped 1 1 32 = ap (λ (x : StepLeaves). x .step) p in let column : _≡_ {A = ℕ} 2 1 = cc in absurd (omega arith);
   step-at-once = λ κ e p. let step : Wait ≡ Stopped 1 1 32 = ap (λ (x : StepLeaves). x .step) p in off (cc step);
   step-early = λ line column written κ e p. let step : Stopped line column written ≡ Wait = ap (λ (x : StepLeaves). x .step) p in off (cc step);
+  step-inside = λ line column written κ e p. let step : Stopped line column written ≡ Wait = ap (λ (x : StepLeaves). x .step) p in off (cc step);
+  step-inside-end = λ written κ e p. let step : Stopped 1 5 written ≡ Stopped 1 1 32 = ap (λ (x : StepLeaves). x .step) p in let column : _≡_ {A = ℕ} 5 1 = cc in absurd (omega arith);
   report-room = λ κ e p. off (cc (ap (λ (x : ReportLeaves). x .outcome .answer) p));
   report-column = λ κ p. let digit : _≡_ {A = ℕ} 0x37 0x34 = ap (λ (x : ReportLeaves). getD (x .out) 30 0) p in absurd (omega arith);
 }

@@ -4,7 +4,7 @@ use mathlib.Core.List.{List}
 use Prim.Native.Nat.{ℕ, suc, _<_}
 use native.Mathlib.Omega.{arith}
 use lib.ListN.{getD}
-use Rattle.answers.specs.declared.Answer.the-variants.{NoRoom, BrokenRecord}
+use Rattle.answers.specs.declared.Answer.the-variants.{Done, NoRoom, BrokenRecord, ChipLost}
 use Rattle.ascon.specs.Sets.{table, rowOf}
 use Rattle.digits.specs.declared.hex.Case.the-variants.{Lower}
 use Rattle.digits.specs.declared.hex.Digit.the-variants.{Value, NoDigit}
@@ -16,10 +16,12 @@ use Rattle.lines.specs.declared.kinds.Name.{Name}
 use Rattle.lines.specs.declared.step.State.{State}
 use Rattle.lines.specs.Right.{named}
 use Rattle.lines.specs.Steps.{nameStep, feedStep, valueStep, stepOf, readOf}
+use Rattle.record.specs.declared.form.Form.{Form}
+use Rattle.record.specs.declared.form.Record.{Record}
 use Rattle.record.specs.declared.reading.Reading.{Reading}
 use Rattle.record.specs.Form.{fieldOf, isField, blank, withNumber, withField, valueKind, keeps, broken}
 use Rattle.record.specs.Text.{names, name, kindOf}
-use Rattle.record.specs.Calls.{withValue, given, refusedAt, readCall, WriteLeaves, writeCall}
+use Rattle.record.specs.Calls.{withValue, given, refusedAt, readAs, readCall, formOf, insideMark, readAny, WriteLeaves, refusedWith, writeCall}
 use Rattle.record.specs.Laws.{WrongAt}
 use Rattle.record.proofs.Laws.{reads-and-writes}
 use Rattle.letter.specs.Wrong.Records.{Wrong}
@@ -34,13 +36,13 @@ digit : (v : ℕ) → v < 16 → NoDigit ≡ digitOf (hexDigit v) → ⊥
 digit v h p = let taken : NoDigit ≡ Value v = p ∙ spelled-digit Lower v h in off cc
 
 -- a text that is refused has a line and a column
-place : (text : List ℕ) (r : Reading) → r .answer ≡ BrokenRecord → r ≡ readCall text → WrongAt text (r .line) (r .column)
-place text r refused p =
-    reads-and-writes .refused text (r .line) (r .column) .0
+place : (form : Form) (text : List ℕ) (r : Reading) → r .answer ≡ BrokenRecord → r ≡ readCall form text → WrongAt form text (r .line) (r .column)
+place form text r refused p =
+    reads-and-writes form .refused text (r .line) (r .column) .0
     (sym (ap (λ (q : Reading). q .answer) p) ∙ refused, sym (ap (λ (q : Reading). q .line) p), sym (ap (λ (q : Reading). q .column) p))
 
 pub wrong : Wrong
-unfolding writeCall blank withField readCall readOf stepOf nameStep feedStep valueStep kindOf named valueKind withValue given refusedAt name names withNumber keeps broken isField fieldOf rowOf table digitIn hexDigitIn places numeral lineOf put
+unfolding writeCall refusedWith readAs readAny formOf insideMark blank withField readCall readOf stepOf nameStep feedStep valueStep kindOf named valueKind withValue given refusedAt name names withNumber keeps broken isField fieldOf rowOf table digitIn hexDigitIn places numeral lineOf put
 wrong = record {
   read-digit-other = λ c v none κ e p. other c v none p;
   read-digit-none = λ v h κ e p. digit v h p;
@@ -85,8 +87,8 @@ wrong = record {
   either-later = λ κ e p. off (cc p);
   either-line = λ κ e p. off (cc p);
   read-nothing = λ column early κ e p. let line : _≡_ {A = ℕ} 8 1 = ap (λ (x : Reading). x .line) p in absurd (omega arith);
-  read-line-nought = λ text r refused none κ e p. absurd (omega (arith, place text r refused p .first));
-  read-column-nought = λ text r refused none κ e p. absurd (omega (arith, place text r refused p .wrong .first));
+  read-line-nought = λ form text r refused none κ e p. absurd (omega (arith, place form text r refused p .first));
+  read-column-nought = λ form text r refused none κ e p. absurd (omega (arith, place form text r refused p .wrong .first));
   read-taken = λ line column early κ e p. let taken : _≡_ {A = ℕ} 1 0 = ap (λ (x : Reading). x .taken) p in absurd (omega arith);
   read-odd = λ column early κ e p. let line : _≡_ {A = ℕ} 3 2 = ap (λ (x : Reading). x .line) p in absurd (omega arith);
   read-feed = λ column early κ e p. let line : _≡_ {A = ℕ} 2 1 = ap (λ (x : Reading). x .line) p in absurd (omega arith);
@@ -107,4 +109,16 @@ wrong = record {
   first-broken-key = λ κ e p. let line : _≡_ {A = ℕ} 0 2 = p in absurd (omega arith);
   first-broken-rounds = λ κ e p. let line : _≡_ {A = ℕ} 0 8 = p in absurd (omega arith);
   first-broken-past = λ κ e p. off (cc p);
+  two-chip-past = λ column early κ e p. let line : _≡_ {A = ℕ} 4 3 = ap (λ (x : Reading). x .line) p in absurd (omega arith);
+  two-chip-zeros = λ column early κ e p. let line : _≡_ {A = ℕ} 4 3 = ap (λ (x : Reading). x .line) p in absurd (omega arith);
+  two-chip-line = λ column early κ e p. let line : _≡_ {A = ℕ} 2 3 = ap (λ (x : Reading). x .line) p in absurd (omega arith);
+  two-numbered = λ column early κ e p. let line : _≡_ {A = ℕ} 8 10 = ap (λ (x : Reading). x .line) p in absurd (omega arith);
+  two-chip-dropped = λ κ e p. let chip : _≡_ {A = ℕ} 0 7 = ap (λ (x : Reading). x .content .chip) p in absurd (omega arith);
+  any-form-one = λ early κ e p. let column : _≡_ {A = ℕ} 1 6 = ap (λ (x : Reading). x .column) p in absurd (omega arith);
+  any-inside = λ κ e p. off (cc (ap (λ (x : Reading). x .early) p));
+  any-two = λ taken r few κ e p. let all : taken ≡ 161 = ap (λ (x : Reading). x .taken) p in absurd (omega arith);
+  first-broken-chip = λ κ e p. let line : _≡_ {A = ℕ} 0 3 = p in absurd (omega arith);
+  first-broken-chip-line = λ κ e p. let line : _≡_ {A = ℕ} 2 3 = p in absurd (omega arith);
+  write-chip = λ line column written κ e p. let answer : Done ≡ ChipLost = ap (λ (x : WriteLeaves). x .outcome .answer) p in off (cc answer);
+  write-chip-room = λ line column κ e p. let answer : NoRoom ≡ ChipLost = ap (λ (x : WriteLeaves). x .outcome .answer) p in off (cc answer);
 }

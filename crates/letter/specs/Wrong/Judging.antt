@@ -7,7 +7,7 @@ use Rattle.answers.specs.declared.Answer.the-variants.{Done}
 use Rattle.permutation.specs.Strings.{zeros}
 use Rattle.digits.specs.Ascii.{ascii}
 use Rattle.record.specs.declared.form.Record.{Record}
-use Rattle.record.specs.Form.{fieldOf, held, withField, blank}
+use Rattle.record.specs.Form.{fieldOf, held, withNumber, withField, blank}
 use Rattle.report.specs.declared.Verdict.the-variants.{Equal, Tag, Unread}
 use Rattle.judge.specs.declared.difference.Comparison.{Comparison}
 use Rattle.judge.specs.declared.difference.Difference.the-variants.{Same, At}
@@ -21,7 +21,7 @@ use Rattle.letter.specs.Wrong.Records.{caseOf}
 
 -- the rules' whole case with the right rounds and a text of one byte; its cipher is empty
 abbrev pub cutOff : Record
-cutOff = withField 5 (fieldOf (0 ∷ [])) (caseOf 24)
+cutOff = withField 7 (fieldOf (0 ∷ [])) (caseOf 24)
 
 pub record Wrong : Type 0 where
   -- a text that is cut off is not the same
@@ -60,6 +60,8 @@ pub record Wrong : Type 0 where
   pub judge-rounds : Never judge.judge.Reads.Learnt (caseOf 25, tt) Tag
   -- a record whose tag is not our own sealing's is not equal
   pub judge-tag : (r : Record) → (held (r .tag) ≡ ourSealing r .tag → ⊥) → Never judge.judge.Reads.Learnt (r, tt) Equal
+  -- a chip is not judged: one over 65,535 does not make a record unread
+  pub judge-chip : Never judge.judge.Reads.Learnt (withNumber 3 65_536 (caseOf 25), tt) (Unread 3 0)
   -- a record that is handed over has no column
   pub judge-column : (line column : ℕ) → Never judge.judge.Reads.Learnt (blank, tt) (Unread line (suc column))
   -- and its line is told
@@ -72,6 +74,10 @@ pub record Wrong : Type 0 where
   pub step-at-once : Never judge.judge_window.Reads.Learnt (lent (ascii "x"), (false, (1, (lent (zeros 32), tt)))) Wait
   -- what can still become a record is not called broken
   pub step-early : (line column written : ℕ) → Never judge.judge_window.Reads.Learnt (lent (ascii "set=1\nkey=0"), (false, (1, (lent (zeros 32), tt)))) (Stopped line column written)
+  -- nor is what can still become a record of form 2
+  pub step-inside : (line column written : ℕ) → Never judge.judge_window.Reads.Learnt (lent (ascii "form"), (false, (1, (lent (zeros 32), tt)))) (Stopped line column written)
+  -- where the input has ended, it is of form 1, and at fault in its first column
+  pub step-inside-end : (written : ℕ) → Never judge.judge_window.Reads.Learnt (lent (ascii "form"), (true, (1, (lent (zeros 32), tt)))) (Stopped 1 5 written)
   -- a report without room is not done
   pub report-room : Never report.report.Reads.Learnt (1, (Equal, (lent [], tt))) (record { answer = Done; written = 0 })
   -- the field of an unread record is its line, and not its column

@@ -4,7 +4,7 @@ use mathlib.Core.Bool.{Bool, true, false}
 use mathlib.Core.List.{List, [], _∷_, _++_}
 use Prim.Native.Nat.{ℕ, suc, _<_}
 use lib.ListN.{replicate}
-use Rattle.answers.specs.declared.Answer.the-variants.{NoRoom, BrokenRecord}
+use Rattle.answers.specs.declared.Answer.the-variants.{Done, NoRoom, BrokenRecord}
 use Rattle.permutation.specs.Strings.{zeros}
 use Rattle.digits.specs.declared.hex.Case.the-variants.{Lower, Upper}
 use Rattle.digits.specs.declared.hex.Digit.the-variants.{Value, NoDigit}
@@ -17,11 +17,13 @@ use Rattle.lines.specs.declared.step.Step.the-variants.{On}
 use Rattle.lines.specs.declared.walk.Found.the-variants.{Line, Stopped}
 use Rattle.lines.specs.Right.{named}
 use Rattle.lines.specs.Steps.{standing, begin}
+use Rattle.record.specs.declared.form.Form.{Form}
+use Rattle.record.specs.declared.form.Form.the-variants.{One, Two}
 use Rattle.record.specs.declared.form.Record.{Record}
 use Rattle.record.specs.declared.reading.Reading.{Reading}
 use Rattle.record.specs.Form.{fieldOf, withNumber, withField, blank}
-use Rattle.record.specs.Calls.{refusedAt}
-use Rattle.record.specs.Known.{sevenLines, otherKey}
+use Rattle.record.specs.Calls.{refusedAt, readAs}
+use Rattle.record.specs.Known.{sevenLines, nineLines, otherKey}
 use Rattle.digits.proofs as digits
 use Rattle.lines.proofs as lines
 use Rattle.record.proofs as record-crate
@@ -32,7 +34,7 @@ abbrev pub caseOf : ℕ → Record
 caseOf rounds =
     let sixteen = fieldOf (zeros 16) in
     let none = fieldOf [] in
-    record { set = 1; key = sixteen; nonce = sixteen; ad = none; text = none; cipher = none; tag = sixteen; rounds = rounds }
+    record { set = 1; chip = 0; key = sixteen; nonce = sixteen; ad = none; text = none; cipher = none; tag = sixteen; rounds = rounds }
 
 -- a line of decimals called `n=`, up to a bound, and a line of bytes called `b=`, in hex
 abbrev pub numberLine : ℕ → Kind
@@ -118,73 +120,102 @@ pub record Wrong : Type 0 where
   pub either-later : Never lines.either.Reads.Learnt (Stopped 3, (Stopped 5, tt)) (Stopped 3)
   pub either-line : Never lines.either.Reads.Learnt (Stopped 3, (Line 2 7, tt)) (Stopped 3)
   -- the empty text is broken at its first line, and not at its last
-  pub read-nothing : (column : ℕ) (early : Bool) → Never record-crate.read.Reads.Learnt (lent [], tt) (refusedAt 8 column early)
+  pub read-nothing : (column : ℕ) (early : Bool) → Never record-crate.read.Reads.Learnt (One, (lent [], tt)) (refusedAt 8 column early)
   -- whatever the text, it is not refused at line 0, nor at column 0
-  pub read-line-nought : (text : List ℕ) (r : Reading) → r .answer ≡ BrokenRecord → r .line ≡ 0 → Never record-crate.read.Reads.Learnt (lent text, tt) r
-  pub read-column-nought : (text : List ℕ) (r : Reading) → r .answer ≡ BrokenRecord → r .column ≡ 0 → Never record-crate.read.Reads.Learnt (lent text, tt) r
+  pub read-line-nought : (form : Form) (text : List ℕ) (r : Reading) → r .answer ≡ BrokenRecord → r .line ≡ 0 → Never record-crate.read.Reads.Learnt (form, (lent text, tt)) r
+  pub read-column-nought : (form : Form) (text : List ℕ) (r : Reading) → r .answer ≡ BrokenRecord → r .column ≡ 0 → Never record-crate.read.Reads.Learnt (form, (lent text, tt)) r
   -- a text that is refused takes nothing
   pub read-taken : (line column : ℕ) (early : Bool)
-      → Never record-crate.read.Reads.Learnt (lent [], tt) (record { answer = BrokenRecord; line = line; column = column; early = early; taken = 1; content = blank })
+      → Never record-crate.read.Reads.Learnt (One, (lent [], tt)) (record { answer = BrokenRecord; line = line; column = column; early = early; taken = 1; content = blank })
   -- a lone digit behind a key breaks the key's line, and not the next one
-  pub read-odd : (column : ℕ) (early : Bool) → Never record-crate.read.Reads.Learnt (lent (ascii "set=1\nkey=" ++ (replicate 33 0x30 ++ (0x0a ∷ []))), tt) (refusedAt 3 column early)
+  pub read-odd : (column : ℕ) (early : Bool) → Never record-crate.read.Reads.Learnt (One, (lent (ascii "set=1\nkey=" ++ (replicate 33 0x30 ++ (0x0a ∷ []))), tt)) (refusedAt 3 column early)
   -- a line that has no line feed is broken itself, and not the next one
-  pub read-feed : (column : ℕ) (early : Bool) → Never record-crate.read.Reads.Learnt (lent (ascii "set=1"), tt) (refusedAt 2 column early)
+  pub read-feed : (column : ℕ) (early : Bool) → Never record-crate.read.Reads.Learnt (One, (lent (ascii "set=1"), tt)) (refusedAt 2 column early)
   -- and can still get it
-  pub read-decided : Never record-crate.read.Reads.Learnt (lent (ascii "set=1"), tt) (refusedAt 1 6 false)
+  pub read-decided : Never record-crate.read.Reads.Learnt (One, (lent (ascii "set=1"), tt)) (refusedAt 1 6 false)
   -- a wrong character can't be mended by what comes
-  pub read-mended : Never record-crate.read.Reads.Learnt (lent (ascii "set=3"), tt) (refusedAt 1 5 true)
+  pub read-mended : Never record-crate.read.Reads.Learnt (One, (lent (ascii "set=3"), tt)) (refusedAt 1 5 true)
   -- the third line is not called `nonse=`: its fourth character is at fault, and not the line's end
   pub read-name : (column : ℕ) (early : Bool)
-      → Never record-crate.read.Reads.Learnt (lent (ascii "set=1\nkey=00000000000000000000000000000000\nnonse=00000000000000000000000000000000\n"), tt) (refusedAt 4 column early)
+      → Never record-crate.read.Reads.Learnt (One, (lent (ascii "set=1\nkey=00000000000000000000000000000000\nnonse=00000000000000000000000000000000\n"), tt)) (refusedAt 4 column early)
   pub read-end : (early : Bool)
-      → Never record-crate.read.Reads.Learnt (lent (ascii "set=1\nkey=00000000000000000000000000000000\nnonse=00000000000000000000000000000000\n"), tt) (refusedAt 3 39 early)
+      → Never record-crate.read.Reads.Learnt (One, (lent (ascii "set=1\nkey=00000000000000000000000000000000\nnonse=00000000000000000000000000000000\n"), tt)) (refusedAt 3 39 early)
   -- a key of the other set's length is at fault at its first digit too many: not at its end, and not as counted in the record
-  pub read-key-end : (early : Bool) → Never record-crate.read.Reads.Learnt (lent otherKey, tt) (refusedAt 2 37 early)
-  pub read-key-in-record : (early : Bool) → Never record-crate.read.Reads.Learnt (lent otherKey, tt) (refusedAt 2 35 early)
+  pub read-key-end : (early : Bool) → Never record-crate.read.Reads.Learnt (One, (lent otherKey, tt)) (refusedAt 2 37 early)
+  pub read-key-in-record : (early : Bool) → Never record-crate.read.Reads.Learnt (One, (lent otherKey, tt)) (refusedAt 2 35 early)
   -- of a wrong pair's digits the second is not blamed for the first
-  pub read-first-digit : (early : Bool) → Never record-crate.read.Reads.Learnt (lent (ascii "set=1\nkey=g0"), tt) (refusedAt 2 6 early)
+  pub read-first-digit : (early : Bool) → Never record-crate.read.Reads.Learnt (One, (lent (ascii "set=1\nkey=g0"), tt)) (refusedAt 2 6 early)
   -- a needless zero in the rounds is not at fault itself
-  pub read-zero : (early : Bool) → Never record-crate.read.Reads.Learnt (lent (sevenLines ++ ascii "rounds=024\n"), tt) (refusedAt 8 8 early)
+  pub read-zero : (early : Bool) → Never record-crate.read.Reads.Learnt (One, (lent (sevenLines ++ ascii "rounds=024\n"), tt)) (refusedAt 8 8 early)
   -- a record that is refused in writing has its line named, no column, and no byte written
-  pub write-no-line : (column : ℕ) → Never record-crate.write.Reads.Learnt (blank, (lent [], tt)) (record { answer = BrokenRecord; line = 0; column = column; written = 0 })
-  pub write-column : (line column : ℕ) → Never record-crate.write.Reads.Learnt (blank, (lent [], tt)) (record { answer = BrokenRecord; line = line; column = suc column; written = 0 })
-  pub write-touched : NeverLeaves record-crate.write.Reads.Learnt (blank, (lent (0 ∷ []), tt)) (record { answer = BrokenRecord; line = 1; column = 0; written = 0 })
-      (blank, (lent (1 ∷ []), tt))
+  pub write-no-line : (column : ℕ) → Never record-crate.write.Reads.Learnt (One, (blank, (lent [], tt))) (record { answer = BrokenRecord; line = 0; column = column; written = 0 })
+  pub write-column : (line column : ℕ) → Never record-crate.write.Reads.Learnt (One, (blank, (lent [], tt))) (record { answer = BrokenRecord; line = line; column = suc column; written = 0 })
+  pub write-touched : NeverLeaves record-crate.write.Reads.Learnt (One, (blank, (lent (0 ∷ []), tt))) (record { answer = BrokenRecord; line = 1; column = 0; written = 0 })
+      (One, (blank, (lent (1 ∷ []), tt)))
   -- answer 10 comes before answer 6
-  pub write-room : (line column : ℕ) → Never record-crate.write.Reads.Learnt (blank, (lent [], tt)) (record { answer = NoRoom; line = line; column = column; written = 0 })
+  pub write-room : (line column : ℕ) → Never record-crate.write.Reads.Learnt (One, (blank, (lent [], tt))) (record { answer = NoRoom; line = line; column = column; written = 0 })
   -- a text of 257 bytes breaks line 5, and not the cipher's
   pub first-broken-text : Never record-crate.first_broken.Reads.Learnt (
-    record {
-      set = 1;
-      key = fieldOf (zeros 16);
-      nonce = fieldOf (zeros 16);
-      ad = fieldOf [];
-      text = record { bytes = zeros 256; size = 257 };
-      cipher = fieldOf [];
-      tag = fieldOf (zeros 16);
-      rounds = 24;
-    },
-    tt,
+    One,
+    (
+      record {
+        set = 1;
+        chip = 0;
+        key = fieldOf (zeros 16);
+        nonce = fieldOf (zeros 16);
+        ad = fieldOf [];
+        text = record { bytes = zeros 256; size = 257 };
+        cipher = fieldOf [];
+        tag = fieldOf (zeros 16);
+        rounds = 24;
+      },
+      tt,
+    ),
   )
       6
   -- a record with such a text is not in form
-  pub first-broken-long : Never record-crate.first_broken.Reads.Learnt (withField 5 (record { bytes = zeros 256; size = 257 }) (caseOf 24), tt) 0
+  pub first-broken-long : Never record-crate.first_broken.Reads.Learnt (One, (withField 7 (record { bytes = zeros 256; size = 257 }) (caseOf 24), tt)) 0
   -- key, nonce and tag of 16 bytes are not in form in set 2
-  pub first-broken-key : Never record-crate.first_broken.Reads.Learnt (withNumber 1 2 (caseOf 24), tt) 0
+  pub first-broken-key : Never record-crate.first_broken.Reads.Learnt (One, (withNumber 2 2 (caseOf 24), tt)) 0
   -- rounds of eight digits are not in form
-  pub first-broken-rounds : Never record-crate.first_broken.Reads.Learnt (caseOf 10_000_000, tt) 0
+  pub first-broken-rounds : Never record-crate.first_broken.Reads.Learnt (One, (caseOf 10_000_000, tt)) 0
   -- a record with a byte past a field's length is not in form
   pub first-broken-past : Never record-crate.first_broken.Reads.Learnt (
-    record {
-      set = 1;
-      key = fieldOf (zeros 16);
-      nonce = fieldOf (zeros 16);
-      ad = record { bytes = 1 ∷ zeros 255; size = 0 };
-      text = fieldOf [];
-      cipher = fieldOf [];
-      tag = fieldOf (zeros 16);
-      rounds = 24;
-    },
-    tt,
+    One,
+    (
+      record {
+        set = 1;
+        chip = 0;
+        key = fieldOf (zeros 16);
+        nonce = fieldOf (zeros 16);
+        ad = record { bytes = 1 ∷ zeros 255; size = 0 };
+        text = fieldOf [];
+        cipher = fieldOf [];
+        tag = fieldOf (zeros 16);
+        rounds = 24;
+      },
+      tt,
+    ),
   )
       0
+  -- in form 2 a chip of 65,536 and one with a needless zero are not taken, and what is at fault is not line 2, as form 1 would count
+  pub two-chip-past : (column : ℕ) (early : Bool) → Never record-crate.read.Reads.Learnt (Two, (lent (ascii "form=2\nset=1\nchip=65536\n"), tt)) (refusedAt 4 column early)
+  pub two-chip-zeros : (column : ℕ) (early : Bool) → Never record-crate.read.Reads.Learnt (Two, (lent (ascii "form=2\nset=1\nchip=00\n"), tt)) (refusedAt 4 column early)
+  pub two-chip-line : (column : ℕ) (early : Bool) → Never record-crate.read.Reads.Learnt (Two, (lent (ascii "form=2\nset=1\nchip=65536\n"), tt)) (refusedAt 2 column early)
+  -- its last line is not line 8
+  pub two-numbered : (column : ℕ) (early : Bool) → Never record-crate.read.Reads.Learnt (Two, (lent nineLines, tt)) (refusedAt 8 column early)
+  -- a record of form 2 is not read with its chip dropped
+  pub two-chip-dropped : Never record-crate.read.Reads.Learnt (Two, (lent (nineLines ++ ascii "rounds=25\n"), tt)) (readAs 161 (caseOf 25))
+  -- `form=1` is not read as form 1, where the `f` would be at fault, and a lone beginning of the word can still become form 2
+  pub any-form-one : (early : Bool) → Never record-crate.read_any.Reads.Learnt (lent (ascii "form=1\n"), tt) (refusedAt 1 1 early)
+  pub any-inside : Never record-crate.read_any.Reads.Learnt (lent (ascii "form"), tt) (refusedAt 1 1 false)
+  -- a record of form 2 is not taken for less than all of it: it is one record, and not two
+  pub any-two : (taken : ℕ) (r : Record) → taken < 161 → Never record-crate.read_any.Reads.Learnt (lent (nineLines ++ ascii "rounds=25\n"), tt) (readAs taken r)
+  -- a chip over 65,535 is line 3 in form 2, and not in form
+  pub first-broken-chip : Never record-crate.first_broken.Reads.Learnt (Two, (withNumber 3 65_536 (caseOf 24), tt)) 0
+  pub first-broken-chip-line : Never record-crate.first_broken.Reads.Learnt (Two, (withNumber 3 65_536 (caseOf 24), tt)) 2
+  -- form 1 does not drop a chip, and says so before it looks at the room
+  pub write-chip : (line column written : ℕ)
+      → Never record-crate.write.Reads.Learnt (One, (withNumber 3 7 (caseOf 25), (lent (zeros 147), tt))) (record { answer = Done; line = line; column = column; written = written })
+  pub write-chip-room : (line column : ℕ)
+      → Never record-crate.write.Reads.Learnt (One, (withNumber 3 7 (caseOf 25), (lent [], tt))) (record { answer = NoRoom; line = line; column = column; written = 0 })

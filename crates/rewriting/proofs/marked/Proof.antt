@@ -7,10 +7,10 @@ use Rattle.rewriting.proofs.marked.Statement.{statement}
 use Rattle.rewriting.proofs.marked.Tie as tie
 
 abbrev Inv-loop : tie.InvT-loop
-Inv-loop places₀ i₀ places i = 1700 ≡ length places
+Inv-loop places₀ i₀ places i = 1710 ≡ length places
 
 abbrev μ-loop : tie.MeasureT-loop
-μ-loop places₀ i₀ places i = 1700 - i
+μ-loop places₀ i₀ places i = 1710 - i
 
 loop-holds : tie.Need-loop-holds Inv-loop μ-loop
 loop-holds c = search needs

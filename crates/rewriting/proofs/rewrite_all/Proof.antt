@@ -1,17 +1,17 @@
--- `rewriting::rewrite_all` is safe and ends: a record that is read takes a byte or more, and at most 1,688. The measure is the number of bytes left.
+-- `rewriting::rewrite_all` is safe and ends: a record that is read takes a byte or more, and at most 1,706. The measure is the number of bytes left.
 use Prim.Native.Nat.{_-_, _≤_}
 use native.Mathlib.Omega.{arith}
 use lib.ListN.{length}
 use borrow.Author.Needs.{needs}
-use Rattle.record.proofs.Laws.{reads-and-writes}
+use Rattle.record.proofs.Any.{reads-any}
 use Rattle.rewriting.proofs.rewrite_all.Statement.{statement}
 use Rattle.rewriting.proofs.rewrite_all.Tie as tie
 
 abbrev Inv-loop : tie.InvT-loop
-Inv-loop text at₀ number₀ t7 t8 t9 at number = Unit {0}
+Inv-loop text at₀ number₀ t7 t8 t9 t10 t11 at number = Unit {0}
 
 abbrev μ-loop : tie.MeasureT-loop
-μ-loop text at₀ number₀ t7 t8 t9 at number = length text - at
+μ-loop text at₀ number₀ t7 t8 t9 t10 t11 at number = length text - at
 
 loop-holds : tie.Need-loop-holds Inv-loop μ-loop
 loop-holds c = search needs
@@ -22,17 +22,17 @@ slice-aggregate-say-line c = search needs
 say-line-requires : tie.Need-say-line-requires Inv-loop μ-loop
 say-line-requires c κs = search needs
 
-sub-read : tie.Need-sub-read Inv-loop μ-loop
-sub-read c = search needs
+sub-read-any : tie.Need-sub-read-any Inv-loop μ-loop
+sub-read-any c = search needs
 
-part-read-start : tie.Need-part-read-start Inv-loop μ-loop
-part-read-start c = search needs
+part-read-any-start : tie.Need-part-read-any-start Inv-loop μ-loop
+part-read-any-start c = search needs
 
-part-read-end : tie.Need-part-read-end Inv-loop μ-loop
-part-read-end c = search needs
+part-read-any-end : tie.Need-part-read-any-end Inv-loop μ-loop
+part-read-any-end c = search needs
 
-read-requires : tie.Need-read-requires Inv-loop μ-loop
-read-requires c κs = search needs
+read-any-requires : tie.Need-read-any-requires Inv-loop μ-loop
+read-any-requires c κs = search needs
 
 slice-aggregate-say-count : tie.Need-slice-aggregate-say-count Inv-loop μ-loop
 slice-aggregate-say-count c = search needs
@@ -49,15 +49,30 @@ say-line-requires-2 c κs = search needs
 returns : tie.Need-returns Inv-loop μ-loop
 returns c = search needs
 
--- no record takes more than 1,688 bytes
-most : (c : tie.After-read Inv-loop μ-loop) → c .read .result .taken ≤ 1_688
-most c = rw (c .read .ensures) (reads-and-writes .longest _)
+slice-aggregate-say-line-3 : tie.Need-slice-aggregate-say-line-3 Inv-loop μ-loop
+slice-aggregate-say-line-3 c = search needs
+
+say-line-requires-3 : tie.Need-say-line-requires-3 Inv-loop μ-loop
+say-line-requires-3 c κs = search needs
 
 rewrite-requires : tie.Need-rewrite-requires Inv-loop μ-loop
-rewrite-requires c κs = (omega arith, omega (arith, most (c .before .before)))
+rewrite-requires c κs = search needs
+
+slice-aggregate-say-line-4 : tie.Need-slice-aggregate-say-line-4 Inv-loop μ-loop
+slice-aggregate-say-line-4 c = search needs
+
+say-line-requires-4 : tie.Need-say-line-requires-4 Inv-loop μ-loop
+say-line-requires-4 c κs = search needs
+
+rewrite-requires-2 : tie.Need-rewrite-requires-2 Inv-loop μ-loop
+rewrite-requires-2 c κs = search needs
+
+-- no record takes more than 1,706 bytes
+most : (c : tie.After-read-any Inv-loop μ-loop) → c .read-any .result .taken ≤ 1_706
+most c = rw (c .read-any .ensures) (reads-any .longest _)
 
 add-at : tie.Need-add-at Inv-loop μ-loop
-add-at c = omega (arith, most (c .before .before .before))
+add-at c = omega (arith, most (c .before .before .before .before .before .before .before .before))
 
 wrapping-add-u64-requires : tie.Need-wrapping-add-u64-requires Inv-loop μ-loop
 wrapping-add-u64-requires c κs = search needs
@@ -80,16 +95,21 @@ rewrite-all-spec =
     loop-holds
     slice-aggregate-say-line
     say-line-requires
-    sub-read
-    part-read-start
-    part-read-end
-    read-requires
+    sub-read-any
+    part-read-any-start
+    part-read-any-end
+    read-any-requires
     slice-aggregate-say-count
     say-count-requires
     slice-aggregate-say-line-2
     say-line-requires-2
     returns
+    slice-aggregate-say-line-3
+    say-line-requires-3
     rewrite-requires
+    slice-aggregate-say-line-4
+    say-line-requires-4
+    rewrite-requires-2
     add-at
     wrapping-add-u64-requires
     loop-less

@@ -1,19 +1,20 @@
--- `rewriting::try_several` is safe and ends: the measure is the number of lines left.
+-- `rewriting::try_several` is safe and ends: the measure is the number of parts left.
+use Prim.Native.Nat.{_-_}
 use borrow.Author.Needs.{needs}
 use Rattle.rewriting.proofs.try_several.Statement.{statement}
 use Rattle.rewriting.proofs.try_several.Tie as tie
 
 abbrev Inv-loop : tie.InvT-loop
-Inv-loop next₀ line₀ t4 next line = Unit {0}
+Inv-loop form next₀ part₀ t5 next part = Unit {0}
 
 abbrev μ-loop : tie.MeasureT-loop
-μ-loop next₀ line₀ t4 next line = line
+μ-loop form next₀ part₀ t5 next part = part
 
 loop-holds : tie.Need-loop-holds Inv-loop μ-loop
 loop-holds c = search needs
 
-change-line-requires : tie.Need-change-line-requires Inv-loop μ-loop
-change-line-requires c κs = search needs
+change-part-requires : tie.Need-change-part-requires Inv-loop μ-loop
+change-part-requires c κs = search needs
 
 slice-aggregate-say-count : tie.Need-slice-aggregate-say-count Inv-loop μ-loop
 slice-aggregate-say-count c = search needs
@@ -24,8 +25,8 @@ say-count-requires c κs = search needs
 attempt-requires : tie.Need-attempt-requires Inv-loop μ-loop
 attempt-requires c κs = search needs
 
-sub-line : tie.Need-sub-line Inv-loop μ-loop
-sub-line c = search needs
+sub-part : tie.Need-sub-part Inv-loop μ-loop
+sub-part c = search needs
 
 loop-less : tie.Need-loop-less Inv-loop μ-loop
 loop-less c = search needs
@@ -43,11 +44,11 @@ try-several-spec =
     Inv-loop
     μ-loop
     loop-holds
-    change-line-requires
+    change-part-requires
     slice-aggregate-say-count
     say-count-requires
     attempt-requires
-    sub-line
+    sub-part
     loop-less
     loop-again
     returns)

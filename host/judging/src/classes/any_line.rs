@@ -1,8 +1,8 @@
-//! Damage that any of the eight lines can have.
+//! Damage that any line can have.
 
 use crate::input::{Input, Said};
-use crate::lines::Lines;
-use second::record::LABELS;
+use crate::lines::{label, number, Lines};
+use second::record::{Form, Line};
 
 /// What is done to a line, and what then stands in its place, by its name and its value.
 type Way = (&'static str, fn(&[u8], &[u8]) -> Vec<u8>);
@@ -38,41 +38,53 @@ const WAYS: [Way; 26] = [
 ];
 
 /// Gives the name of a line.
-fn name(line: usize) -> &'static [u8] {
-    LABELS[line - 1].strip_suffix(b"=").expect("a label")
+fn name(line: Line) -> &'static [u8] {
+    label(line).strip_suffix(b"=").expect("a label")
 }
 
 /// Gives each line damaged in each way; the sets take turns from this one on.
-pub fn damaged(turn: usize) -> Vec<Input> {
+pub fn damaged(form: Form, turn: usize) -> Vec<Input> {
     let mut inputs = Vec::new();
-    for line in 1..=8 {
-        for (number, (way, damaged)) in WAYS.iter().enumerate() {
-            let lines = Lines::short(turn + line + number);
-            let there = damaged(name(line), lines.value(line));
-            let what = format!("line {line} {way}");
-            inputs.push(Input::unread(what, lines.with_line(line, there), line));
+    for (number, line) in (1..).zip(form.lines()) {
+        for (turns, (way, damaged)) in WAYS.iter().enumerate() {
+            let lines = Lines::short(form, turn + number + turns);
+            let there = damaged(name(*line), lines.value(*line));
+            // What is left without a form line is of form 1, and its set is right.
+            let missing = *line == Line::Form && there.is_empty();
+            let broken = if missing { 2 } else { number };
+            let what = format!("line {number} {way}");
+            inputs.push(Input::unread(what, lines.with_line(*line, there), broken));
         }
     }
     inputs
 }
 
 /// Gives records in which a line stands twice or two lines have changed places; the sets take turns from this one on.
-pub fn moved(turn: usize) -> Vec<Input> {
+pub fn moved(form: Form, turn: usize) -> Vec<Input> {
     let mut inputs = Vec::new();
-    for line in 1..=8 {
-        let lines = Lines::short(turn + line);
-        let twice = lines.with_line(line, lines.line(line).repeat(2));
-        let what = format!("line {line} doubled");
+    for (number, line) in (1..).zip(form.lines()) {
+        let lines = Lines::short(form, turn + number);
+        let twice = lines.with_line(*line, lines.line(*line).repeat(2));
+        let what = format!("line {number} doubled");
         inputs.push(match line {
-            8 => Input::of(what, twice, &[Said::Equal, Said::Unread(1)]),
-            _ => Input::unread(what, twice, line + 1),
+            Line::Rounds => Input::of(what, twice, &[Said::Equal, Said::Unread(1)]),
+            _ => Input::unread(what, twice, number + 1),
         });
     }
-    let neighbours = (1..8).map(|line| (line, line + 1));
-    for (one, other) in neighbours.chain([(1, 8), (2, 7), (4, 6), (5, 7)]) {
-        let lines = Lines::short(turn + one).swapped(one, other);
-        let what = format!("lines {one} and {other} swapped");
-        inputs.push(Input::unread(what, lines, one));
+    let neighbours = form.lines().windows(2).map(|pair| (pair[0], pair[1]));
+    for (one, other) in neighbours.chain([
+        (form.lines()[0], Line::Rounds),
+        (Line::Key, Line::Tag),
+        (Line::Ad, Line::Cipher),
+        (Line::Text, Line::Tag),
+    ]) {
+        let [first, second] = [one, other].map(|line| number(form, line));
+        let lines = Lines::short(form, turn + first).swapped(one, other);
+        // What then begins with its set is of form 1.
+        let begins_with_set = one == Line::Form && other == Line::Set;
+        let broken = if begins_with_set { 2 } else { first };
+        let what = format!("lines {first} and {second} swapped");
+        inputs.push(Input::unread(what, lines, broken));
     }
     inputs
 }

@@ -1,6 +1,7 @@
 //! Cases written out with their output or with the place where they break, so that both programs are held to the rules themselves.
 
 use crate::input::Input;
+use second::record::Form;
 
 /// A record of set 1 that is in form: everything in it is zero or empty, but the rounds.
 const ZEROS: &str = "set=1
@@ -14,7 +15,7 @@ rounds=25
 ";
 
 /// A right record of set 2, the order `close` to `valve 12`.
-const CLOSE: &str = "set=2
+pub const CLOSE: &str = "set=2
 key=000102030405060708090a0b
 nonce=f0f1f2f3f4f5f6f7f8f9fafb
 ad=76616c7665203132
@@ -24,16 +25,57 @@ tag=da672106d0b341a823aa0ef5
 rounds=32
 ";
 
-/// Gives the cases with their output.
-pub fn whole_cases() -> Vec<Input> {
-    let case = |name: &str, bytes: String, output: &str| Input {
+/// The same record in form 2, of chip 7.
+const CLOSE_2: &str = "form=2
+set=2
+chip=7
+key=000102030405060708090a0b
+nonce=f0f1f2f3f4f5f6f7f8f9fafb
+ad=76616c7665203132
+text=636c6f7365
+cipher=06bf4bf2a4
+tag=da672106d0b341a823aa0ef5
+rounds=32
+";
+
+/// Gives a case with its output.
+fn case(name: &str, bytes: impl Into<Vec<u8>>, output: &str) -> Input {
+    Input {
         output: Some(output.to_string()),
         ..Input::told(name, bytes)
-    };
+    }
+}
+
+/// Gives a case with the line that says where it breaks.
+fn breaks(name: &str, bytes: impl Into<Vec<u8>>, fault: &str) -> Input {
+    Input {
+        fault: Some(format!("bench: {fault}\n")),
+        ..Input::told(name, bytes)
+    }
+}
+
+/// Gives the cases of a form with their output.
+pub fn whole_cases(form: Form) -> Vec<Input> {
+    match form {
+        Form::One => whole_cases_1(),
+        Form::Two => whole_cases_2(),
+    }
+}
+
+/// Gives the cases of a form with the line that says where they break.
+pub fn faults(form: Form) -> Vec<Input> {
+    match form {
+        Form::One => faults_1(),
+        Form::Two => faults_2(),
+    }
+}
+
+/// Gives the cases of form 1 with their output.
+fn whole_cases_1() -> Vec<Input> {
     let rounds = "record=1\nverdict=differs\nfield=rounds\n";
     vec![
-        case("the printed case", ZEROS.to_string(), rounds),
-        case("empty", String::new(), ""),
+        case("the printed case", ZEROS, rounds),
+        case("empty", "", ""),
         case(
             "the printed case with the right rounds",
             ZEROS.replace("25", "24"),
@@ -46,7 +88,7 @@ pub fn whole_cases() -> Vec<Input> {
         ),
         case(
             "a whole cipher",
-            CLOSE.to_string(),
+            CLOSE,
             "record=1\nverdict=equal\nfield=none\n",
         ),
         case(
@@ -67,7 +109,7 @@ pub fn whole_cases() -> Vec<Input> {
         ),
         case(
             "without its last line feed",
-            ZEROS.trim_end().to_string(),
+            ZEROS.trim_end(),
             "record=1\nverdict=unread\nfield=8\n",
         ),
         case(
@@ -92,7 +134,7 @@ pub fn whole_cases() -> Vec<Input> {
         ),
         case(
             "no nonce line",
-            "set=1\nkey=00000000000000000000000000000000\n".to_string(),
+            "set=1\nkey=00000000000000000000000000000000\n",
             "record=1\nverdict=unread\nfield=3\n",
         ),
         case(
@@ -102,135 +144,261 @@ pub fn whole_cases() -> Vec<Input> {
         ),
         case(
             "a lone line feed",
-            "\n".to_string(),
+            "\n",
             "record=1\nverdict=unread\nfield=1\n",
         ),
     ]
 }
 
-/// Gives the cases with the line that says where they break.
-pub fn faults() -> Vec<Input> {
-    let case = |name: &str, bytes: String, fault: &str| Input {
-        fault: Some(format!("{fault}\n")),
-        ..Input::told(name, bytes)
-    };
+/// Gives the cases of form 1 with the line that says where they break.
+fn faults_1() -> Vec<Input> {
     let key = "key=00000000000000000000000000000000\n";
     let no_text = ZEROS.replace("text=\n", "");
     vec![
-        case(
+        breaks(
             "a letter for a digit of the key",
             CLOSE.replace("key=0001", "key=000l"),
-            "bench: record 1: line 2, column 8",
+            "record 1: line 2, column 8",
         ),
-        case(
+        breaks(
             "an upper-case digit",
             CLOSE.replace("tag=da", "tag=dA"),
-            "bench: record 1: line 7, column 6",
+            "record 1: line 7, column 6",
         ),
-        case(
+        breaks(
             "a blank behind the text",
             CLOSE.replace("636c6f7365", "636c6f7365 "),
-            "bench: record 1: line 5, column 16",
+            "record 1: line 5, column 16",
         ),
-        case(
+        breaks(
             "a carriage return",
             CLOSE.replace("set=2", "set=2\r"),
-            "bench: record 1: line 1, column 6",
+            "record 1: line 1, column 6",
         ),
-        case(
+        breaks(
             "no such set",
             ZEROS.replace("set=1", "set=3"),
-            "bench: record 1: line 1, column 5",
+            "record 1: line 1, column 5",
         ),
-        case(
+        breaks(
             "two digits for the set",
             ZEROS.replace("set=1", "set=12"),
-            "bench: record 1: line 1, column 6",
+            "record 1: line 1, column 6",
         ),
-        case(
+        breaks(
             "the 25th digit of a key in set 2",
             ZEROS.replace("set=1", "set=2"),
-            "bench: record 1: line 2, column 29",
+            "record 1: line 2, column 29",
         ),
-        case(
+        breaks(
             "a key of 24 digits in set 1",
             CLOSE.replace("set=2", "set=1"),
-            "bench: record 1: line 2, column 29",
+            "record 1: line 2, column 29",
         ),
-        case(
+        breaks(
             "a digit alone",
             ZEROS.replace("ad=", "ad=0"),
-            "bench: record 1: line 4, column 5",
+            "record 1: line 4, column 5",
         ),
-        case(
+        breaks(
             "the 513th digit of a text",
             ZEROS.replace("text=", &format!("text={}", "00".repeat(257))),
-            "bench: record 1: line 5, column 518",
+            "record 1: line 5, column 518",
         ),
-        case(
+        breaks(
             "a needless zero",
             ZEROS.replace("25", "024"),
-            "bench: record 1: line 8, column 9",
+            "record 1: line 8, column 9",
         ),
-        case(
+        breaks(
             "eight digits",
             ZEROS.replace("25", "12345678"),
-            "bench: record 1: line 8, column 15",
+            "record 1: line 8, column 15",
         ),
-        case(
+        breaks(
             "no digit",
             ZEROS.replace("25", ""),
-            "bench: record 1: line 8, column 8",
+            "record 1: line 8, column 8",
         ),
-        case(
+        breaks(
             "a name with a letter too many",
             ZEROS.replace("cipher", "chipher"),
-            "bench: record 1: line 6, column 2",
+            "record 1: line 6, column 2",
         ),
-        case(
-            "a line left out",
-            no_text,
-            "bench: record 1: line 5, column 1",
-        ),
-        case(
+        breaks("a line left out", no_text, "record 1: line 5, column 1"),
+        breaks(
             "a line twice",
             ZEROS.replace(key, &key.repeat(2)),
-            "bench: record 1: line 3, column 1",
+            "record 1: line 3, column 1",
         ),
-        case(
+        breaks(
             "the end before a line",
             format!("set=1\n{key}"),
-            "bench: record 1: line 3, column 1",
+            "record 1: line 3, column 1",
         ),
-        case(
+        breaks(
             "the end in a name",
             format!("set=1\n{key}non"),
-            "bench: record 1: line 3, column 4",
+            "record 1: line 3, column 4",
         ),
-        case(
+        breaks(
             "the end before the last line feed",
-            ZEROS.trim_end().to_string(),
-            "bench: record 1: line 8, column 10",
+            ZEROS.trim_end(),
+            "record 1: line 8, column 10",
         ),
-        case(
+        breaks(
             "two broken lines",
             ZEROS.replace("cipher=", "cipher=x").replace("25", "x"),
-            "bench: record 1: line 6, column 8",
+            "record 1: line 6, column 8",
         ),
-        case(
+        breaks(
             "an empty line between two records",
             format!("{ZEROS}\n{ZEROS}"),
-            "bench: record 2: line 1, column 1",
+            "record 2: line 1, column 1",
         ),
-        case(
+        breaks(
             "the third record",
             format!("{CLOSE}{ZEROS}{}", CLOSE.replace("76616c", "7661g")),
-            "bench: record 3: line 4, column 8",
+            "record 3: line 4, column 8",
         ),
-        case(
+        breaks(
             "the tenth record",
             format!("{}set=1\nkey=\n", CLOSE.repeat(9)),
-            "bench: record 10: line 2, column 5",
+            "record 10: line 2, column 5",
+        ),
+    ]
+}
+
+/// Gives the cases of form 2 with their output.
+fn whole_cases_2() -> Vec<Input> {
+    let equal = "record=1\nverdict=equal\nfield=none\n";
+    let unread_in = |line| format!("record=1\nverdict=unread\nfield={line}\n");
+    vec![
+        case("a right record", CLOSE_2, equal),
+        case("chip 0", CLOSE_2.replace("chip=7", "chip=0"), equal),
+        case("chip 65535", CLOSE_2.replace("chip=7", "chip=65535"), equal),
+        case(
+            "a cipher cut off after three right bytes",
+            CLOSE_2.replace("cipher=06bf4bf2a4", "cipher=06bf4b"),
+            "record=1\nverdict=differs\nfield=cipher\n",
+        ),
+        case(
+            "another tag",
+            CLOSE_2.replace("tag=d", "tag=e"),
+            "record=1\nverdict=differs\nfield=tag\n",
+        ),
+        case(
+            "other rounds",
+            CLOSE_2.replace("rounds=32", "rounds=33"),
+            "record=1\nverdict=differs\nfield=rounds\n",
+        ),
+        case(
+            "both forms",
+            [CLOSE_2, ZEROS, CLOSE_2].concat(),
+            "record=1\nverdict=equal\nfield=none\nrecord=2\nverdict=differs\nfield=rounds\nrecord=3\nverdict=equal\nfield=none\n",
+        ),
+        case(
+            "with an empty line behind it",
+            [CLOSE_2, "\n"].concat(),
+            "record=1\nverdict=equal\nfield=none\nrecord=2\nverdict=unread\nfield=1\n",
+        ),
+        case("without its last line feed", CLOSE_2.trim_end(), &unread_in(10)),
+        case("form 1 is no value", CLOSE_2.replace("form=2", "form=1"), &unread_in(1)),
+        case("form 3", CLOSE_2.replace("form=2", "form=3"), &unread_in(1)),
+        case("no such set", CLOSE_2.replace("set=2", "set=3"), &unread_in(2)),
+        case("no chip", CLOSE_2.replace("chip=7\n", ""), &unread_in(3)),
+        case("chip 65536", CLOSE_2.replace("chip=7", "chip=65536"), &unread_in(3)),
+        case("a needless zero", CLOSE_2.replace("chip=7", "chip=07"), &unread_in(3)),
+        case("a key for set 2 in set 1", CLOSE_2.replace("set=2", "set=1"), &unread_in(4)),
+        case("two broken lines", CLOSE_2.replace("ad=7", "ad=").replace("32\n", "x\n"), &unread_in(6)),
+        case("upper-case hex", CLOSE_2.replace("tag=da", "tag=DA"), &unread_in(9)),
+        case("no form line", CLOSE_2.replace("form=2\n", ""), &unread_in(2)),
+        case("a chip in form 1", CLOSE.replace("set=2", "set=2\nchip=0"), &unread_in(2)),
+        case("a form line in front of form 1", ["form=2\n", CLOSE].concat(), &unread_in(3)),
+        case("half of the first name", "fo", &unread_in(1)),
+    ]
+}
+
+/// Gives the cases of form 2 with the line that says where they break.
+fn faults_2() -> Vec<Input> {
+    let chip = |value: &str| CLOSE_2.replace("chip=7", &format!("chip={value}"));
+    vec![
+        breaks("half of the first name", "fo", "record 1: line 1, column 1"),
+        breaks("the first name", "form", "record 1: line 1, column 1"),
+        breaks(
+            "the first name and its sign",
+            "form=",
+            "record 1: line 1, column 6",
+        ),
+        breaks(
+            "the form and the end",
+            "form=2",
+            "record 1: line 1, column 7",
+        ),
+        breaks(
+            "the form line and the end",
+            "form=2\n",
+            "record 1: line 2, column 1",
+        ),
+        breaks(
+            "the form line twice",
+            ["form=2\n", CLOSE_2].concat(),
+            "record 1: line 2, column 1",
+        ),
+        breaks(
+            "form 1 is no value",
+            CLOSE_2.replace("form=2", "form=1"),
+            "record 1: line 1, column 6",
+        ),
+        breaks(
+            "form 22",
+            CLOSE_2.replace("form=2", "form=22"),
+            "record 1: line 1, column 7",
+        ),
+        breaks(
+            "upper-case form",
+            CLOSE_2.replace("form", "Form"),
+            "record 1: line 1, column 1",
+        ),
+        breaks(
+            "no such set",
+            CLOSE_2.replace("set=2", "set=3"),
+            "record 1: line 2, column 5",
+        ),
+        breaks("chip 65536", chip("65536"), "record 1: line 3, column 10"),
+        breaks("chip 70000", chip("70000"), "record 1: line 3, column 10"),
+        breaks("chip 100000", chip("100000"), "record 1: line 3, column 11"),
+        breaks("chip 00", chip("00"), "record 1: line 3, column 7"),
+        breaks("no digit", chip(""), "record 1: line 3, column 6"),
+        breaks(
+            "a chip with a sign",
+            chip("+7"),
+            "record 1: line 3, column 6",
+        ),
+        breaks(
+            "a letter for a digit of the key",
+            CLOSE_2.replace("key=0001", "key=000l"),
+            "record 1: line 4, column 8",
+        ),
+        breaks(
+            "no line feed at the end",
+            CLOSE_2.trim_end(),
+            "record 1: line 10, column 10",
+        ),
+        breaks(
+            "the form line of a second record",
+            [CLOSE_2, "form"].concat(),
+            "record 2: line 1, column 1",
+        ),
+        breaks(
+            "a chip behind two of form 1",
+            [CLOSE, ZEROS, &chip("x")].concat(),
+            "record 3: line 3, column 6",
+        ),
+        breaks(
+            "a key behind two of form 2",
+            [CLOSE_2, CLOSE_2, &CLOSE.replace("key=0", "key=")].concat(),
+            "record 3: line 2, column 28",
         ),
     ]
 }

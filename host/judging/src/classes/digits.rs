@@ -1,11 +1,9 @@
 //! Hex values with every character in place of a digit, and with half a byte too few or too many.
 
 use crate::input::Input;
-use crate::lines::{column, Lines};
+use crate::lines::{column, number, Lines, HEX};
 use second::make::right_record;
-
-/// The lines that hold bytes.
-const LINES: std::ops::RangeInclusive<usize> = 2..=7;
+use second::record::Form;
 
 /// The digits, in the order of their values.
 const DIGITS: [u8; 16] = *b"0123456789abcdef";
@@ -40,20 +38,21 @@ const WRONG: [(&str, Place, u8); 15] = [
 ];
 
 /// Gives each line with each wrong digit.
-pub fn wrong() -> Vec<Input> {
+pub fn wrong(form: Form) -> Vec<Input> {
     let mut inputs = Vec::new();
-    for line in LINES {
-        for (number, (what, place, digit)) in WRONG.into_iter().enumerate() {
-            let lines = Lines::short(line + number);
+    for line in HEX {
+        let number = number(form, line);
+        for (turns, (what, place, digit)) in WRONG.into_iter().enumerate() {
+            let lines = Lines::short(form, number + turns);
             let digits = lines.value(line).len();
             let place = match place {
                 First => 0,
                 Middle => digits / 2,
                 Last => digits - 1,
             };
-            let what = format!("line {line} {what}");
+            let what = format!("line {number} {what}");
             let lines = lines.with_character(line, place, digit);
-            inputs.push(Input::unread_at(what, lines, line, column(line, place)));
+            inputs.push(Input::unread_at(what, lines, number, column(line, place)));
         }
     }
     inputs
@@ -61,20 +60,24 @@ pub fn wrong() -> Vec<Input> {
 
 /// Gives each of the 256 characters as the high and as the low digit of a byte. One that is a digit spells the text of a right record, which is
 /// equal only where its value is right; any other stands in each line in turn.
-pub fn each_character() -> Vec<Input> {
+pub fn each_character(form: Form) -> Vec<Input> {
     let mut inputs = Vec::new();
-    for (character, line) in (0..=u8::MAX).zip(LINES.cycle()) {
+    for (character, line) in (0..=u8::MAX).zip(HEX.into_iter().cycle()) {
+        let number = number(form, line);
         for (place, name) in ["high", "low"].into_iter().enumerate() {
             let what = format!("character {character} as a {name} digit");
             let value = (0..).zip(DIGITS).find(|(_, digit)| *digit == character);
             inputs.push(match value {
-                Some((value, _)) => Input::equal(what, right_with([value << 4, value][place])),
+                Some((value, _)) => {
+                    Input::equal(what, right_with(form, [value << 4, value][place]))
+                }
                 None => {
-                    let lines = Lines::short(line).with_character(line, place, character);
+                    let lines = Lines::short(form, number);
+                    let lines = lines.with_character(line, place, character);
                     match character {
                         // A line feed may leave a right line, and break the next one.
                         b'\n' => Input::told(what, lines),
-                        _ => Input::unread_at(what, lines, line, column(line, place)),
+                        _ => Input::unread_at(what, lines, number, column(line, place)),
                     }
                 }
             });
@@ -84,16 +87,17 @@ pub fn each_character() -> Vec<Input> {
 }
 
 /// Gives a right record with this byte as its text.
-fn right_with(byte: u8) -> Lines {
+fn right_with(form: Form, byte: u8) -> Lines {
     let record = right_record(1, &[0; 16], &[0; 16], &[], &[byte]);
-    Lines::of(&record.expect("the message fits a record"))
+    Lines::of(form, &record.expect("the message fits a record"))
 }
 
 /// Gives each line with a digit fewer, a digit more, a digit alone, and a sign of hex in front; the sets take turns from this one on.
-pub fn odd(turn: usize) -> Vec<Input> {
+pub fn odd(form: Form, turn: usize) -> Vec<Input> {
     let mut inputs = Vec::new();
-    for line in LINES {
-        let lines = Lines::short(turn + line);
+    for line in HEX {
+        let number = number(form, line);
+        let lines = Lines::short(form, turn + number);
         let right = lines.value(line);
         for (what, value) in [
             ("one digit fewer", right[1..].to_vec()),
@@ -101,8 +105,8 @@ pub fn odd(turn: usize) -> Vec<Input> {
             ("one digit alone", b"0".to_vec()),
             ("0x in front", [b"0x", right].concat()),
         ] {
-            let what = format!("line {line} {what}");
-            inputs.push(Input::unread(what, lines.with_value(line, value), line));
+            let what = format!("line {number} {what}");
+            inputs.push(Input::unread(what, lines.with_value(line, value), number));
         }
     }
     inputs

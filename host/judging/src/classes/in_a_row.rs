@@ -4,18 +4,23 @@ use crate::input::{Input, Said};
 use crate::lines::Lines;
 use second::cipher::SETS;
 use second::random::Random;
+use second::record::Form::{self, One};
+use second::record::Line;
 use second::vectors;
 
+/// What chooses the records of long rows.
+const SEED: u64 = 7;
+
 /// Gives three records, the first, the second or the last broken in each of its lines.
-pub fn broken() -> Vec<Input> {
+pub fn broken(form: Form) -> Vec<Input> {
     let mut inputs = Vec::new();
-    for line in 1..=8 {
+    for (number, line) in (1..).zip(form.lines()) {
         for (place, what) in ["first", "second", "last"].into_iter().enumerate() {
-            let mut records = [0, 1, 2].map(|number| Lines::right(&SETS[number % 2], number, 9));
-            records[place] = records[place].with_value(line, "no");
+            let mut records = [0, 1, 2].map(|turn| Lines::right(form, &SETS[turn % 2], turn, 9));
+            records[place] = records[place].with_value(*line, "no");
             let mut said = vec![Said::Equal; place];
-            said.push(Said::Unread(line));
-            let what = format!("{what} broken in line {line}");
+            said.push(Said::Unread(number));
+            let what = format!("{what} broken in line {number}");
             let bytes = records.map(|lines| lines.bytes()).concat();
             inputs.push(Input::of(what, bytes, &said));
         }
@@ -24,22 +29,24 @@ pub fn broken() -> Vec<Input> {
 }
 
 /// Gives two right records, one of each set.
-pub fn two_right() -> [Vec<u8>; 2] {
-    [0, 1].map(|number| Lines::short(number).bytes())
+pub fn two_right(form: Form) -> [Vec<u8>; 2] {
+    [0, 1].map(|number| Lines::short(form, number).bytes())
 }
 
-/// Gives the inputs behind two right records; only the second program tells their output.
-pub fn behind_two(inputs: Vec<Input>) -> Vec<Input> {
+/// Gives the inputs behind two right records of a form; only the second program tells their output.
+pub fn behind_two(form: Form, inputs: Vec<Input>) -> Vec<Input> {
     let third = |Input { name, bytes, .. }| {
-        let rows = [two_right().concat(), bytes].concat();
+        let rows = [two_right(form).concat(), bytes].concat();
         Input::told(name, rows)
     };
     inputs.into_iter().map(third).collect()
 }
 
 /// Gives one record and three, with bytes behind them that are no record.
-pub fn trailing() -> Vec<Input> {
-    let whole = Lines::right(&SETS[1], 2, 3).bytes();
+pub fn trailing(form: Form) -> Vec<Input> {
+    let whole = Lines::right(form, &SETS[1], 2, 3).bytes();
+    let half = &whole[..whole.len() / 2];
+    let lines_in_half = half.iter().filter(|byte| **byte == b'\n').count();
     let tails: [(&str, &[u8], usize); 16] = [
         ("a line feed", b"\n", 1),
         ("two line feeds", b"\n\n", 1),
@@ -54,13 +61,17 @@ pub fn trailing() -> Vec<Input> {
         ("set and no value", b"set=", 1),
         ("set and no line feed", b"set=1", 1),
         ("a set line", b"set=1\n", 2),
-        ("half a record", &whole[..whole.len() / 2], 4),
-        ("all but a line feed", &whole[..whole.len() - 1], 8),
+        ("half a record", half, lines_in_half + 1),
+        (
+            "all but a line feed",
+            &whole[..whole.len() - 1],
+            form.lines().len(),
+        ),
         ("all but the first letter", &whole[1..], 1),
     ];
     let mut inputs = Vec::new();
     for count in [1, 3] {
-        let records = Lines::right(&SETS[0], 5, 4).bytes().repeat(count);
+        let records = Lines::right(form, &SETS[0], 5, 4).bytes().repeat(count);
         for (what, tail, line) in tails {
             let mut said = vec![Said::Equal; count];
             said.push(Said::Unread(line));
@@ -72,8 +83,9 @@ pub fn trailing() -> Vec<Input> {
 }
 
 /// Gives rows so long that record numbers get up to five digits.
-pub fn long() -> Vec<Input> {
-    let shortest = Lines::right(&SETS[1], 0, 0).with_value(8, "7").bytes();
+pub fn long(form: Form) -> Vec<Input> {
+    let many = |count| many_in(|_| form, count, SEED);
+    let shortest = Lines::right(form, &SETS[1], 0, 0).with_value(Line::Rounds, "7");
     let broken = [many(1_500), b"set=1\nkey=0\n".to_vec()].concat();
     vec![
         Input::told("12 records", many(12)),
@@ -82,25 +94,31 @@ pub fn long() -> Vec<Input> {
         Input::told("1500 records and a broken one", broken),
         Input::of(
             "2000 shortest",
-            shortest.repeat(2_000),
+            shortest.bytes().repeat(2_000),
             &[Said::Differs("rounds"); 2_000],
         ),
         Input::told("10000 records", many(10_000)),
     ]
 }
 
-/// Gives as many records of both sets and of all lengths; three of seven differ, each in another field.
+/// Gives as many records of form 1, of both sets and of all lengths; three of seven differ, each in another field.
 pub fn many(count: u64) -> Vec<u8> {
-    let mut random = Random::new(7);
+    many_in(|_| One, count, SEED)
+}
+
+/// Gives as many such records, the one with each number, counted from 0, in the form that is given for it; the seed chooses them.
+pub fn many_in(form_of: impl Fn(u64) -> Form, count: u64, seed: u64) -> Vec<u8> {
+    let mut random = Random::new(seed);
     let mut bytes = Vec::new();
     for index in 0..count {
-        let lines = Lines::of(&vectors::record(&mut random, index));
+        let form = form_of(index);
+        let lines = Lines::of(form, &vectors::record_in(form, &mut random, index));
         let lines = match index % 7 {
-            2 => lines.with_value(8, index.to_string()),
-            4 => lines.with_other_digit(7, random.below(24)),
-            6 if !lines.value(6).is_empty() => {
-                let place = random.below(lines.value(6).len());
-                lines.with_other_digit(6, place)
+            2 => lines.with_value(Line::Rounds, index.to_string()),
+            4 => lines.with_other_digit(Line::Tag, random.below(24)),
+            6 if !lines.value(Line::Cipher).is_empty() => {
+                let place = random.below(lines.value(Line::Cipher).len());
+                lines.with_other_digit(Line::Cipher, place)
             }
             _ => lines,
         };

@@ -1,68 +1,145 @@
-//! The classes of inputs, each a row with the number of inputs that it has to come to.
+//! The classes of inputs, each with the number of inputs that it has to come to.
 
 mod any_line;
-mod by_hand;
+pub mod by_hand;
 mod cuts;
 mod digits;
 mod edges;
+mod form_2;
 mod in_a_row;
 mod largest;
 mod lengths;
+mod mixed;
+mod moved;
 mod mutations;
 mod numbers;
 mod places;
 mod verdicts;
 
-pub use in_a_row::many;
+pub use edges::row;
+pub use in_a_row::{many, many_in};
+pub use largest::largest;
+pub use moved::HELD;
 
 use crate::input::Input;
 use in_a_row::behind_two;
+use second::moving::Direction;
+use second::record::Form::{self, One, Two};
 
 /// A class: what it is, how many inputs it has, and what makes them.
 pub struct Class {
-    pub name: &'static str,
+    pub name: String,
     pub inputs: usize,
-    pub make: fn() -> Vec<Input>,
+    pub make: Box<dyn Fn() -> Vec<Input>>,
 }
 
-/// All classes; the numbers are written down so that a class that shrinks is noticed.
+/// A class that each form has: what it is, how many inputs it has in form 1 and in form 2, and what makes them.
+struct Row {
+    name: &'static str,
+    inputs: [usize; 2],
+    make: fn(Form) -> Vec<Input>,
+}
+
+impl Row {
+    /// Gives the class in a form.
+    fn of(&self, form: Form) -> Class {
+        let make = self.make;
+        let (before, place) = match form {
+            One => ("", 0),
+            Two => ("form 2 ", 1),
+        };
+        Class {
+            name: format!("{before}{}", self.name),
+            inputs: self.inputs[place],
+            make: Box::new(move || make(form)),
+        }
+    }
+}
+
+/// A class that only one form has, or that has inputs of both: what it is, how many inputs it has, and what makes them.
+type Own = (&'static str, usize, fn() -> Vec<Input>);
+
+/// Gives the classes that are judged.
+pub fn judged() -> Vec<Class> {
+    let of = |form| IN_EACH_FORM.iter().map(move |row| row.of(form));
+    of(One)
+        .chain(of(Two))
+        .chain(IN_BOTH_FORMS.map(own))
+        .collect()
+}
+
+/// Gives the classes that are moved in this direction.
+pub fn moved(direction: Direction) -> Vec<Class> {
+    let form = match direction {
+        Direction::Forward => One,
+        Direction::Back => Two,
+    };
+    moved::ROWS.iter().map(|row| row.of(form)).collect()
+}
+
+/// Gives such a class.
+fn own((name, inputs, make): Own) -> Class {
+    Class {
+        name: name.to_string(),
+        inputs,
+        make: Box::new(make),
+    }
+}
+
+/// The judged classes that each form has; the numbers are written down so that a class that shrinks is noticed.
 #[rustfmt::skip]
-pub const CLASSES: [Class; 37] = [
-    Class { name: "written by hand", inputs: 17, make: by_hand::whole_cases },
-    Class { name: "each line damaged", inputs: 208, make: || any_line::damaged(0) },
-    Class { name: "lines doubled or moved", inputs: 19, make: || any_line::moved(0) },
-    Class { name: "wrong digits", inputs: 90, make: digits::wrong },
-    Class { name: "each character as a digit", inputs: 512, make: digits::each_character },
-    Class { name: "odd digits", inputs: 24, make: || digits::odd(0) },
-    Class { name: "lengths of key nonce and tag", inputs: 32, make: lengths::exact },
-    Class { name: "lengths of ad text and cipher", inputs: 26, make: lengths::up_to_256 },
-    Class { name: "lines far too long", inputs: 40, make: lengths::far_too_long },
-    Class { name: "set values", inputs: 26, make: || numbers::sets(0) },
-    Class { name: "rounds out of form", inputs: 54, make: numbers::rounds_broken },
-    Class { name: "rounds in form", inputs: 20, make: numbers::rounds_in_form },
-    Class { name: "fields that differ", inputs: 56, make: verdicts::differing },
-    Class { name: "ciphers of another length than the text", inputs: 28, make: verdicts::other_lengths },
-    Class { name: "ciphers cut off at every length", inputs: 28, make: verdicts::cut_off },
-    Class { name: "ciphers that go on", inputs: 24, make: verdicts::lengthened },
-    Class { name: "right records around block edges", inputs: 26, make: verdicts::right },
-    Class { name: "one broken in a row", inputs: 24, make: in_a_row::broken },
-    Class { name: "bytes after the last record", inputs: 32, make: in_a_row::trailing },
-    Class { name: "many records", inputs: 6, make: in_a_row::long },
-    Class { name: "cut at every byte", inputs: 316, make: || cuts::every(0) },
-    Class { name: "around buffer edges", inputs: 72, make: edges::around },
-    Class { name: "the largest record", inputs: 12, make: largest::around },
-    Class { name: "one byte mutated", inputs: 120, make: mutations::mutated },
-    Class { name: "faults written by hand", inputs: 23, make: by_hand::faults },
-    Class { name: "a wrong character at every place", inputs: 314, make: places::wrong_characters },
-    Class { name: "a line feed at every place", inputs: 314, make: places::line_feeds },
-    Class { name: "each character in a number", inputs: 768, make: numbers::each_character },
-    Class { name: "wrong digits in the largest record", inputs: 36, make: largest::wrong_digits },
-    Class { name: "a third record with each line damaged", inputs: 208, make: || behind_two(any_line::damaged(1)) },
-    Class { name: "a third record with lines doubled or moved", inputs: 19, make: || behind_two(any_line::moved(1)) },
-    Class { name: "a third record with odd digits", inputs: 24, make: || behind_two(digits::odd(1)) },
-    Class { name: "a third record with other lengths of key nonce and tag", inputs: 32, make: || behind_two(lengths::exact()) },
-    Class { name: "a third record with other lengths of ad text and cipher", inputs: 26, make: || behind_two(lengths::up_to_256()) },
-    Class { name: "a third record with set values", inputs: 26, make: || behind_two(numbers::sets(1)) },
-    Class { name: "a third record with rounds out of form", inputs: 54, make: || behind_two(numbers::rounds_broken()) },
-    Class { name: "a third record cut at every byte", inputs: 316, make: || behind_two(cuts::every(1)) },
+const IN_EACH_FORM: [Row; 37] = [
+    Row { name: "written by hand", inputs: [17, 22], make: by_hand::whole_cases },
+    Row { name: "each line damaged", inputs: [208, 260], make: |form| any_line::damaged(form, 0) },
+    Row { name: "lines doubled or moved", inputs: [19, 23], make: |form| any_line::moved(form, 0) },
+    Row { name: "wrong digits", inputs: [90, 90], make: digits::wrong },
+    Row { name: "each character as a digit", inputs: [512, 512], make: digits::each_character },
+    Row { name: "odd digits", inputs: [24, 24], make: |form| digits::odd(form, 0) },
+    Row { name: "lengths of key nonce and tag", inputs: [32, 32], make: lengths::exact },
+    Row { name: "lengths of ad text and cipher", inputs: [26, 26], make: lengths::up_to_256 },
+    Row { name: "lines far too long", inputs: [40, 50], make: lengths::far_too_long },
+    Row { name: "set values", inputs: [26, 26], make: |form| numbers::sets(form, 0) },
+    Row { name: "rounds out of form", inputs: [54, 54], make: numbers::rounds_broken },
+    Row { name: "rounds in form", inputs: [20, 20], make: numbers::rounds_in_form },
+    Row { name: "fields that differ", inputs: [56, 56], make: verdicts::differing },
+    Row { name: "ciphers of another length than the text", inputs: [28, 28], make: verdicts::other_lengths },
+    Row { name: "ciphers cut off at every length", inputs: [28, 28], make: verdicts::cut_off },
+    Row { name: "ciphers that go on", inputs: [24, 24], make: verdicts::lengthened },
+    Row { name: "right records around block edges", inputs: [26, 26], make: verdicts::right },
+    Row { name: "one broken in a row", inputs: [24, 30], make: in_a_row::broken },
+    Row { name: "bytes after the last record", inputs: [32, 32], make: in_a_row::trailing },
+    Row { name: "many records", inputs: [6, 6], make: in_a_row::long },
+    Row { name: "cut at every byte", inputs: [316, 345], make: |form| cuts::every(form, 0) },
+    Row { name: "around buffer edges", inputs: [72, 72], make: edges::around },
+    Row { name: "the largest record", inputs: [12, 13], make: largest::around },
+    Row { name: "one byte mutated", inputs: [120, 120], make: |form| mutations::mutated(&[form]) },
+    Row { name: "faults written by hand", inputs: [23, 21], make: by_hand::faults },
+    Row { name: "a wrong character at every place", inputs: [314, 350], make: places::wrong_characters },
+    Row { name: "a line feed at every place", inputs: [314, 350], make: places::line_feeds },
+    Row { name: "each character in a number", inputs: [768, 1_536], make: numbers::each_character },
+    Row { name: "wrong digits in the largest record", inputs: [36, 36], make: largest::wrong_digits },
+    Row { name: "a third record with each line damaged", inputs: [208, 260], make: |form| behind_two(form, any_line::damaged(form, 1)) },
+    Row { name: "a third record with lines doubled or moved", inputs: [19, 23], make: |form| behind_two(form, any_line::moved(form, 1)) },
+    Row { name: "a third record with odd digits", inputs: [24, 24], make: |form| behind_two(form, digits::odd(form, 1)) },
+    Row { name: "a third record with other lengths of key nonce and tag", inputs: [32, 32], make: |form| behind_two(form, lengths::exact(form)) },
+    Row { name: "a third record with other lengths of ad text and cipher", inputs: [26, 26], make: |form| behind_two(form, lengths::up_to_256(form)) },
+    Row { name: "a third record with set values", inputs: [26, 26], make: |form| behind_two(form, numbers::sets(form, 1)) },
+    Row { name: "a third record with rounds out of form", inputs: [54, 54], make: |form| behind_two(form, numbers::rounds_broken(form)) },
+    Row { name: "a third record cut at every byte", inputs: [316, 345], make: |form| behind_two(form, cuts::every(form, 1)) },
+];
+
+/// The judged classes of what only form 2 has, and of both forms in one input.
+#[rustfmt::skip]
+const IN_BOTH_FORMS: [Own; 11] = [
+    ("form lines", 112, form_2::form_lines),
+    ("chips", 40, form_2::chips),
+    ("chips out of form", 90, form_2::no_chips),
+    ("both forms in every order", 258, mixed::orders),
+    ("both forms and many records", 5, mixed::long),
+    ("both forms by chance", 100, mixed::by_chance),
+    ("both forms and one byte mutated", 120, || mutations::mutated(&[One, Two])),
+    ("behind form 1 a form 2 record damaged", 260, || behind_two(One, any_line::damaged(Two, 1))),
+    ("behind form 1 a form 2 record cut at every byte", 345, || behind_two(One, cuts::every(Two, 1))),
+    ("behind form 2 a form 1 record damaged", 208, || behind_two(Two, any_line::damaged(One, 1))),
+    ("behind form 2 a form 1 record cut at every byte", 316, || behind_two(Two, cuts::every(One, 1))),
 ];

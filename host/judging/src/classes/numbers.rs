@@ -1,11 +1,12 @@
-//! Values of the set line and the rounds line.
+//! Values of the lines that hold numbers, and of the form line.
 
 use crate::input::Input;
 use crate::lines::{column, Lines};
 use second::cipher::SETS;
+use second::record::{Form, Line};
 
 /// Gives set lines that name neither set, and the two that name one; the sets of the other lines take turns from this one on.
-pub fn sets(turn: usize) -> Vec<Input> {
+pub fn sets(form: Form, turn: usize) -> Vec<Input> {
     let values: [(&str, &[u8]); 24] = [
         ("empty", b""),
         ("0", b"0"),
@@ -34,31 +35,37 @@ pub fn sets(turn: usize) -> Vec<Input> {
     ];
     let mut inputs = Vec::new();
     for (number, (what, value)) in values.into_iter().enumerate() {
-        let lines = Lines::short(turn + number).with_value(1, value);
-        inputs.push(Input::unread(what, lines, 1));
+        let lines = Lines::short(form, turn + number).with_value(Line::Set, value);
+        let number = lines.number(Line::Set);
+        inputs.push(Input::unread(what, lines, number));
     }
-    inputs.push(Input::equal("1", Lines::right(&SETS[0], 3, 5)));
-    inputs.push(Input::equal("2", Lines::right(&SETS[1], 3, 5)));
+    inputs.push(Input::equal("1", Lines::right(form, &SETS[0], 3, 5)));
+    inputs.push(Input::equal("2", Lines::right(form, &SETS[1], 3, 5)));
     inputs
 }
 
-/// Gives each of the 256 characters as the set, and as the first and the second digit of the rounds.
-pub fn each_character() -> Vec<Input> {
-    const PLACES: [(usize, usize, &str); 3] = [
-        (1, 0, "set"),
-        (8, 0, "first digit of the rounds"),
-        (8, 1, "second digit of the rounds"),
+/// Gives each of the 256 characters as the form, as the set, and as the first and the second digit of the chip and of the rounds, where the form has them.
+pub fn each_character(form: Form) -> Vec<Input> {
+    const PLACES: [(Line, usize, &str); 6] = [
+        (Line::Set, 0, "set"),
+        (Line::Rounds, 0, "first digit of the rounds"),
+        (Line::Rounds, 1, "second digit of the rounds"),
+        (Line::Form, 0, "form"),
+        (Line::Chip, 0, "first digit of the chip"),
+        (Line::Chip, 1, "second digit of the chip"),
     ];
+    let own = |(line, _, _): &(Line, usize, &str)| form.lines().contains(line);
     let mut inputs = Vec::new();
     for character in 0..=u8::MAX {
-        for (line, place, name) in PLACES {
-            let lines = Lines::short(usize::from(character) + place);
+        for (line, place, name) in PLACES.into_iter().filter(own) {
+            let lines = Lines::short(form, usize::from(character) + place).with_chip(6_553);
             let lines = lines.with_character(line, place, character);
             let what = format!("character {character} as the {name}");
+            let number = lines.number(line);
             inputs.push(match character {
                 // These may leave a right line.
                 b'0'..=b'9' | b'\n' => Input::told(what, lines),
-                _ => Input::unread_at(what, lines, line, column(line, place)),
+                _ => Input::unread_at(what, lines, number, column(line, place)),
             });
         }
     }
@@ -66,10 +73,10 @@ pub fn each_character() -> Vec<Input> {
 }
 
 /// Gives rounds that have no right form; many would be the right number if read less strictly.
-pub fn rounds_broken() -> Vec<Input> {
+pub fn rounds_broken(form: Form) -> Vec<Input> {
     let mut inputs = Vec::new();
     for set in &SETS {
-        let lines = Lines::right(set, 9, 20);
+        let lines = Lines::right(form, set, 9, 20);
         let right = rounds_of(&lines);
         for (what, value) in [
             ("empty", String::new()),
@@ -104,17 +111,19 @@ pub fn rounds_broken() -> Vec<Input> {
             ("digits of another script", "\u{664}\u{668}".to_string()),
         ] {
             let what = format!("set {} {what}", set.number);
-            inputs.push(Input::unread(what, lines.with_value(8, value), 8));
+            let number = lines.number(Line::Rounds);
+            let lines = lines.with_value(Line::Rounds, value);
+            inputs.push(Input::unread(what, lines, number));
         }
     }
     inputs
 }
 
 /// Gives rounds that are in form and not ours; some are ours in fewer bits.
-pub fn rounds_in_form() -> Vec<Input> {
+pub fn rounds_in_form(form: Form) -> Vec<Input> {
     let mut inputs = Vec::new();
     for set in &SETS {
-        let lines = Lines::right(set, 9, 20);
+        let lines = Lines::right(form, set, 9, 20);
         let right = rounds_of(&lines);
         for (what, value) in [
             ("0", 0),
@@ -129,7 +138,7 @@ pub fn rounds_in_form() -> Vec<Input> {
             ("more by 2 to the 16", right + (1 << 16)),
         ] {
             let what = format!("set {} {what}", set.number);
-            let lines = lines.with_value(8, value.to_string());
+            let lines = lines.with_value(Line::Rounds, value.to_string());
             inputs.push(Input::differs(what, lines, "rounds"));
         }
     }
@@ -138,6 +147,6 @@ pub fn rounds_in_form() -> Vec<Input> {
 
 /// Gives the number in the rounds line.
 fn rounds_of(lines: &Lines) -> u64 {
-    let digits = std::str::from_utf8(lines.value(8)).expect("decimal digits");
+    let digits = std::str::from_utf8(lines.value(Line::Rounds)).expect("decimal digits");
     digits.parse().expect("a number")
 }

@@ -3,21 +3,26 @@
 use crate::input::{Input, Said};
 use crate::lines::Lines;
 use second::cipher::{Set, SETS};
+use second::record::{Form, Line};
 
 /// The lines whose fields are compared, in the order of comparison.
-const COMPARED: [(usize, &str); 3] = [(8, "rounds"), (6, "cipher"), (7, "tag")];
+const COMPARED: [(Line, &str); 3] = [
+    (Line::Rounds, "rounds"),
+    (Line::Cipher, "cipher"),
+    (Line::Tag, "tag"),
+];
 
 /// Gives records that differ in one field or several, or in what they were sealed from.
-pub fn differing() -> Vec<Input> {
+pub fn differing(form: Form) -> Vec<Input> {
     let mut inputs = Vec::new();
     for set in &SETS {
-        inputs.extend((0..8).map(|choice| differing_in(set, choice)));
-        let lines = Lines::right(set, 3, 2 * set.block + 3);
+        inputs.extend((0..8).map(|choice| differing_in(form, set, choice)));
+        let lines = Lines::right(form, set, 3, 2 * set.block + 3);
         let mut add = |what: String, lines: Lines, field| {
             let what = format!("set {} {what}", set.number);
             inputs.push(Input::differs(what, lines, field));
         };
-        for (line, field) in [(6, "cipher"), (7, "tag")] {
+        for (line, field) in [(Line::Cipher, "cipher"), (Line::Tag, "tag")] {
             let digits = lines.value(line).len();
             for place in [0, 1, digits / 2, digits - 2, digits - 1] {
                 let what = format!("{field} from digit {place}");
@@ -26,14 +31,19 @@ pub fn differing() -> Vec<Input> {
             let zeros = lines.with_value(line, "0".repeat(digits));
             add(format!("{field} of zeros"), zeros, field);
         }
-        let second_block = lines.with_other_digit(6, 2 * set.block);
+        let second_block = lines.with_other_digit(Line::Cipher, 2 * set.block);
         add("cipher from a block on".to_string(), second_block, "cipher");
-        for (line, field) in [(2, "key"), (3, "nonce"), (4, "ad"), (5, "text")] {
+        for (line, field) in [
+            (Line::Key, "key"),
+            (Line::Nonce, "nonce"),
+            (Line::Ad, "ad"),
+            (Line::Text, "text"),
+        ] {
             let other = lines.with_other_digit(line, lines.value(line).len() - 1);
             add(format!("another {field}"), other, "cipher");
         }
-        let textless = Lines::right(set, 3, 0);
-        for (line, field) in [(2, "key"), (3, "nonce"), (4, "ad")] {
+        let textless = Lines::right(form, set, 3, 0);
+        for (line, field) in [(Line::Key, "key"), (Line::Nonce, "nonce"), (Line::Ad, "ad")] {
             let other = textless.with_other_digit(line, 0);
             add(format!("another {field} without text"), other, "tag");
         }
@@ -42,8 +52,8 @@ pub fn differing() -> Vec<Input> {
 }
 
 /// Gives a record that differs in those compared fields that are bits of the choice.
-fn differing_in(set: &Set, choice: usize) -> Input {
-    let mut lines = Lines::right(set, 9, 9);
+fn differing_in(form: Form, set: &Set, choice: usize) -> Input {
+    let mut lines = Lines::right(form, set, 9, 9);
     let mut fields = Vec::new();
     for (bit, (line, field)) in COMPARED.into_iter().enumerate() {
         if choice >> bit & 1 == 1 {
@@ -59,12 +69,16 @@ fn differing_in(set: &Set, choice: usize) -> Input {
 }
 
 /// Gives right records whose cipher was cut at every length, each row with the whole one at its end.
-pub fn cut_off() -> Vec<Input> {
+pub fn cut_off(form: Form) -> Vec<Input> {
     let mut inputs = Vec::new();
     for set in &SETS {
         for text in [1, 2, 3, 5, 7, 8, 9, 15, 16, 17, 33, 64, 255, 256] {
-            let lines = Lines::right(set, 3, text);
-            let kept = |bytes: usize| lines.with_value(6, &lines.value(6)[..2 * bytes]).bytes();
+            let lines = Lines::right(form, set, 3, text);
+            let kept = |bytes: usize| {
+                lines
+                    .with_value(Line::Cipher, &lines.value(Line::Cipher)[..2 * bytes])
+                    .bytes()
+            };
             let records: Vec<_> = (0..=text).map(kept).collect();
             let mut said = vec![Said::Differs("cipher"); text];
             said.push(Said::Equal);
@@ -76,7 +90,7 @@ pub fn cut_off() -> Vec<Input> {
 }
 
 /// Gives right records whose cipher goes on to four longer lengths, each row with the right one at its end.
-pub fn lengthened() -> Vec<Input> {
+pub fn lengthened(form: Form) -> Vec<Input> {
     const SAID: [Said; 5] = {
         let mut said = [Said::Differs("cipher"); 5];
         said[4] = Said::Equal;
@@ -92,11 +106,11 @@ pub fn lengthened() -> Vec<Input> {
             (16, [17, 18, 24, 256]),
             (252, [253, 254, 255, 256]),
         ] {
-            let lines = Lines::right(set, 3, text);
+            let lines = Lines::right(form, set, 3, text);
             for more in [&b"00"[..], b"5a"] {
                 let grown = |length: usize| {
-                    let cipher = [lines.value(6), &more.repeat(length - text)].concat();
-                    lines.with_value(6, cipher).bytes()
+                    let cipher = [lines.value(Line::Cipher), &more.repeat(length - text)].concat();
+                    lines.with_value(Line::Cipher, cipher).bytes()
                 };
                 let records = [longer.map(grown).concat(), lines.bytes()].concat();
                 let what = format!("set {} text {text} then {}", set.number, more[0] as char);
@@ -108,34 +122,64 @@ pub fn lengthened() -> Vec<Input> {
 }
 
 /// Gives records whose cipher is shorter or longer than their text, also beside another fault.
-pub fn other_lengths() -> Vec<Input> {
+pub fn other_lengths(form: Form) -> Vec<Input> {
     let mut inputs = Vec::new();
     for set in &SETS {
-        let short = Lines::right(set, 3, 5);
-        let cut = |digits: usize| short.with_value(6, &short.value(6)[..digits]);
-        let grown = |bytes| short.with_value(6, [short.value(6), &b"5a".repeat(bytes)].concat());
-        let long = Lines::right(set, 0, 256);
-        let none = Lines::right(set, 0, 0);
+        let short = Lines::right(form, set, 3, 5);
+        let cut =
+            |digits: usize| short.with_value(Line::Cipher, &short.value(Line::Cipher)[..digits]);
+        let grown = |bytes| {
+            short.with_value(
+                Line::Cipher,
+                [short.value(Line::Cipher), &b"5a".repeat(bytes)].concat(),
+            )
+        };
+        let long = Lines::right(form, set, 0, 256);
+        let none = Lines::right(form, set, 0, 0);
         for (what, lines) in [
             ("none of 5", cut(0)),
             ("1 of 5", cut(2)),
             ("4 of 5", cut(8)),
             ("6 of 5", grown(1)),
             ("256 of 5", grown(251)),
-            ("1 of 256", long.with_value(6, &long.value(6)[..2])),
-            ("1 of none", none.with_value(6, "00")),
-            ("256 of none", none.with_value(6, "5a".repeat(256))),
+            (
+                "1 of 256",
+                long.with_value(Line::Cipher, &long.value(Line::Cipher)[..2]),
+            ),
+            ("1 of none", none.with_value(Line::Cipher, "00")),
+            (
+                "256 of none",
+                none.with_value(Line::Cipher, "5a".repeat(256)),
+            ),
         ] {
             let what = format!("set {} {what}", set.number);
             inputs.push(Input::differs(what, lines, "cipher"));
         }
         for (what, lines, line, place, field) in [
-            ("4 of 5 and the last differs", cut(8), 6, 7, "cipher"),
-            ("14 of 5 and the first differs", grown(9), 6, 0, "cipher"),
-            ("14 of 5 and the fifth differs", grown(9), 6, 9, "cipher"),
-            ("2 of 5 and another tag", cut(4), 7, 9, "cipher"),
-            ("9 of 5 and another tag", grown(4), 7, 9, "cipher"),
-            ("2 of 5 and other rounds", cut(4), 8, 1, "rounds"),
+            (
+                "4 of 5 and the last differs",
+                cut(8),
+                Line::Cipher,
+                7,
+                "cipher",
+            ),
+            (
+                "14 of 5 and the first differs",
+                grown(9),
+                Line::Cipher,
+                0,
+                "cipher",
+            ),
+            (
+                "14 of 5 and the fifth differs",
+                grown(9),
+                Line::Cipher,
+                9,
+                "cipher",
+            ),
+            ("2 of 5 and another tag", cut(4), Line::Tag, 9, "cipher"),
+            ("9 of 5 and another tag", grown(4), Line::Tag, 9, "cipher"),
+            ("2 of 5 and other rounds", cut(4), Line::Rounds, 1, "rounds"),
         ] {
             let what = format!("set {} {what}", set.number);
             let other = lines.with_other_digit(line, place);
@@ -146,12 +190,12 @@ pub fn other_lengths() -> Vec<Input> {
 }
 
 /// Gives right records of each data length below, with each of the lengths as text in turn.
-pub fn right() -> Vec<Input> {
+pub fn right(form: Form) -> Vec<Input> {
     const LENGTHS: [usize; 13] = [0, 1, 7, 8, 9, 15, 16, 17, 31, 32, 33, 255, 256];
     let mut inputs = Vec::new();
     for set in &SETS {
         for ad in LENGTHS {
-            let records = LENGTHS.map(|text| Lines::right(set, ad, text).bytes());
+            let records = LENGTHS.map(|text| Lines::right(form, set, ad, text).bytes());
             let what = format!("set {} ad {ad}", set.number);
             let said = [Said::Equal; LENGTHS.len()];
             inputs.push(Input::of(what, records.concat(), &said));

@@ -1,9 +1,10 @@
 //! What the program has to print, by the second program's reader and writer.
 
-use second::record::{read, write, Broken, Field, Record, Refused, MOST_ROUNDS};
+use second::record::{form_of, read, write, Broken, Field, Form, Line, Record, Refused};
+use second::record::{MOST_CHIP, MOST_ROUNDS};
 
 /// How many places the program writes in.
-const PLACES: usize = 1_700;
+pub const PLACES: usize = 1_710;
 
 /// How much of its input the program takes.
 pub const TAKEN: usize = 65_536;
@@ -11,7 +12,7 @@ pub const TAKEN: usize = 65_536;
 /// What is said of the place where every other answer than 10 breaks.
 const NOWHERE: Broken = Broken { line: 0, column: 0 };
 
-/// How a line of a record is changed.
+/// How a part of a record is changed.
 #[derive(Clone, Copy)]
 enum Change {
     Over,
@@ -31,9 +32,12 @@ pub fn wanted(input: &[u8]) -> Vec<u8> {
             break;
         }
         output.extend(format!("record={number}\n").bytes());
-        match read(rest) {
+        match read(form_of(rest), rest) {
             Ok((record, taken)) => {
-                output.extend(rewritten(&record, taken));
+                for (number, form) in (1..).zip([Form::One, Form::Two]) {
+                    output.extend(format!("form={number}\n").bytes());
+                    output.extend(rewritten(form, &record));
+                }
                 rest = &rest[taken..];
             }
             Err(Broken { line, column }) => {
@@ -45,39 +49,43 @@ pub fn wanted(input: &[u8]) -> Vec<u8> {
     output
 }
 
-/// Gives what is printed of a record that took so many bytes.
-fn rewritten(record: &Record, taken: usize) -> Vec<u8> {
-    let mut parts = Vec::new();
-    for room in [PLACES, taken, taken - 1, 0] {
-        parts.push(attempt("as read", record, room));
-    }
+/// Gives what is printed of a record that is written in the form.
+fn rewritten(form: Form, record: &Record) -> Vec<u8> {
+    let size = write(form, record, &mut [0; PLACES]).unwrap_or(0);
+    let one_less = size.checked_sub(1);
+    let rooms = [PLACES, size].into_iter().chain(one_less).chain([0]);
+    let mut parts: Vec<_> = rooms
+        .map(|room| attempt("as read", form, record, room))
+        .collect();
     for (word, change) in [
         ("over", Over),
         ("more", More),
         ("less", Less),
         ("last", Last),
     ] {
-        for line in 1..=8 {
+        for (number, line) in changed_parts() {
             let mut changed = record.clone();
-            change_line(&mut changed, line, change);
-            parts.push(attempt(&format!("{word} in line {line}"), &changed, PLACES));
+            change_part(&mut changed, line, change);
+            let name = format!("{word} in part {number}");
+            parts.push(attempt(&name, form, &changed, PLACES));
         }
     }
     let mut changed = record.clone();
-    for line in (1..=8).rev() {
-        change_line(&mut changed, line, Over);
-        parts.push(attempt(&format!("over from line {line}"), &changed, 0));
+    for (number, line) in changed_parts().into_iter().rev() {
+        change_part(&mut changed, line, Over);
+        let name = format!("over from part {number}");
+        parts.push(attempt(&name, form, &changed, 0));
     }
     parts.concat()
 }
 
 /// Gives what is printed of one writing: its name and answer, that the rest is kept, and what was written.
-fn attempt(name: &str, record: &Record, room: usize) -> Vec<u8> {
+fn attempt(name: &str, form: Form, record: &Record, room: usize) -> Vec<u8> {
     let mut places = [0; PLACES];
-    let (answer, place, written) = match write(record, &mut places[..room]) {
+    let (answer, place, written) = match write(form, record, &mut places[..room]) {
         Ok(written) => (0, NOWHERE, written),
         Err(refused @ Refused::Broken(place)) => (refused.number(), place, 0),
-        Err(refused @ Refused::Short) => (refused.number(), NOWHERE, 0),
+        Err(refused @ (Refused::Chip | Refused::Short)) => (refused.number(), NOWHERE, 0),
     };
     let Broken { line, column } = place;
     let said = format!(
@@ -86,17 +94,25 @@ fn attempt(name: &str, record: &Record, room: usize) -> Vec<u8> {
     [said.as_bytes(), &places[..written]].concat()
 }
 
-/// Changes a line of a record.
-fn change_line(record: &mut Record, line: usize, change: Change) {
-    match line {
-        1 => change_number(&mut record.set, 3, change),
-        2 => change_field(&mut record.key, change),
-        3 => change_field(&mut record.nonce, change),
-        4 => change_field(&mut record.ad, change),
-        5 => change_field(&mut record.text, change),
-        6 => change_field(&mut record.cipher, change),
-        7 => change_field(&mut record.tag, change),
-        _ => change_number(&mut record.rounds, MOST_ROUNDS + 1, change),
+/// Gives the parts of a record that are changed, with the numbers of their lines in form 2: all but the form itself.
+fn changed_parts() -> Vec<(usize, Line)> {
+    let lines = (1..).zip(Form::Two.lines().iter().copied());
+    lines.filter(|(_, line)| *line != Line::Form).collect()
+}
+
+/// Changes a part of a record.
+fn change_part(record: &mut Record, part: Line, change: Change) {
+    match part {
+        Line::Form => {}
+        Line::Set => change_number(&mut record.set, 3, change),
+        Line::Chip => change_number(&mut record.chip, MOST_CHIP + 1, change),
+        Line::Key => change_field(&mut record.key, change),
+        Line::Nonce => change_field(&mut record.nonce, change),
+        Line::Ad => change_field(&mut record.ad, change),
+        Line::Text => change_field(&mut record.text, change),
+        Line::Cipher => change_field(&mut record.cipher, change),
+        Line::Tag => change_field(&mut record.tag, change),
+        Line::Rounds => change_number(&mut record.rounds, MOST_ROUNDS + 1, change),
     }
 }
 

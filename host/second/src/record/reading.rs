@@ -1,34 +1,32 @@
 //! Reading one record from the front of any bytes.
 
-use super::{Broken, Field, Record, LABELS};
+use super::{Broken, Field, Form, Line, Record, MOST_CHIP, MOST_ROUNDS};
 use crate::cipher::set_of;
 use crate::hex::{self, BadDigit};
 
 /// The most bytes that ad, text and cipher hold.
 const MOST_BYTES: usize = 256;
 
-/// The most digits that rounds has.
-const MOST_DIGITS: usize = 7;
-
 /// How many characters stand before the first one with which no right line can go on.
 type Good = usize;
 
-/// Gives the record at the front and how many bytes it took, or where it first breaks.
-pub fn read(bytes: &[u8]) -> Result<(Record, usize), Broken> {
+/// Gives the record of the form at the front and how many bytes it took, or where it first breaks.
+pub fn read(form: Form, bytes: &[u8]) -> Result<(Record, usize), Broken> {
     let mut record = Record::zero();
     let mut place = 0;
-    for (line, label) in (1..).zip(LABELS) {
+    for (number, line) in (1..).zip(form.lines()) {
         let broken = |good: Good| Broken {
-            line,
+            line: number,
             column: good as u64 + 1,
         };
-        place += take_line(&mut record, line, label, &bytes[place..]).map_err(broken)?;
+        place += take_line(&mut record, *line, &bytes[place..]).map_err(broken)?;
     }
     Ok((record, place))
 }
 
 /// Puts the line at the front into the record and gives its length with its line feed.
-fn take_line(record: &mut Record, line: u64, label: &[u8], text: &[u8]) -> Result<usize, Good> {
+fn take_line(record: &mut Record, line: Line, text: &[u8]) -> Result<usize, Good> {
+    let label = line.label();
     begins(text, label)?;
     let start = label.len();
     let end = start + take_value(record, line, &text[start..]).map_err(|good| start + good)?;
@@ -47,18 +45,20 @@ fn begins(text: &[u8], wanted: &[u8]) -> Result<(), Good> {
 }
 
 /// Puts the value at the front into the record and gives its length in characters.
-fn take_value(record: &mut Record, line: u64, text: &[u8]) -> Result<usize, Good> {
+fn take_value(record: &mut Record, line: Line, text: &[u8]) -> Result<usize, Good> {
     let own = set_of(record.set).map_or(0, |set| set.key);
     let length;
     match line {
-        1 => (record.set, length) = set_value(text)?,
-        2 => (record.key, length) = field(text, own, own)?,
-        3 => (record.nonce, length) = field(text, own, own)?,
-        4 => (record.ad, length) = field(text, 0, MOST_BYTES)?,
-        5 => (record.text, length) = field(text, 0, MOST_BYTES)?,
-        6 => (record.cipher, length) = field(text, 0, MOST_BYTES)?,
-        7 => (record.tag, length) = field(text, own, own)?,
-        _ => (record.rounds, length) = rounds_value(text)?,
+        Line::Form => length = 0,
+        Line::Set => (record.set, length) = set_value(text)?,
+        Line::Chip => (record.chip, length) = number(text, MOST_CHIP)?,
+        Line::Key => (record.key, length) = field(text, own, own)?,
+        Line::Nonce => (record.nonce, length) = field(text, own, own)?,
+        Line::Ad => (record.ad, length) = field(text, 0, MOST_BYTES)?,
+        Line::Text => (record.text, length) = field(text, 0, MOST_BYTES)?,
+        Line::Cipher => (record.cipher, length) = field(text, 0, MOST_BYTES)?,
+        Line::Tag => (record.tag, length) = field(text, own, own)?,
+        Line::Rounds => (record.rounds, length) = number(text, MOST_ROUNDS)?,
     }
     Ok(length)
 }
@@ -99,17 +99,17 @@ fn good_in_pair(bad: BadDigit) -> Good {
     }
 }
 
-/// Gives the number at the front and its length in characters; after a leading zero no digit is taken.
-fn rounds_value(text: &[u8]) -> Result<(u64, usize), Good> {
-    let most = if text.first() == Some(&b'0') {
-        1
-    } else {
-        MOST_DIGITS
-    };
+/// Gives the number at the front and its length in digits; no digit is taken that makes it wrong.
+fn number(text: &[u8], most: u64) -> Result<(u64, usize), Good> {
     let mut number = 0;
     let mut length = 0;
-    for digit in text.iter().take(most).take_while(|c| c.is_ascii_digit()) {
-        number = number * 10 + u64::from(digit - b'0');
+    for digit in text.iter().take_while(|c| c.is_ascii_digit()) {
+        let longer = number * 10 + u64::from(digit - b'0');
+        let leads_with_zero = length > 0 && number == 0;
+        if longer > most || leads_with_zero {
+            break;
+        }
+        number = longer;
         length += 1;
     }
     if length == 0 {

@@ -1,33 +1,39 @@
 //! Writing one record to the front of lent bytes.
 
-use super::{first_broken_line, Broken, Record, LABELS};
+use super::{first_broken_line, Broken, Form, Line, Record};
 use crate::hex;
 
-/// Why a record wasn't written.
+/// Why a record wasn't written, or wasn't moved.
 #[derive(Clone, Copy, Debug, PartialEq, Eq)]
 pub enum Refused {
+    /// The record has no right form, first here; the column is 0 unless it was being read.
+    Broken(Broken),
+    /// The record is in form, but form 1 has no line for its chip, which isn't 0.
+    Chip,
     /// The output is shorter than the record.
     Short,
-    /// The record has no right form, first in this line; the column is 0.
-    Broken(Broken),
 }
 
 impl Refused {
     /// Gives the answer number of the refusal.
     pub fn number(&self) -> u64 {
         match self {
-            Refused::Short => 6,
             Refused::Broken(_) => 10,
+            Refused::Chip => 11,
+            Refused::Short => 6,
         }
     }
 }
 
-/// Writes the record and gives its length in bytes; a refusal leaves the output as it was.
-pub fn write(record: &Record, out: &mut [u8]) -> Result<usize, Refused> {
-    if let Some(line) = first_broken_line(record) {
+/// Writes the record in the form and gives its length in bytes; a refusal leaves the output as it was.
+pub fn write(form: Form, record: &Record, out: &mut [u8]) -> Result<usize, Refused> {
+    if let Some(line) = first_broken_line(form, record) {
         return Err(Refused::Broken(Broken { line, column: 0 }));
     }
-    let whole = lines(record);
+    if form == Form::One && record.chip != 0 {
+        return Err(Refused::Chip);
+    }
+    let whole = lines(form, record);
     if out.len() < whole.len() {
         return Err(Refused::Short);
     }
@@ -35,23 +41,29 @@ pub fn write(record: &Record, out: &mut [u8]) -> Result<usize, Refused> {
     Ok(whole.len())
 }
 
-/// Gives the eight lines of a record of right form, one after another.
-fn lines(record: &Record) -> Vec<u8> {
-    let values = [
-        record.set.to_string().into_bytes(),
-        hex::written(record.key.held()),
-        hex::written(record.nonce.held()),
-        hex::written(record.ad.held()),
-        hex::written(record.text.held()),
-        hex::written(record.cipher.held()),
-        hex::written(record.tag.held()),
-        record.rounds.to_string().into_bytes(),
-    ];
+/// Gives the lines of a record that is right in the form, one after another.
+fn lines(form: Form, record: &Record) -> Vec<u8> {
     let mut whole = Vec::new();
-    for (label, value) in LABELS.iter().zip(values) {
-        whole.extend(*label);
-        whole.extend(value);
+    for line in form.lines() {
+        whole.extend(line.label());
+        whole.extend(value(record, *line));
         whole.push(b'\n');
     }
     whole
+}
+
+/// Gives the characters of the line's value.
+fn value(record: &Record, line: Line) -> Vec<u8> {
+    match line {
+        Line::Form => Vec::new(),
+        Line::Set => record.set.to_string().into_bytes(),
+        Line::Chip => record.chip.to_string().into_bytes(),
+        Line::Key => hex::written(record.key.held()),
+        Line::Nonce => hex::written(record.nonce.held()),
+        Line::Ad => hex::written(record.ad.held()),
+        Line::Text => hex::written(record.text.held()),
+        Line::Cipher => hex::written(record.cipher.held()),
+        Line::Tag => hex::written(record.tag.held()),
+        Line::Rounds => record.rounds.to_string().into_bytes(),
+    }
 }

@@ -1,6 +1,9 @@
 //! The shapes of all right lines, two right records, and a search for what completes a beginning.
 
-use second::record::Broken;
+use second::record::{Broken, Form};
+
+/// Both forms.
+pub const FORMS: [Form; 2] = [Form::One, Form::Two];
 
 /// A right record of set 1.
 pub const SET_1: [&[u8]; 8] = [
@@ -26,15 +29,49 @@ pub const SET_2: [&[u8]; 8] = [
     b"rounds=30",
 ];
 
+/// Gives the lines of form 2 for a record's lines of form 1, with a chip that may have one more digit.
+pub fn in_form_2<'a>(record: &[&'a [u8]; 8]) -> [&'a [u8]; 10] {
+    let [set, key, nonce, ad, text, cipher, tag, rounds] = *record;
+    [
+        b"form=2",
+        set,
+        b"chip=6553",
+        key,
+        nonce,
+        ad,
+        text,
+        cipher,
+        tag,
+        rounds,
+    ]
+}
+
+/// Gives the lines of both right records in the form.
+pub fn records_in(form: Form) -> [Vec<&'static [u8]>; 2] {
+    match form {
+        Form::One => [SET_1, SET_2].map(|record| record.to_vec()),
+        Form::Two => [SET_1, SET_2].map(|record| in_form_2(&record).to_vec()),
+    }
+}
+
+/// Gives how many lines a record of the form has.
+pub fn count_of_lines(form: Form) -> usize {
+    match form {
+        Form::One => 8,
+        Form::Two => 10,
+    }
+}
+
 /// The characters that may stand at one place of a line.
 type Choice = &'static [u8];
 
 /// What may stand at each place of a line of one length, its line feed included.
 type Shape = Vec<Choice>;
 
-/// All shapes of the eight lines, in set 1 and in set 2.
+/// All shapes of the lines of both forms, each in set 1 and in set 2.
 pub struct Forms {
-    sets: [Vec<Vec<Shape>>; 2],
+    one: [Vec<Vec<Shape>>; 2],
+    two: [Vec<Vec<Shape>>; 2],
 }
 
 /// Gives the shape of a line with that name and those choices in its value.
@@ -67,7 +104,34 @@ fn shapes_of_rounds() -> Vec<Shape> {
     all
 }
 
-/// Gives the shapes of the eight lines in a set that has keys of so many bytes.
+/// Gives the shapes of the chip line: a zero, numbers of one to four digits, and five up to 65535.
+fn shapes_of_chips() -> Vec<Shape> {
+    const ANY: Choice = b"0123456789";
+    const NO_ZERO: Choice = b"123456789";
+    let values: [&[Choice]; 10] = [
+        &[b"0"],
+        &[NO_ZERO],
+        &[NO_ZERO, ANY],
+        &[NO_ZERO, ANY, ANY],
+        &[NO_ZERO, ANY, ANY, ANY],
+        &[b"12345", ANY, ANY, ANY, ANY],
+        &[b"6", b"01234", ANY, ANY, ANY],
+        &[b"6", b"5", b"01234", ANY, ANY],
+        &[b"6", b"5", b"5", b"012", ANY],
+        &[b"6", b"5", b"5", b"3", b"012345"],
+    ];
+    values.map(|value| shape(b"chip=", value)).into()
+}
+
+/// Gives the shapes of the ten lines of form 2 in a set that has keys of so many bytes.
+fn shapes_in_form_2(key: usize) -> Vec<Vec<Shape>> {
+    let mut all = shapes(key);
+    all.insert(1, shapes_of_chips());
+    all.insert(0, vec![shape(b"form=2", &[])]);
+    all
+}
+
+/// Gives the shapes of the eight lines of form 1 in a set that has keys of so many bytes.
 fn shapes(key: usize) -> Vec<Vec<Shape>> {
     vec![
         vec![shape(b"set=", &[b"12"])],
@@ -91,31 +155,42 @@ impl Forms {
     /// Gives all shapes.
     pub fn new() -> Forms {
         Forms {
-            sets: [shapes(16), shapes(12)],
+            one: [16, 12].map(shapes),
+            two: [16, 12].map(shapes_in_form_2),
         }
     }
 
-    /// Gives the shapes of line `number`, from 1, in a record whose text begins as this one.
-    fn of(&self, text: &[u8], number: usize) -> &[Shape] {
-        let set = usize::from(text.starts_with(b"set=2"));
-        &self.sets[set][number - 1]
+    /// Gives the shapes of line `number`, from 1, in a record of the form whose text begins as this one.
+    fn of(&self, form: Form, text: &[u8], number: usize) -> &[Shape] {
+        let (sets, second): (_, &[u8]) = match form {
+            Form::One => (&self.one, b"set=2"),
+            Form::Two => (&self.two, b"form=2\nset=2"),
+        };
+        let set = usize::from(text.starts_with(second));
+        &sets[set][number - 1]
     }
 
-    /// Gives a right line `number` that begins with the given characters, if there is one.
-    pub fn completed(&self, text: &[u8], number: usize, front: &[u8]) -> Option<Vec<u8>> {
-        let mut all = self.of(text, number).iter();
+    /// Gives a right line `number` of the form that begins with the given characters, if there is one.
+    pub fn completed(
+        &self,
+        form: Form,
+        text: &[u8],
+        number: usize,
+        front: &[u8],
+    ) -> Option<Vec<u8>> {
+        let mut all = self.of(form, text, number).iter();
         let shape = all.find(|shape| fits(front, shape))?;
         let rest = shape[front.len()..].iter().map(|choice| choice[0]);
         Some(front.iter().copied().chain(rest).collect())
     }
 
-    /// Gives the text of a record that begins with the given one, if there is one.
-    pub fn record_from(&self, text: &[u8]) -> Option<Vec<u8>> {
+    /// Gives the text of a record of the form that begins with the given one, if there is one.
+    pub fn record_from(&self, form: Form, text: &[u8]) -> Option<Vec<u8>> {
         let mut whole = Vec::new();
         let mut lines = text.split_inclusive(|byte| *byte == b'\n');
-        for number in 1..=8 {
+        for number in 1..=count_of_lines(form) {
             let begun = lines.next().unwrap_or_default();
-            whole.extend(self.completed(&whole, number, begun)?);
+            whole.extend(self.completed(form, &whole, number, begun)?);
         }
         lines.next().is_none().then_some(whole)
     }
@@ -146,9 +221,9 @@ pub fn label_of(line: &[u8]) -> &[u8] {
     &line[..=sign.expect("every line has one")]
 }
 
-/// Hands over both right records with each byte changed to each, and the byte's place.
-pub fn each_change(mut take: impl FnMut(usize, &[u8])) {
-    for record in [SET_1, SET_2] {
+/// Hands over both right records of the form with each byte changed to each, and the byte's place.
+pub fn each_change(form: Form, mut take: impl FnMut(usize, &[u8])) {
+    for record in records_in(form) {
         let text = text_of(&record);
         for place in 0..text.len() {
             for new in 0..=255 {
@@ -160,11 +235,11 @@ pub fn each_change(mut take: impl FnMut(usize, &[u8])) {
     }
 }
 
-/// Hands over both right records up to each line, with a short value behind its name, behind a cut name and alone; and the lines after it.
-pub fn each_short_value(mut take: impl FnMut(&[u8], &[u8])) {
+/// Hands over both right records of the form up to each line, with a short value behind its name, behind a cut name and alone; and the lines after it.
+pub fn each_short_value(form: Form, mut take: impl FnMut(&[u8], &[u8])) {
     let values = short_texts(b"0129afgA =\r\n");
-    for record in [SET_1, SET_2] {
-        for place in 0..8 {
+    for record in records_in(form) {
+        for place in 0..record.len() {
             let before = text_of(&record[..place]);
             let after = text_of(&record[place + 1..]);
             let label = label_of(record[place]);

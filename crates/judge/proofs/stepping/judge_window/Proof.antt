@@ -5,7 +5,7 @@ use lib.ListN.{length}
 use borrow.Author.Needs.{needs}
 use borrow.Author.Tests.{eq-eqb, ne-eqb, not-true, not-false}
 use Rattle.record.specs.declared.reading.Reading.{Reading}
-use Rattle.record.specs.Calls.{readCall}
+use Rattle.record.specs.Calls.{readAny}
 use Rattle.judge.specs.Steps.{isFinalIn, isFinal, reportChoices, stepBy, stepCall}
 use Rattle.judge.proofs.stepping.judge_window.Statement.{statement}
 use Rattle.judge.proofs.stepping.judge_window.Tie as tie
@@ -18,8 +18,8 @@ returns-2 : tie.Need-returns-2
 unfolding stepCall stepBy
 returns-2 c = rw (eq-eqb _ 0 (c .before .if1 .taken), c .if2 .left)
 
-read-requires : tie.Need-read-requires
-read-requires c κs = search needs
+read-any-requires : tie.Need-read-any-requires
+read-any-requires c κs = search needs
 
 is-final-requires : tie.Need-is-final-requires
 is-final-requires c κs = search needs
@@ -28,7 +28,7 @@ is-final-requires c κs = search needs
 told : (c : tie.After-is-final) → let a = c .before .before .before .before .before .args in isFinal (now (a .window)) (a .ended) ≡ c .is-final .result
 told c =
     let a = c .before .before .before .before .before .args in
-    sym (c .is-final .ensures ∙ ap (λ (r : Reading). isFinalIn r (a .ended)) (c .before .read .ensures))
+    sym (c .is-final .ensures ∙ ap (λ (r : Reading). isFinalIn r (a .ended)) (c .before .read-any .ensures))
 
 returns-3 : tie.Need-returns-3
 unfolding stepCall stepBy
@@ -45,7 +45,7 @@ same-length c = search needs
 -- the report on what a final window tells
 final : (c : tie.Else3) → let a = c .before .before .before .before .before .before .args in
     stepCall (now (a .window)) (a .ended) (a .number) (now (a .out))
-    ≡ stepBy (readCall (now (a .window))) (a .number) (now (a .out)) (reportChoices (readCall (now (a .window))) (a .number) (length (now (a .out))))
+    ≡ stepBy (readAny (now (a .window))) (a .number) (now (a .out)) (reportChoices (readAny (now (a .window))) (a .number) (length (now (a .out))))
 unfolding stepCall stepBy
 final c =
     let a = c .before .before .before .before .before .before .args in
@@ -56,8 +56,8 @@ returns-4 c =
     let begun = c .before .before .before .before in
     let a = begun .before .before .before .before .before .before .args in
     c .before .before .report-on .ensures
-    ∙ ap (λ (r : Reading). stepBy r (a .number) (now (a .out)) (reportChoices r (a .number) (length (now (a .out))))) (begun .before .before .read .ensures)
+    ∙ ap (λ (r : Reading). stepBy r (a .number) (now (a .out)) (reportChoices r (a .number) (length (now (a .out))))) (begun .before .before .read-any .ensures)
     ∙ sym (final begun)
 
 pub judge-window-spec : {M : Type 1} → statement M
-judge-window-spec = tie.close (tie.spec returns returns-2 read-requires is-final-requires returns-3 report-on-requires same-length returns-4)
+judge-window-spec = tie.close (tie.spec returns returns-2 read-any-requires is-final-requires returns-3 report-on-requires same-length returns-4)

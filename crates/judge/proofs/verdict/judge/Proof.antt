@@ -8,6 +8,7 @@ use lib.Dec.{eqb}
 use borrow.Author.Needs.{needs}
 use borrow.Author.Tests.{eq-eqb, ne-eqb}
 use Rattle.sets.proofs.Rows.{row-sizes}
+use Rattle.record.specs.declared.form.Form.the-variants.{One}
 use Rattle.record.specs.declared.form.Record.{Record}
 use Rattle.record.specs.Form.{held, broken}
 use Rattle.record.proofs.Fields.{held-field}
@@ -40,10 +41,10 @@ unfolding verdictOn
 returns c =
     let bad = c .before .first-broken .ensures in
     let r = c .before .before .args .entry in
-    rw (ne-eqb (broken r) 0 (λ e. c .if1 .taken (bad ∙ e)), ← bad)
+    rw (ne-eqb (broken One r) 0 (λ e. c .if1 .taken (bad ∙ e)), ← bad)
 
 -- the record is in form
-sound : (c : tie.Else1) → broken (c .before .before .args .entry) ≡ 0
+sound : (c : tie.Else1) → broken One (c .before .before .args .entry) ≡ 0
 sound c = sym (c .before .first-broken .ensures) ∙ c .if1 .left
 
 seal-record-requires : tie.Need-seal-record-requires
@@ -76,7 +77,7 @@ abbrev ciphered : tie.After-fields-differ2 → tie.After-fields-differ
 ciphered c = c .before .before .before .before
 
 fields-differ-requires : tie.Need-fields-differ-requires
-fields-differ-requires c κs = let o = sealed (c .before .before) in (o .seal-record .ensures .1 .0, in-form _ (sound (o .before)) .cipher)
+fields-differ-requires c κs = let o = sealed (c .before .before) in (o .seal-record .ensures .1 .0, in-form One _ (sound (o .before)) .cipher)
 
 -- the rounds are the same
 rounds-same : (c : tie.Else2) → let r = found (sealed c) in eqb (r .rounds) (ourRounds r) ≡ true
@@ -97,7 +98,7 @@ returns-3 c =
 fields-differ-requires-2 : tie.Need-fields-differ-requires-2
 fields-differ-requires-2 c κs =
     let o = sealed (rounded (c .before .before .before)) in
-    (o .seal-record .ensures .1 .1, omega (arith, in-form _ (sound (o .before)) .tag, row-sizes (found o .set) .key))
+    (o .seal-record .ensures .1 .1, omega (arith, in-form One _ (sound (o .before)) .tag, row-sizes (found o .set) .key))
 
 -- so is the tag
 tag-is : (c : tie.After-fields-differ2) → let r = found (sealed (rounded (ciphered c))) in differ (ourSealing r .tag) (held (r .tag)) ≡ c .fields-differ2 .result

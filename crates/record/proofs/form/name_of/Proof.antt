@@ -10,26 +10,28 @@ use Rattle.lines.specs.Right.{named}
 use Rattle.record.proofs.form.name_of.Statement.{statement}
 use Rattle.record.proofs.form.name_of.Tie as tie
 
--- a line by its place in the list
-at-place : (line i : ℕ) → line - 1 ≡ suc i → line ≡ suc (suc i)
-at-place line i e = omega arith
+-- a part by its place in the list
+at-place : (part i : ℕ) → part - 1 ≡ suc i → part ≡ suc (suc i)
+at-place part i e = omega arith
 
--- any other line is called as the first
-other : (line : ℕ) → (line ≡ 2 → ⊥) → (line ≡ 3 → ⊥) → (line ≡ 4 → ⊥) → (line ≡ 5 → ⊥) → (line ≡ 6 → ⊥) → (line ≡ 7 → ⊥) → (line ≡ 8 → ⊥)
-    → name 1 ≡ name line
+-- any other part is called as the first
+other : (part : ℕ) → (part ≡ 2 → ⊥) → (part ≡ 3 → ⊥) → (part ≡ 4 → ⊥) → (part ≡ 5 → ⊥) → (part ≡ 6 → ⊥) → (part ≡ 7 → ⊥) → (part ≡ 8 → ⊥) → (part ≡ 9 → ⊥) → (part ≡ 10 → ⊥)
+    → name 1 ≡ name part
 unfolding name names
-other line h2 h3 h4 h5 h6 h7 h8 = go (line - 1) refl
+other part h2 h3 h4 h5 h6 h7 h8 h9 h10 = go (part - 1) refl
   where
-    go : (i : ℕ) → line - 1 ≡ i → getD names 0 [] ≡ getD names i (getD names 0 [])
+    go : (i : ℕ) → part - 1 ≡ i → getD names 0 [] ≡ getD names i (getD names 0 [])
     go zero e = refl
-    go (suc zero) e = absurd (h2 (at-place line 0 e))
-    go (suc (suc zero)) e = absurd (h3 (at-place line 1 e))
-    go (suc (suc (suc zero))) e = absurd (h4 (at-place line 2 e))
-    go (suc (suc (suc (suc zero)))) e = absurd (h5 (at-place line 3 e))
-    go (suc (suc (suc (suc (suc zero))))) e = absurd (h6 (at-place line 4 e))
-    go (suc (suc (suc (suc (suc (suc zero)))))) e = absurd (h7 (at-place line 5 e))
-    go (suc (suc (suc (suc (suc (suc (suc zero))))))) e = absurd (h8 (at-place line 6 e))
-    go (suc (suc (suc (suc (suc (suc (suc (suc i)))))))) e = refl
+    go (suc zero) e = absurd (h2 (at-place part 0 e))
+    go (suc (suc zero)) e = absurd (h3 (at-place part 1 e))
+    go (suc (suc (suc zero))) e = absurd (h4 (at-place part 2 e))
+    go (suc (suc (suc (suc zero)))) e = absurd (h5 (at-place part 3 e))
+    go (suc (suc (suc (suc (suc zero))))) e = absurd (h6 (at-place part 4 e))
+    go (suc (suc (suc (suc (suc (suc zero)))))) e = absurd (h7 (at-place part 5 e))
+    go (suc (suc (suc (suc (suc (suc (suc zero))))))) e = absurd (h8 (at-place part 6 e))
+    go (suc (suc (suc (suc (suc (suc (suc (suc zero)))))))) e = absurd (h9 (at-place part 7 e))
+    go (suc (suc (suc (suc (suc (suc (suc (suc (suc zero))))))))) e = absurd (h10 (at-place part 8 e))
+    go (suc (suc (suc (suc (suc (suc (suc (suc (suc (suc i)))))))))) e = refl
 
 slice-aggregate-named : tie.Need-slice-aggregate-named
 slice-aggregate-named c = search needs
@@ -79,41 +81,61 @@ slice-aggregate-named-8 c = search needs
 named-requires-8 : tie.Need-named-requires-8
 named-requires-8 c κs = search needs
 
+slice-aggregate-named-9 : tie.Need-slice-aggregate-named-9
+slice-aggregate-named-9 c = search needs
+
+named-requires-9 : tie.Need-named-requires-9
+named-requires-9 c κs = search needs
+
+slice-aggregate-named-10 : tie.Need-slice-aggregate-named-10
+slice-aggregate-named-10 c = search needs
+
+named-requires-10 : tie.Need-named-requires-10
+named-requires-10 c κs = search needs
+
 returns : tie.Need-returns
 unfolding name names
-returns c = c .named .ensures ∙ ap (λ (line : ℕ). named (name line)) (sym (c .before .before .match .keys1))
+returns c = c .named .ensures ∙ ap (λ (part : ℕ). named (name part)) (sym (c .before .before .match .keys1))
 
 returns-2 : tie.Need-returns-2
 unfolding name names
-returns-2 c = c .named2 .ensures ∙ ap (λ (line : ℕ). named (name line)) (sym (c .before .before .match .keys2))
+returns-2 c = c .named2 .ensures ∙ ap (λ (part : ℕ). named (name part)) (sym (c .before .before .match .keys2))
 
 returns-3 : tie.Need-returns-3
 unfolding name names
-returns-3 c = c .named3 .ensures ∙ ap (λ (line : ℕ). named (name line)) (sym (c .before .before .match .keys3))
+returns-3 c = c .named3 .ensures ∙ ap (λ (part : ℕ). named (name part)) (sym (c .before .before .match .keys3))
 
 returns-4 : tie.Need-returns-4
 unfolding name names
-returns-4 c = c .named4 .ensures ∙ ap (λ (line : ℕ). named (name line)) (sym (c .before .before .match .keys4))
+returns-4 c = c .named4 .ensures ∙ ap (λ (part : ℕ). named (name part)) (sym (c .before .before .match .keys4))
 
 returns-5 : tie.Need-returns-5
 unfolding name names
-returns-5 c = c .named5 .ensures ∙ ap (λ (line : ℕ). named (name line)) (sym (c .before .before .match .keys5))
+returns-5 c = c .named5 .ensures ∙ ap (λ (part : ℕ). named (name part)) (sym (c .before .before .match .keys5))
 
 returns-6 : tie.Need-returns-6
 unfolding name names
-returns-6 c = c .named6 .ensures ∙ ap (λ (line : ℕ). named (name line)) (sym (c .before .before .match .keys6))
+returns-6 c = c .named6 .ensures ∙ ap (λ (part : ℕ). named (name part)) (sym (c .before .before .match .keys6))
 
 returns-7 : tie.Need-returns-7
 unfolding name names
-returns-7 c = c .named7 .ensures ∙ ap (λ (line : ℕ). named (name line)) (sym (c .before .before .match .keys7))
+returns-7 c = c .named7 .ensures ∙ ap (λ (part : ℕ). named (name part)) (sym (c .before .before .match .keys7))
 
 returns-8 : tie.Need-returns-8
 unfolding name names
-returns-8 c =
+returns-8 c = c .named8 .ensures ∙ ap (λ (part : ℕ). named (name part)) (sym (c .before .before .match .keys8))
+
+returns-9 : tie.Need-returns-9
+unfolding name names
+returns-9 c = c .named9 .ensures ∙ ap (λ (part : ℕ). named (name part)) (sym (c .before .before .match .keys9))
+
+returns-10 : tie.Need-returns-10
+unfolding name names
+returns-10 c =
     let n = c .before .before .match .rest in
-    c .named8 .ensures
+    c .named10 .ensures
     ∙ ap named
-    (other (c .before .before .before .args .line) (n .0 .0 .0 .0 .0 .0 .1) (n .0 .0 .0 .0 .0 .1) (n .0 .0 .0 .0 .1) (n .0 .0 .0 .1) (n .0 .0 .1) (n .0 .1) (n .1))
+    (other (c .before .before .before .args .part) (n .0 .0 .0 .0 .0 .0 .0 .0 .1) (n .0 .0 .0 .0 .0 .0 .0 .1) (n .0 .0 .0 .0 .0 .0 .1) (n .0 .0 .0 .0 .0 .1) (n .0 .0 .0 .0 .1) (n .0 .0 .0 .1) (n .0 .0 .1) (n .0 .1) (n .1))
 
 pub name-of-spec : {M : Type 1} → statement M
 name-of-spec =
@@ -135,6 +157,10 @@ name-of-spec =
     named-requires-7
     slice-aggregate-named-8
     named-requires-8
+    slice-aggregate-named-9
+    named-requires-9
+    slice-aggregate-named-10
+    named-requires-10
     returns
     returns-2
     returns-3
@@ -142,4 +168,6 @@ name-of-spec =
     returns-5
     returns-6
     returns-7
-    returns-8)
+    returns-8
+    returns-9
+    returns-10)

@@ -11,7 +11,7 @@ returns : tie.Need-returns
 unfolding blank
 returns c =
     let none = c .no-field .ensures in
-    λ j. record { set = 0; key = none j; nonce = none j; ad = none j; text = none j; cipher = none j; tag = none j; rounds = 0 }
+    λ j. record { set = 0; chip = 0; key = none j; nonce = none j; ad = none j; text = none j; cipher = none j; tag = none j; rounds = 0 }
 
 pub no-record-spec : {M : Type 1} → statement M
 no-record-spec = tie.close (tie.spec no-field-requires returns)

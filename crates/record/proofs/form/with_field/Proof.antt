@@ -33,12 +33,12 @@ unfolding withField
 returns-7 c =
     let n = c .match .rest in
     rw (
-      ne-eqb _ 2 (n .0 .0 .0 .0 .0 .1),
-      ne-eqb _ 3 (n .0 .0 .0 .0 .1),
-      ne-eqb _ 4 (n .0 .0 .0 .1),
-      ne-eqb _ 5 (n .0 .0 .1),
-      ne-eqb _ 6 (n .0 .1),
-      ne-eqb _ 7 (n .1),
+      ne-eqb _ 4 (n .0 .0 .0 .0 .0 .1),
+      ne-eqb _ 5 (n .0 .0 .0 .0 .1),
+      ne-eqb _ 6 (n .0 .0 .0 .1),
+      ne-eqb _ 7 (n .0 .0 .1),
+      ne-eqb _ 8 (n .0 .1),
+      ne-eqb _ 9 (n .1),
     )
 
 pub with-field-spec : {M : Type 1} → statement M

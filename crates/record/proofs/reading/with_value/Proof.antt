@@ -7,15 +7,20 @@ use Rattle.record.specs.Calls.{withValue}
 use Rattle.record.proofs.reading.with_value.Statement.{statement}
 use Rattle.record.proofs.reading.with_value.Tie as tie
 
-is-number-requires : tie.Need-is-number-requires
-is-number-requires c κs = search needs
+value-of-requires : tie.Need-value-of-requires
+value-of-requires c κs = search needs
+
+enum-told : tie.Need-enum-told
+enum-told c = search needs
+
+enum-told-2 : tie.Need-enum-told-2
+enum-told-2 c = search needs
 
 with-number-requires : tie.Need-with-number-requires
 with-number-requires c κs = search needs
 
-returns : tie.Need-returns
-unfolding withValue
-returns c = rw (sym (c .before .before .is-number .ensures) ∙ c .before .if1 .taken) (c .with-number .ensures)
+enum-told-3 : tie.Need-enum-told-3
+enum-told-3 c = search needs
 
 read-field-requires : tie.Need-read-field-requires
 read-field-requires c κs = search needs
@@ -23,22 +28,33 @@ read-field-requires c κs = search needs
 with-field-requires : tie.Need-with-field-requires
 with-field-requires c κs = search needs
 
+returns : tie.Need-returns
+unfolding withValue
+returns c = rw (sym (c .before .before .value-of .ensures) ∙ c .enum-told .given .1)
+
 returns-2 : tie.Need-returns-2
 unfolding withValue
-returns-2 c =
+returns-2 c = rw (sym (c .before .before .before .value-of .ensures) ∙ c .before .enum-told2 .given .1) (c .with-number .ensures)
+
+returns-3 : tie.Need-returns-3
+unfolding withValue
+returns-3 c =
     let f = c .before in
-    let e = f .before in
-    let a = e .before .before .before .args in
-    rw (sym (e .before .is-number .ensures) ∙ e .if1 .left)
-    (c .with-field .ensures ∙ ap (λ (g : Field). withField (a .line) g (a .entry)) (f .read-field .ensures))
+    let a = f .before .before .before .before .before .args in
+    rw (sym (f .before .before .before .value-of .ensures) ∙ f .before .enum-told3 .given .1)
+    (c .with-field .ensures ∙ ap (λ (g : Field). withField (a .part) g (a .entry)) (f .read-field .ensures))
 
 pub with-value-spec : {M : Type 1} → statement M
 with-value-spec =
     tie.close
     (tie.spec
-    is-number-requires
+    value-of-requires
+    enum-told
+    enum-told-2
     with-number-requires
-    returns
+    enum-told-3
     read-field-requires
     with-field-requires
-    returns-2)
+    returns
+    returns-2
+    returns-3)

@@ -17,18 +17,18 @@ name-of-requires c κs = search needs
 value-length-requires : tie.Need-value-length-requires
 value-length-requires c κs = c .before .pre
 
--- the parts of the line
+-- the pieces of the line
 parts : (c : tie.After-value-length) → let a = c .before .before .args in
-    (c .before .name-of .result .size ≡ length (name (a .line))) × (length (name (a .line)) ≤ 8) × (c .value-length .result ≡ length (valueText (a .line) (a .entry)))
-    × (length (valueText (a .line) (a .entry)) ≤ 512)
+    (c .before .name-of .result .size ≡ length (name (a .part))) × (length (name (a .part)) ≤ 8) × (c .value-length .result ≡ length (valueText (a .part) (a .entry)))
+    × (length (valueText (a .part) (a .entry)) ≤ 512)
 parts c =
     let n = c .before .name-of in
     let s = c .before .before in
-    let line = s .args .line in (
-      name-of-named line (n .result) (n .ensures) .0,
-      name-sizes line .1,
+    let part = s .args .part in (
+      name-of-named part (n .result) (n .ensures) .0,
+      name-sizes part .1,
       c .value-length .ensures,
-      value-most line (s .pre .1 .0) (s .pre .1 .1) (s .args .entry) (s .pre .0),
+      value-most part (s .args .entry) (s .pre),
     )
 
 add-result : tie.Need-add-result
@@ -41,7 +41,7 @@ returns : tie.Need-returns
 returns c =
     let a = c .before .before .before .args in
     let p = parts (c .before) in
-    omega (arith, p .0, p .2, line-length (a .line) (a .entry))
+    omega (arith, p .0, p .2, line-length (a .part) (a .entry))
 
 pub line-length-spec : {M : Type 1} → statement M
 line-length-spec = tie.close (tie.spec name-of-requires value-length-requires add-result add-result-2 returns)

@@ -55,12 +55,12 @@ put-line-requires c κs = search needs
 same-length : tie.Need-same-length
 same-length c = search needs
 
--- the value put is the line's
-value-put : (c : tie.After-put-value) → let a = entry (named c) .args in take (c .put-value .result) (c .put-value .last .1 .1 .0) ≡ valueText (a .line) (a .entry)
+-- the value put is the part's
+value-put : (c : tie.After-put-value) → let a = entry (named c) .args in take (c .put-value .result) (c .put-value .last .1 .1 .0) ≡ valueText (a .part) (a .entry)
 value-put c =
     let s = entry (named c) in
-    let value = valueText (s .args .line) (s .args .entry) in
-    let whole = put-count value _ _ _ (c .put-value .ensures) (value-most (s .args .line) (s .pre .1 .0) (s .pre .1 .1) (s .args .entry) (s .pre .0)) in
+    let value = valueText (s .args .part) (s .args .entry) in
+    let whole = put-count value _ _ _ (c .put-value .ensures) (value-most (s .args .part) (s .args .entry) (s .pre)) in
     ap₂ take (whole .0) (whole .1) ∙ take-append-seam value _
 
 returns : tie.Need-returns
@@ -70,7 +70,7 @@ returns c =
     let n = named (valued p) in
     let a = entry n .args in
     p .put-line .ensures
-    ∙ ap₂ (λ (x y : List ℕ). put (lineOf x y) (now (a .out))) (name-of-named (a .line) (n .name-of .result) (n .name-of .ensures) .1) (value-put (valued p))
+    ∙ ap₂ (λ (x y : List ℕ). put (lineOf x y) (now (a .out))) (name-of-named (a .part) (n .name-of .result) (n .name-of .ensures) .1) (value-put (valued p))
 
 pub put-line-spec : {M : Type 1} → statement M
 put-line-spec =

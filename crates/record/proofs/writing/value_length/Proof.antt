@@ -13,12 +13,18 @@ use Rattle.record.specs.declared.field.Field.{Field}
 use Rattle.record.specs.Form.{held, isField, numberAt, fieldAt}
 use Rattle.record.specs.Text.{valueText}
 use Rattle.record.proofs.Fields.{held-length}
-use Rattle.record.proofs.Rules.{rule-is-field}
+use Rattle.record.proofs.Rules.{bytes-field}
 use Rattle.record.proofs.writing.value_length.Statement.{statement}
 use Rattle.record.proofs.writing.value_length.Tie as tie
 
-is-number-requires : tie.Need-is-number-requires
-is-number-requires c κs = search needs
+value-of-requires : tie.Need-value-of-requires
+value-of-requires c κs = search needs
+
+enum-told : tie.Need-enum-told
+enum-told c = search needs
+
+enum-told-2 : tie.Need-enum-told-2
+enum-told-2 c = search needs
 
 number-at-requires : tie.Need-number-at-requires
 number-at-requires c κs = search needs
@@ -26,46 +32,56 @@ number-at-requires c κs = search needs
 number-length-requires : tie.Need-number-length-requires
 number-length-requires c κs = search needs
 
-returns : tie.Need-returns
-unfolding valueText
-returns c =
-    let s = c .before .before .before .before in
-    let number = sym (c .before .before .before .is-number .ensures) ∙ c .before .before .if1 .taken in
-    let size = c .number-length .ensures ∙ ap places (c .before .number-at .ensures) in
-    rw number (size ∙ sym (length-numeral (numberAt (s .args .line) (s .args .entry))))
+enum-told-3 : tie.Need-enum-told-3
+enum-told-3 c = search needs
 
 field-at-requires : tie.Need-field-at-requires
 field-at-requires c κs = search needs
 
--- the field of the line holds as many bytes as it says, and at most 256
-sized : (c : tie.After-field-at) → let s = c .before .before .before in
-    (2 * c .field-at .result .size ≡ length (hexOf (held (fieldAt (s .args .line) (s .args .entry))))) × (c .field-at .result .size ≤ 256)
+-- the field of a part of bytes holds as many as it says, and at most 256
+sized : (c : tie.After-field-at) → let s = c .before .before .before .before in
+    (2 * c .field-at .result .size ≡ length (hexOf (held (fieldAt (s .args .part) (s .args .entry))))) × (c .field-at .result .size ≤ 256)
 sized c =
-    let s = c .before .before .before in
+    let s = c .before .before .before .before in
     let f = c .field-at .result in
     let same = c .field-at .ensures .0 in
-    let number = sym (c .before .before .is-number .ensures) ∙ c .before .if1 .left in
-    let in-form = ap isField same ∙ rule-is-field (s .args .line) (s .pre .1 .0) (s .pre .1 .1) number (s .args .entry) (s .pre .0) in
+    let kind = sym (c .before .before .before .value-of .ensures) ∙ c .before .enum-told3 .given .1 in
+    let in-form = ap isField same ∙ bytes-field (s .args .part) (s .args .entry) _ _ _ kind (s .pre) in
     let size = held-length f in-form (c .field-at .ensures .1) in
     (omega (arith, size .0, length-hex Lower (held f)) ∙ ap (λ (g : Field). length (hexOf (held g))) same, size .1)
 
 mul-result : tie.Need-mul-result
 mul-result c = record { fits = omega (arith, sized (c .before) .1) }
 
+returns : tie.Need-returns
+unfolding valueText
+returns c = rw (sym (c .before .before .value-of .ensures) ∙ c .enum-told .given .1)
+
 returns-2 : tie.Need-returns-2
 unfolding valueText
 returns-2 c =
-    let number = sym (c .before .before .before .is-number .ensures) ∙ c .before .before .if1 .left in
-    rw number (sized (c .before) .0)
+    let a = c .before .before .before .before .before .args in
+    let size = c .number-length .ensures ∙ ap places (c .before .number-at .ensures) in
+    rw (sym (c .before .before .before .before .value-of .ensures) ∙ c .before .before .enum-told2 .given .1) (size ∙ sym (length-numeral (numberAt (a .part) (a .entry))))
+
+returns-3 : tie.Need-returns-3
+unfolding valueText
+returns-3 c =
+    let f = c .before in
+    rw (sym (f .before .before .before .value-of .ensures) ∙ f .before .enum-told3 .given .1) (sized f .0)
 
 pub value-length-spec : {M : Type 1} → statement M
 value-length-spec =
     tie.close
     (tie.spec
-    is-number-requires
+    value-of-requires
+    enum-told
+    enum-told-2
     number-at-requires
     number-length-requires
-    returns
+    enum-told-3
     field-at-requires
     mul-result
-    returns-2)
+    returns
+    returns-2
+    returns-3)
