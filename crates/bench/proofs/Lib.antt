@@ -5,4 +5,5 @@ pub mod Views
 pub mod Looks
 pub mod Answers
 pub mod Rooms
+pub mod Words
 pub mod Wrong

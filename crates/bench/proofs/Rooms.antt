@@ -6,7 +6,7 @@ use lib.ListN.{length, replicate, length-replicate}
 use Rattle.digits.specs.Numbers.{places, numeral}
 use Rattle.turns.specs.Tallies.{numbered}
 use Rattle.moving.specs.Moves.{refusedAll}
-use Rattle.bench.specs.Moves.{Places, placeWords, movedWords, Spelled}
+use Rattle.bench.specs.Moves.{Places, recordWords, placeWords, movedWords, Spelled}
 
 -- one byte so many times
 pub places-repeated : (n a : ℕ) → Places n (replicate n a)
@@ -20,5 +20,5 @@ places-length n place p = p
 
 -- the words are spelled so
 pub spelled : Spelled
-unfolding movedWords placeWords numbered numeral places refusedAll
-spelled = record { done = refl; broken = refl; chip = refl }
+unfolding movedWords recordWords placeWords numbered numeral places refusedAll
+spelled = record { done = refl; empty = refl; broken = refl; chip = refl; set = refl }

@@ -1,8 +1,11 @@
 -- The contracts of the program's functions rule out wrong versions.
 use mathlib.Core.Path.{_≡_, sym, ap, _∙_}
 use mathlib.Core.Bool.{true≢false}
+use mathlib.Core.List.{List}
 use native.Mathlib.Omega.{arith}
 use Prim.Native.Nat.{ℕ}
+use base.Fml.{Lft}
+use denote.Ref.{RefT}
 use Rattle.turns.specs.declared.Tally.{Tally}
 use Rattle.bench.specs.declared.progress.Progress.{Progress}
 use Rattle.bench.specs.Wrong.{RuledOut}
@@ -11,14 +14,22 @@ use Rattle.bench.proofs.progress.after_read.Reads as after-read
 use Rattle.bench.proofs.tally.counted.Reads as counted
 use Rattle.bench.proofs.whole.after_read.Reads as read-whole
 use Rattle.bench.proofs.whole.after_write.Reads as write-whole
+use Rattle.bench.proofs.decimal.read.Reads as read-decimal
+use Rattle.bench.proofs.task_of.Reads as task-of
+
+-- a list, lent from some place
+abbrev lent : List ℕ → RefT (List ℕ)
+lent x = record { ptr = (0, 0); name = 0; now = x }
 
 -- each by the contract as the kit reads it off the source
-pub ruled-out : RuledOut (λ count error r. hear.Learnt tt (count, (error, tt)) r (count, (error, tt)))
+pub ruled-out : (one two : Lft) → RuledOut (λ count error r. hear.Learnt tt (count, (error, tt)) r (count, (error, tt)))
     (λ p heard r. after-read.Learnt tt (p, (heard, tt)) r (p, (heard, tt)))
     (λ tally verdict r. counted.Learnt tt (tally, (verdict, tt)) r (tally, (verdict, tt)))
     (λ filled heard r. read-whole.Learnt tt (filled, (heard, tt)) r (filled, (heard, tt)))
     (λ from heard r. write-whole.Learnt tt (from, (heard, tt)) r (from, (heard, tt)))
-ruled-out =
+    (λ text r. read-decimal.Learnt (one, tt) (lent text, tt) r (lent text, tt))
+    (λ words word set r. task-of.Learnt (one, (two, tt)) (words, (lent word, (lent set, tt))) r (words, (lent word, (lent set, tt))))
+ruled-out one two =
     record {
       signal = λ allowed. let z : _≡_ {A = ℕ} 0 1 = cc allowed in omega arith;
       end = λ p allowed ended. true≢false (sym ended ∙ ap (λ (q : Progress). q .ended) allowed);
@@ -28,4 +39,18 @@ ruled-out =
       input-failure = λ filled size allowed. let z : _≡_ {A = ℕ} 0 1 = cc allowed in omega arith;
       input-end = λ filled size allowed. let z : _≡_ {A = ℕ} 0 1 = cc allowed in omega arith;
       output-nothing = λ from allowed. let z : _≡_ {A = ℕ} 0 1 = cc allowed in omega arith;
+      decimal-empty = λ n allowed. let z : _≡_ {A = ℕ} 0 1 = cc allowed in omega arith;
+      decimal-sign = λ n allowed. let z : _≡_ {A = ℕ} 0 1 = cc allowed in omega arith;
+      decimal-large = λ n allowed. let z : _≡_ {A = ℕ} 0 1 = cc allowed in omega arith;
+      decimal-largest = λ allowed. let z : _≡_ {A = ℕ} 0 1 = cc allowed in omega arith;
+      decimal-zeros = λ allowed. let z : _≡_ {A = ℕ} 0 1 = cc allowed in omega arith;
+      decimal-order = λ allowed. let z : _≡_ {A = ℕ} 21 12 = cc allowed in omega arith;
+      task-set = λ allowed. let z : _≡_ {A = ℕ} 2 1 = cc allowed in omega arith;
+      task-way = λ allowed. let z : _≡_ {A = ℕ} 0 1 = cc allowed in omega arith;
+      task-alone = λ route allowed. let z : _≡_ {A = ℕ} 0 1 = cc allowed in omega arith;
+      task-large = λ route allowed. let z : _≡_ {A = ℕ} 0 1 = cc allowed in omega arith;
+      task-more = λ route allowed. let z : _≡_ {A = ℕ} 0 1 = cc allowed in omega arith;
+      task-other = λ route allowed. let z : _≡_ {A = ℕ} 0 1 = cc allowed in omega arith;
+      task-unknown = λ allowed. let z : _≡_ {A = ℕ} 0 1 = cc allowed in omega arith;
+      task-judge = λ allowed. let z : _≡_ {A = ℕ} 0 1 = cc allowed in omega arith;
     }

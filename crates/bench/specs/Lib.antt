@@ -3,5 +3,6 @@ pub mod Lines
 pub mod Progress
 pub mod Whole
 pub mod Moves
+pub mod Decimal
 pub mod Tasks
 pub mod Wrong

@@ -6,8 +6,8 @@ use mathlib.Core.Path.{_≡_}
 use Prim.Native.Nat.{ℕ, _+_, _≤_}
 use lib.Dec.{eqb}
 use lib.ListN.{length, take}
-use Rattle.record.specs.declared.form.Form.{Form}
-use Rattle.moving.specs.Moves.{AllLeaves, moveAllCall}
+use Rattle.moving.specs.declared.route.Route.{Route}
+use Rattle.moving.specs.Moves.{moveAllCall}
 use Rattle.turns.specs.Tallies.{largest}
 use Rattle.turns.specs.Run as run
 use Rattle.turns.specs.Run.{Reply}
@@ -66,11 +66,11 @@ abbrev pub carryLeaves : Carried → List ℕ → CarryLeaves
 carryLeaves ended out = record { ended = ended; out = out }
 
 -- all that was read is moved, if that was all of the input; else the output is left as it was
-abbrev pub carriedBy : Form → List ℕ → Input → List ℕ → CarryLeaves
-carriedBy to content (input.Part filled) out = carryLeaves carried.Endless out
-carriedBy to content (input.Whole size) out = let leaves = moveAllCall to content out in carryLeaves (carried.Moved (leaves .outcome)) (leaves .out)
-carriedBy to content input.TooLong out = carryLeaves carried.TooLong out
-carriedBy to content input.Failed out = carryLeaves carried.Unread out
+abbrev pub carriedBy : Route → List ℕ → Input → List ℕ → CarryLeaves
+carriedBy route content (input.Part filled) out = carryLeaves carried.Endless out
+carriedBy route content (input.Whole size) out = let leaves = moveAllCall route content out in carryLeaves (carried.Moved (leaves .outcome)) (leaves .out)
+carriedBy route content input.TooLong out = carryLeaves carried.TooLong out
+carriedBy route content input.Failed out = carryLeaves carried.Unread out
 
 -- ---- writing
 
@@ -137,9 +137,9 @@ pub record ReadAll (before : List ℕ) (r : Input) (after : List ℕ) : Type 0 w
   pub over : (isPart r ≡ false) ⊎ (length replies ≡ largest)
 
 -- what some answers delivered was moved, or not, by how the reading ended
-pub record Carries (to : Form) (place : List ℕ) (r : Carried) (before after : List ℕ) : Type 0 where
+pub record Carries (route : Route) (place : List ℕ) (r : Carried) (before after : List ℕ) : Type 0 where
   pub replies : List Reply
-  pub is : let g = readOn (length place) nothing replies in carryLeaves r after ≡ carriedBy to (g .content) (g .input) before
+  pub is : let g = readOn (length place) nothing replies in carryLeaves r after ≡ carriedBy route (g .content) (g .input) before
   pub over : (r ≡ carried.Endless → ⊥) ⊎ (length replies ≡ largest)
 
 -- one answer to a write

@@ -1,8 +1,12 @@
 -- Wrong versions of the program's functions, each told by one input: what its contracts do not allow.
 use mathlib.Core.Bool.{true}
+use mathlib.Core.List.{List, []}
 use mathlib.Core.Path.{_≡_}
 use Prim.Native.Nat.{ℕ}
 use lib.IntN.{ℤ, pos, negsuc}
+use Rattle.digits.specs.Ascii.{ascii}
+use Rattle.moving.specs.declared.route.Route.{Route}
+use Rattle.moving.specs.declared.route.Route.the-variants.{Import, Export}
 use Rattle.report.specs.declared.Verdict.{Verdict}
 use Rattle.report.specs.declared.Verdict.the-variants.{Tag, Unread}
 use Rattle.turns.specs.declared.Stage.the-variants.{Close}
@@ -15,13 +19,18 @@ use Rattle.bench.specs.declared.whole.Input.{Input}
 use Rattle.bench.specs.declared.whole.Input.the-variants as input
 use Rattle.bench.specs.declared.whole.Output.{Output}
 use Rattle.bench.specs.declared.whole.Output.the-variants as output
+use Rattle.bench.specs.declared.decimal.Decimal.{Decimal}
+use Rattle.bench.specs.declared.decimal.Decimal.the-variants.{Number, NoNumber}
+use Rattle.bench.specs.declared.Task.{Task}
+use Rattle.bench.specs.declared.Task.the-variants.{Judge, Move, Unknown}
 use Rattle.bench.specs.Progress.{fresh}
 
--- of the results that contracts allow: of hearing a raw answer, of an answer to a read, of counting a verdict; and, where all of the input is read first, of an answer to
--- a read and to a write
+-- of the results that contracts allow: of hearing a raw answer, of an answer to a read, of counting a verdict; where all of the input is read first, of an answer to a
+-- read and to a write; of reading a decimal, and of the program's words
 pub record RuledOut
     (hears : ℤ → ℤ → Heard → Type 0) (reads : Progress → Heard → Progress → Type 0) (counts : Tally → Verdict → Tally → Type 0)
     (inputs : ℕ → Heard → Input → Type 0) (outputs : ℕ → Heard → Output → Type 0)
+    (decimals : List ℕ → Decimal → Type 0) (tasks : ℕ → List ℕ → List ℕ → Task → Type 0)
     : Type 0 where
   -- a call that failed with another error than a signal's is not tried again
   pub signal : hears (negsuc 0) (pos 5) Again → ⊥
@@ -38,3 +47,25 @@ pub record RuledOut
   pub input-end : (filled size : ℕ) → inputs filled (Moved 1) (input.Whole size) → ⊥
   -- a write that took no byte is not tried again
   pub output-nothing : (from : ℕ) → outputs from (Moved 0) (output.Part from) → ⊥
+  -- an empty word is no number, nor is one with a sign, nor one with more than 64 bits
+  pub decimal-empty : (n : ℕ) → decimals [] (Number n) → ⊥
+  pub decimal-sign : (n : ℕ) → decimals (ascii "+1") (Number n) → ⊥
+  pub decimal-large : (n : ℕ) → decimals (ascii "18446744073709551616") (Number n) → ⊥
+  -- but the largest of 64 bits is one, also behind needless zeros
+  pub decimal-largest : decimals (ascii "18446744073709551615") NoNumber → ⊥
+  pub decimal-zeros : decimals (ascii "00018446744073709551615") NoNumber → ⊥
+  -- its digits are not read from right to left
+  pub decimal-order : decimals (ascii "12") (Number 21) → ⊥
+  -- a set is not taken for another, nor one way for the other
+  pub task-set : tasks 3 (ascii "import") (ascii "1") (Move (Import 2)) → ⊥
+  pub task-way : tasks 3 (ascii "import") (ascii "1") (Move Export) → ⊥
+  -- without a set, with one that is too large, or with another word behind the set, nothing is moved
+  pub task-alone : (route : Route) → tasks 2 (ascii "import") [] (Move route) → ⊥
+  pub task-large : (route : Route) → tasks 3 (ascii "import") (ascii "18446744073709551616") (Move route) → ⊥
+  pub task-more : (route : Route) → tasks 4 (ascii "import") (ascii "1") (Move route) → ⊥
+  -- nor with a set behind another word
+  pub task-other : (route : Route) → tasks 3 (ascii "export") (ascii "1") (Move route) → ⊥
+  -- a set that is not known is one for the moving to refuse, and no unknown word
+  pub task-unknown : tasks 3 (ascii "import") (ascii "5") Unknown → ⊥
+  -- a word that is not known is not judging
+  pub task-judge : tasks 2 (ascii "imports") [] Judge → ⊥

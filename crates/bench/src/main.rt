@@ -1,6 +1,8 @@
 // The bench. Without a word: judges the records that stand one after another on standard input, writes three lines on each to standard output, and at its proper end says on
 // standard error where the unread record broke, if there is one, and how many it judged, and how. What fails is said there in its place; a record that a failed read
-// cut off gets no report. With the word `forward` or `back`: moves the records to form 2 or to form 1, and writes all of them to standard output, or nothing.
+// cut off gets no report. With the word `forward`, `back` or `export`, or with `import` and a set: moves all records from one kind of text to another, and writes all of
+// them to standard output, or nothing.
+mod decimal;
 mod moves;
 mod progress;
 mod tally;
@@ -15,11 +17,12 @@ ghost use Rattle.turns.specs.Tallies.{recordsOf, largest};
 ghost use Rattle.turns.specs.Run.{judged};
 ghost use Rattle.bench.specs.Progress.{movedBy, Sound, view, More, Less, Closed};
 ghost use Rattle.turns.specs.Laws.{OneAnswer, Turned, Ran};
-ghost use Rattle.bench.specs.Tasks.{taskOf};
+ghost use Rattle.bench.specs.Tasks.{wordTask, setTask, taskOf};
+use decimal::Decimal;
 use libc::STDIN_FILENO;
+use moving::Route;
 use progress::Heard;
 use progress::Progress;
-use record::Form;
 use turns::Ending;
 use turns::Stage;
 use turns::Tally;
@@ -204,26 +207,51 @@ fn explain(stage: Stage) {
 // What the program is asked to do.
 pub enum Task {
     Judge,
-    Forward,
-    Back,
+    Move(Route),
     Unknown,
 }
 
-// The task that so many words name, of which the first is the program's own and this is the second.
-fn task_of(words: usize, word: &[u8]) -> Task
-    ensures { λ r. ⌜ r ≡ taskOf words (now (word .entry)) ⌝ }
+// The task that one word names.
+fn word_task(word: &[u8]) -> Task
+    ensures { λ r. ⌜ r ≡ wordTask (now (word .entry)) ⌝ }
+{
+    if check::same(word, b"forward") {
+        return Task::Move(Route::Forward);
+    }
+    if check::same(word, b"back") {
+        return Task::Move(Route::Back);
+    }
+    if check::same(word, b"export") {
+        return Task::Move(Route::Export);
+    }
+    Task::Unknown
+}
+
+// The task that a word and a set behind it name.
+fn set_task(word: &[u8], set: &[u8]) -> Task
+    ensures { λ r. ⌜ r ≡ setTask (now (word .entry)) (now (set .entry)) ⌝ }
+{
+    if !check::same(word, b"import") {
+        return Task::Unknown;
+    }
+    match decimal::read(set) {
+        Decimal::Number(number) => Task::Move(Route::Import(number)),
+        Decimal::NoNumber => Task::Unknown,
+    }
+}
+
+// The task that so many words name, of which the first is the program's own, and these are the second and the third.
+fn task_of(words: usize, word: &[u8], set: &[u8]) -> Task
+    ensures { λ r. ⌜ r ≡ taskOf words (now (word .entry)) (now (set .entry)) ⌝ }
 {
     if words <= 1 {
         return Task::Judge;
     }
-    if words != 2 {
-        return Task::Unknown;
+    if words == 2 {
+        return word_task(word);
     }
-    if check::same(word, b"forward") {
-        return Task::Forward;
-    }
-    if check::same(word, b"back") {
-        return Task::Back;
+    if words == 3 {
+        return set_task(word, set);
     }
     Task::Unknown
 }
@@ -237,13 +265,15 @@ fn judge_all() {
     explain(stage);
 }
 
+// Does what the program's words ask. A word that is too long for its place comes as an empty one, which names no task and spells no number.
 fn main() {
     let mut word = [0; 16];
-    let size = os::arg(1, &mut word);
-    match task_of(os::arg_count(), &word[..size]) {
+    let mut set = [0; 32];
+    let word_size = os::arg(1, &mut word);
+    let set_size = os::arg(2, &mut set);
+    match task_of(os::arg_count(), &word[..word_size], &set[..set_size]) {
         Task::Judge => judge_all(),
-        Task::Forward => moves::carry(Form::Two),
-        Task::Back => moves::carry(Form::One),
+        Task::Move(route) => moves::carry(route),
         Task::Unknown => {
             io::write_all(libc::STDERR_FILENO, b"bench: unknown task\n");
         }

@@ -1,20 +1,20 @@
-// Moving all records on standard input to a form, and saying how that ended.
+// Moving all records on standard input from one kind of text to another, and saying how that ended.
 ghost use Prim.Native.Nat.{_≤_};
 ghost use lib.ListN.{length};
 ghost use Rattle.bench.specs.Lines.{Follows};
-ghost use Rattle.bench.specs.Moves.{Places, writtenIn, placeWords, movedWords};
+ghost use Rattle.bench.specs.Moves.{Places, writtenIn, recordWords, placeWords, movedWords};
 ghost use Rattle.bench.specs.Whole.{Carries};
 use crate::tally;
 use crate::whole;
 use crate::whole::Input;
 use crate::whole::Output;
 use moving::MovingAll;
-use record::Form;
+use moving::Route;
 
 // The bytes of the place for the input: those that may come, and one more, so that the end is seen.
 const HELD: usize = 1048577;
 
-// The bytes of the place for the records in the new form: twice as many, which is always enough.
+// The bytes of the place for the new text: twice as many, which is always enough.
 const ROOM: usize = 2097154;
 
 // The place for the input.
@@ -24,7 +24,7 @@ fn input_place() -> [u8; HELD]
     [0; HELD]
 }
 
-// The place for the records in the new form.
+// The place for the new text.
 fn output_place() -> [u8; ROOM]
     ensures { λ r. ⌜ Places 2097154 r ⌝ }
 {
@@ -37,6 +37,19 @@ pub enum Carried {
     TooLong,
     Unread,
     Endless,
+}
+
+// Puts the number of the record that is refused, if there is one, straight behind the first `at` bytes of a place that has room for it, and gives where it ends.
+fn put_record(at: usize, moved: MovingAll, out: &mut [u8]) -> usize
+    requires { ⌜ at ≤ 64 ⌝ }
+    requires { ⌜ 256 ≤ length (now out) ⌝ }
+    ensures { λ r. ⌜ Follows at (recordWords moved) r (now (out .entry)) (now (out .exit)) ⌝ }
+    ensures { λ r. ⌜ r ≤ 128 ⌝ }
+{
+    if moved.records == 0 {
+        return tally::put_piece(at, b"", out);
+    }
+    tally::put_numbered(at, b" record=", moved.records, out)
 }
 
 // Puts the line and column of a refusal, if it has any, straight behind the first `at` bytes of a place that has room for them, and gives where they end.
@@ -64,7 +77,7 @@ fn put_words(moved: MovingAll, out: &mut [u8]) -> usize
         return tally::put_piece(next, b"\n", out);
     }
     let one = tally::put_numbered(0, b"bench: refused: answer=", answers::number(answer), out);
-    let two = tally::put_numbered(one, b" record=", moved.records, out);
+    let two = put_record(one, moved, out);
     let three = put_place(two, moved, out);
     tally::put_piece(three, b"\n", out)
 }
@@ -91,24 +104,24 @@ fn hand_out(moved: MovingAll, text: &[u8])
     os::fail(b"bench: writing failed");
 }
 
-// Reads all of standard input into a place, and moves its records to a form, from the other, into the output.
-fn move_input(to: Form, place: &mut [u8], out: &mut [u8]) -> Carried
-    ensures { λ r. ⌜ Carries to (now (place .entry)) r (now (out .entry)) (now (out .exit)) ⌝ }
+// Reads all of standard input into a place, and moves its records on a route into the output.
+fn move_input(route: Route, place: &mut [u8], out: &mut [u8]) -> Carried
+    ensures { λ r. ⌜ Carries route (now (place .entry)) r (now (out .entry)) (now (out .exit)) ⌝ }
     ensures { λ r. ⌜ writtenIn r ≤ length (now (out .exit)) ⌝ }
 {
     match whole::read_all(&mut *place) {
-        Input::Whole(size) => Carried::Moved(moving::move_all(to, &place[..size], out)),
+        Input::Whole(size) => Carried::Moved(moving::move_all(route, &place[..size], out)),
         Input::TooLong => Carried::TooLong,
         Input::Failed => Carried::Unread,
         Input::Part(_) => Carried::Endless,
     }
 }
 
-// Moves all records on standard input to a form, and says how that ended.
-pub(crate) fn carry(to: Form) {
+// Moves all records on standard input on a route, and says how that ended.
+pub(crate) fn carry(route: Route) {
     let mut text = input_place();
     let mut out = output_place();
-    match move_input(to, &mut text, &mut out) {
+    match move_input(route, &mut text, &mut out) {
         Carried::Moved(moved) => hand_out(moved, &out),
         Carried::TooLong => {
             io::write_all(

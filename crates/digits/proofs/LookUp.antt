@@ -16,7 +16,7 @@ use Rattle.digits.specs.LookUp.{noDigits, digitRows, digitRow, entryOf, 
 -- ---- rows
 
 -- a number that is none of those below n is n or more
-past : (n row : ℕ) → noneBelow n row → n ≤ row
+pub past : (n row : ℕ) → noneBelow n row → n ≤ row
 past zero row h = omega arith
 past (suc n) row (h, other) = omega (arith, past n row h, other)
 

@@ -1,7 +1,7 @@
 -- Hex digits and bytes: each reading undoes its writing, and the other way round.
 use mathlib.Core.Path.{_≡_, refl, sym, ap}
 use mathlib.Core.Bool.{Bool, true, false, cond, _&&_, false≢true}
-use mathlib.Core.List.{List, [], _∷_}
+use mathlib.Core.List.{List, [], _∷_, _++_}
 use mathlib.Core.Option.{Option, some, none, Option·none-ne-some, Option·some-injective}
 use Prim.Native.Nat.{ℕ, _+_, _-_, _*_, _/_, _%_, _≤_, _<_}
 use native.Mathlib.Omega.{arith}
@@ -13,7 +13,7 @@ use Rattle.digits.specs.declared.hex.Case.{Case}
 use Rattle.digits.specs.declared.hex.Case.the-variants.{Lower, Upper}
 use Rattle.digits.specs.declared.hex.Digit.{Digit}
 use Rattle.digits.specs.declared.hex.Digit.the-variants.{Value, NoDigit}
-use Rattle.digits.specs.Hex.{within, letterA, digitIn, digitOf, pairOf, andThen, fromHex, hexDigitIn, hexIn, hexOf, allDigits}
+use Rattle.digits.specs.Hex.{within, letterA, digitIn, pairOf, andThen, fromHexIn, hexDigitIn, hexIn, allDigits}
 
 -- ---- tests
 
@@ -74,26 +74,26 @@ spelled-digit case v h = go (letterA case) (letters-behind case) (ltb v 10) refl
 -- ---- bytes
 
 -- the digits of bytes are read as these bytes
-pub bytes-hex : (x : List ℕ) → areBytes x ≡ true → fromHex (hexOf x) ≡ some x
-bytes-hex [] e = refl
-bytes-hex (b ∷ x) e =
+pub bytes-hex : (case : Case) (x : List ℕ) → areBytes x ≡ true → fromHexIn case (hexIn case x) ≡ some x
+bytes-hex case [] e = refl
+bytes-hex case (b ∷ x) e =
     let t = and-both (ltb b 256) _ e in
     let l : b < 256 = ltb-true b 256 (t .0) in
-    rw (spelled-digit Lower (b / 16) (omega arith), spelled-digit Lower (b % 16) (omega arith), bytes-hex x (t .1))
+    rw (spelled-digit case (b / 16) (omega arith), spelled-digit case (b % 16) (omega arith), bytes-hex case x (t .1))
     (ap (λ (c : ℕ). some (c ∷ x)) (omega arith))
 
 -- what a text is read as are bytes, and their digits are this text
-pub hex-bytes : (text x : List ℕ) → fromHex text ≡ some x → (hexOf x ≡ text) × (areBytes x ≡ true)
-hex-bytes [] x e = let f : x ≡ [] = sym (Option·some-injective [] x e) in rw f (refl, refl)
-hex-bytes (one ∷ []) x e = absurd (Option·none-ne-some x e)
-hex-bytes (high ∷ low ∷ text) x e = go (digitOf high) (digitOf low) (fromHex text) refl refl refl e (hex-bytes text)
+pub hex-bytes : (case : Case) (text x : List ℕ) → fromHexIn case text ≡ some x → (hexIn case x ≡ text) × (areBytes x ≡ true)
+hex-bytes case [] x e = let f : x ≡ [] = sym (Option·some-injective [] x e) in rw f (refl, refl)
+hex-bytes case (one ∷ []) x e = absurd (Option·none-ne-some x e)
+hex-bytes case (high ∷ low ∷ text) x e = go (digitIn case high) (digitIn case low) (fromHexIn case text) refl refl refl e (hex-bytes case text)
   where
-    go : (p q : Digit) (r : Option (List ℕ)) → digitOf high ≡ p → digitOf low ≡ q → fromHex text ≡ r → andThen (pairOf p q) r ≡ some x
-        → ((y : List ℕ) → fromHex text ≡ some y → (hexOf y ≡ text) × (areBytes y ≡ true))
-        → (hexOf x ≡ high ∷ low ∷ text) × (areBytes x ≡ true)
+    go : (p q : Digit) (r : Option (List ℕ)) → digitIn case high ≡ p → digitIn case low ≡ q → fromHexIn case text ≡ r → andThen (pairOf p q) r ≡ some x
+        → ((y : List ℕ) → fromHexIn case text ≡ some y → (hexIn case y ≡ text) × (areBytes y ≡ true))
+        → (hexIn case x ≡ high ∷ low ∷ text) × (areBytes x ≡ true)
     go (Value a) (Value b) (some y) f g h e rest =
-        let s = digit-spells Lower high a f in
-        let t = digit-spells Lower low b g in
+        let s = digit-spells case high a f in
+        let t = digit-spells case low b g in
         let u = rest y h in
         let i : (16 * a + b) / 16 ≡ a = omega arith in
         let j : (16 * a + b) % 16 ≡ b = omega arith in
@@ -115,3 +115,8 @@ digits-hex case (b ∷ x) e =
     let t = and-both (ltb b 256) _ e in
     let l : b < 256 = ltb-true b 256 (t .0) in
     rw (spelled-digit case (b / 16) (omega arith), spelled-digit case (b % 16) (omega arith)) (digits-hex case x (t .1))
+
+-- the digits of bytes behind bytes stand behind theirs
+pub hex-append : (case : Case) (x y : List ℕ) → hexIn case (x ++ y) ≡ hexIn case x ++ hexIn case y
+hex-append case [] y = refl
+hex-append case (b ∷ x) y = ap (λ (digits : List ℕ). hexDigitIn case (b / 16) ∷ hexDigitIn case (b % 16) ∷ digits) (hex-append case x y)

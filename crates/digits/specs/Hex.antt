@@ -50,10 +50,10 @@ andThen BadFirst x = none
 andThen BadSecond x = none
 
 -- the bytes of a text of digits
-abbrev pub fromHex : List ℕ → Option (List ℕ)
-fromHex [] = some []
-fromHex (one ∷ []) = none
-fromHex (high ∷ low ∷ text) = andThen (pairOf (digitOf high) (digitOf low)) (fromHex text)
+abbrev pub fromHexIn : Case → List ℕ → Option (List ℕ)
+fromHexIn case [] = some []
+fromHexIn case (one ∷ []) = none
+fromHexIn case (high ∷ low ∷ text) = andThen (pairOf (digitIn case high) (digitIn case low)) (fromHexIn case text)
 
 -- ---- writing
 
@@ -65,13 +65,6 @@ hexDigitIn case value = cond (ltb value 10) (0x30 + value) (letterA case - 10 + 
 abbrev pub hexIn : Case → List ℕ → List ℕ
 hexIn case [] = []
 hexIn case (b ∷ x) = hexDigitIn case (b / 16) ∷ hexDigitIn case (b % 16) ∷ hexIn case x
-
--- both in lower case
-abbrev pub hexDigit : ℕ → ℕ
-hexDigit value = hexDigitIn Lower value
-
-abbrev pub hexOf : List ℕ → List ℕ
-hexOf x = hexIn Lower x
 
 -- ---- both
 

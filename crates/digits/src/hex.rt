@@ -1,7 +1,8 @@
-// Hex digits: one, in lower or upper case; a pair, and bytes, in lower case.
+// Hex digits, in lower or upper case: one, a pair, and bytes.
 ghost use mathlib.Core.Path.{_≡_};
 ghost use Prim.Native.Nat.{_<_};
-ghost use Rattle.digits.specs.Hex.{digitIn, digitOf, isValue, pairOf, hexDigit, hexOf};
+ghost use Rattle.digits.specs.declared.hex.Case.the-variants.{Upper};
+ghost use Rattle.digits.specs.Hex.{letterA, digitIn, digitOf, isValue, pairOf, hexDigitIn, hexIn};
 ghost use Rattle.digits.specs.LookUp.{digitRow, entryOf, noneBelow};
 ghost use Rattle.digits.specs.Room.{laid, put};
 
@@ -106,12 +107,36 @@ pub fn is_digit(case: Case, character: u8) -> bool
     }
 }
 
-// The byte of two digits, the high one first; or which of them is at fault.
-pub fn read_pair(high: u8, low: u8) -> Pair
-    ensures { λ r. ⌜ r ≡ pairOf (digitOf high) (digitOf low) ⌝ }
+// The value of a digit, its letter in upper case.
+fn read_upper(character: u8) -> Digit
+    ensures { λ r. ⌜ r ≡ digitIn Upper character ⌝ }
 {
-    let first = read_digit(high);
-    let second = read_digit(low);
+    let entry = entry_of(character);
+    if entry < 10 {
+        return Digit::Value(entry);
+    }
+    if entry / 16 == 1 {
+        return Digit::Value(entry - 16);
+    }
+    Digit::NoDigit
+}
+
+// The value of a digit, its letter in the case asked for.
+fn digit_in(case: Case, character: u8) -> Digit
+    ensures { λ r. ⌜ r ≡ digitIn case character ⌝ }
+{
+    match case {
+        Case::Lower => read_digit(character),
+        Case::Upper => read_upper(character),
+    }
+}
+
+// The byte of two digits, the high one first; or which of them is at fault.
+pub fn read_pair(case: Case, high: u8, low: u8) -> Pair
+    ensures { λ r. ⌜ r ≡ pairOf (digitIn case high) (digitIn case low) ⌝ }
+{
+    let first = digit_in(case, high);
+    let second = digit_in(case, low);
     match first {
         Digit::Value(h) => match second {
             Digit::Value(l) => Pair::Byte(16 * h + l),
@@ -121,28 +146,38 @@ pub fn read_pair(high: u8, low: u8) -> Pair
     }
 }
 
+// The letter of ten.
+fn letter_a(case: Case) -> u8
+    ensures { λ r. ⌜ r ≡ letterA case ⌝ }
+{
+    match case {
+        Case::Lower => b'a',
+        Case::Upper => b'A',
+    }
+}
+
 // The digit of a value below 16.
-fn spelled(value: u8) -> u8
+fn spelled(case: Case, value: u8) -> u8
     requires { ⌜ value < 16 ⌝ }
-    ensures { λ r. ⌜ r ≡ hexDigit value ⌝ }
+    ensures { λ r. ⌜ r ≡ hexDigitIn case value ⌝ }
 {
     if value < 10 {
         return b'0' + value;
     }
-    b'a' - 10 + value
+    letter_a(case) - 10 + value
 }
 
 // Puts bytes at the beginning of a place, two digits each, and gives how many digits; a place too short for them stays as it is, and the number is 0.
-pub fn put_bytes(bytes: &[u8], out: &mut [u8]) -> usize
-    ensures { λ r. ⌜ laid r (now (out .exit)) ≡ put (hexOf (now (bytes .entry))) (now (out .entry)) ⌝ }
+pub fn put_bytes(case: Case, bytes: &[u8], out: &mut [u8]) -> usize
+    ensures { λ r. ⌜ laid r (now (out .exit)) ≡ put (hexIn case (now (bytes .entry))) (now (out .entry)) ⌝ }
 {
     if out.len() / 2 < bytes.len() {
         return 0;
     }
     let mut i = 0;
     while i < bytes.len() {
-        out[2 * i] = spelled(bytes[i] / 16);
-        out[2 * i + 1] = spelled(bytes[i] % 16);
+        out[2 * i] = spelled(case, bytes[i] / 16);
+        out[2 * i + 1] = spelled(case, bytes[i] % 16);
         i += 1;
     }
     2 * bytes.len()

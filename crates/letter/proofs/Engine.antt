@@ -25,6 +25,7 @@ every-call =
       sets-between = answered (λ M. sets.between.Met.met) (λ κ a. tt) (λ κ a r e p. p);
       sets-rounds-between = answered (λ M. sets.rounds_between.Met.met) (λ κ a. tt) (λ κ a r e p. p);
       sets-first-word = answered (λ M. sets.first_word.Met.met) (λ κ a. tt) (λ κ a r e p. p);
+      sets-message-rounds = answered (λ M. sets.message_rounds.Met.met) (λ κ a. tt) (λ κ a r e p. p);
       sponge-start = answered (λ M. sponge.start.Met.met) (λ κ a. tt) (λ κ a r e p. p);
       sponge-absorb = answered (λ M. sponge.absorb.Met.met) (λ κ a. tt) (λ κ a r e p. p);
       sponge-crypt = answered (λ M. sponge.crypt.Met.met) (λ κ a. tt) (λ κ a r e p. p);

@@ -16,7 +16,9 @@ use Rattle.record.proofs.Laws.{reads-and-writes}
 use Rattle.record.proofs.TwoForms.{two-forms}
 use Rattle.record.proofs.Any.{reads-any}
 use Rattle.moving.proofs.Known as moving-crate
+use Rattle.entry.proofs.Laws.{entries}
 use Rattle.moving.proofs.Laws.{moves}
+use Rattle.moving.proofs.Published.{published}
 use Rattle.judge.proofs.Laws.{judges}
 use Rattle.turns.proofs.Runs.{whole-reports}
 use Rattle.letter.specs.Model.{Reported}
@@ -49,7 +51,9 @@ letter =
       records = reads-and-writes;
       two-forms = two-forms;
       any-form = reads-any;
+      entries = entries;
       moving = moves;
+      published = published;
       known-movings = moving-crate.known;
       known-records = record-crate.known;
       judging = judges;

@@ -5,6 +5,7 @@ use Rattle.letter.proofs.Engine as engine
 use Rattle.letter.proofs.Messages as messages
 use Rattle.letter.proofs.Streams as streams
 use Rattle.letter.proofs.Records as records
+use Rattle.letter.proofs.Entries as entries
 use Rattle.letter.proofs.Moving as moving
 use Rattle.letter.proofs.Judging as judging
 
@@ -17,6 +18,7 @@ is-ours m k =
       messages = messages.is-ours (m .messages) (k .messages) j;
       streams = streams.is-ours (m .streams) (k .streams) j;
       records = records.is-ours (m .records) (k .records) j;
+      entries = entries.is-ours (m .entries) (k .entries) j;
       moving = moving.is-ours (m .moving) (k .moving) j;
       judging = judging.is-ours (m .judging) (k .judging) j;
     }
@@ -27,21 +29,21 @@ of-kept Says s m k = subst Says (sym (is-ours m k)) s
 
 -- ours keeps them
 pub keeps : Keeps ours
-keeps = record { messages = messages.keeps; streams = streams.keeps; records = records.keeps; moving = moving.keeps; judging = judging.keeps }
+keeps = record { messages = messages.keeps; streams = streams.keeps; records = records.keeps; entries = entries.keeps; moving = moving.keeps; judging = judging.keeps }
 
 -- ---- what is said of them
 
 -- every public call is answered
 pub every-call : EveryCall
-every-call = record { engine = engine.every-call; messages = messages.every-call; streams = streams.every-call; records = records.every-call; moving = moving.every-call; judging = judging.every-call }
+every-call = record { engine = engine.every-call; messages = messages.every-call; streams = streams.every-call; records = records.every-call; entries = entries.every-call; moving = moving.every-call; judging = judging.every-call }
 
 -- each answer is listed
 pub listed : Listed ours
-listed = record { messages = messages.listed; streams = streams.listed; records = records.listed; moving = moving.listed; judging = judging.listed }
+listed = record { messages = messages.listed; streams = streams.listed; records = records.listed; entries = entries.listed; moving = moving.listed; judging = judging.listed }
 
 -- each refusal changes nothing
 pub unchanged : Unchanged ours
-unchanged = record { messages = messages.unchanged; streams = streams.unchanged; records = records.unchanged; moving = moving.unchanged; judging = judging.unchanged }
+unchanged = record { messages = messages.unchanged; streams = streams.unchanged; records = records.unchanged; entries = entries.unchanged; moving = moving.unchanged; judging = judging.unchanged }
 
 -- save one
 pub mismatch : Mismatch ours
@@ -49,4 +51,4 @@ mismatch = record { messages = messages.mismatch; streams = streams.mismatch }
 
 -- what each call reports and leaves
 pub reported : Reported ours
-reported = record { messages = messages.reported; streams = streams.reported; records = records.reported; moving = moving.reported; judging = judging.reported }
+reported = record { messages = messages.reported; streams = streams.reported; records = records.reported; entries = entries.reported; moving = moving.reported; judging = judging.reported }

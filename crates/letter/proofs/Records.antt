@@ -17,7 +17,7 @@ use Rattle.record.specs.declared.form.Record.{Record}
 use Rattle.record.specs.declared.reading.Reading.{Reading}
 use Rattle.record.specs.Form.{broken, losesChip}
 use Rattle.record.specs.Text.{textOf}
-use Rattle.record.specs.Calls.{refusedAt, readAs, readCall, formOf, insideMark, readAny, WriteLeaves, writeLeaves, refusedWith, writeFaults, writeCall}
+use Rattle.record.specs.Calls.{refusedAt, readAs, readCall, formOf, insideMark, readAny, WriteLeaves, writeLeaves, refusedWith, writeFaults, writeAs, writeCall}
 use Rattle.record.proofs.Laws.{reads-and-writes, taken-inside}
 use Rattle.record.proofs.Any.{reads-any}
 use Rattle.digits.proofs as digits
@@ -64,6 +64,7 @@ every-call =
       lines-advance = answered (λ M. lines.advance.Met.met) (λ κ a. tt) (λ κ a r e p. p);
       lines-read = answered (λ M. lines.read.Met.met) (λ κ a. tt) (λ κ a r e p. p);
       lines-either = answered (λ M. lines.either.Met.met) (λ κ a. tt) (λ κ a r e p. p);
+      record-read-field = answered (λ M. record-crate.read_field.Met.met) (λ κ a. tt) (λ κ a r e p. p);
       record-first-broken = answered (λ M. record-crate.first_broken.Met.met) (λ κ a. tt) (λ κ a r e p. p);
       record-read = answered (λ M. record-crate.read.Met.met) (λ κ a. tt) (λ κ a r e p. p);
       record-read-any = answered (λ M. record-crate.read_any.Met.met) (λ κ a. tt) (λ κ a r e p. p);
@@ -104,7 +105,7 @@ any-said text = go (insideMark text) refl
     go false e = rw (reads-any .by-form text e) (read-said (formOf text) text)
 
 -- a refused reading hands back nothing
-kept : (reading : Reading) → (reading ≡ readAs (reading .taken) (reading .content)) ⊎ (reading ≡ refusedAt (reading .line) (reading .column) (reading .early))
+pub kept : (reading : Reading) → (reading ≡ readAs (reading .taken) (reading .content)) ⊎ (reading ≡ refusedAt (reading .line) (reading .column) (reading .early))
     → HandsBackNothing reading
 unfolding refusedAt readAs
 kept reading (inl e) r = absurd (r .0 (ap (λ (q : Reading). q .answer) e))
@@ -112,10 +113,10 @@ kept reading (inr e) r = (ap (λ (q : Reading). q .taken) e, ap (λ (q : Reading
 
 -- ---- writing
 
-module _ (form : Form) (r : Record) (out : List ℕ) where
+module _ (form : Form) (r : Record) (text out : List ℕ) where
   -- what is left by a writing, by its three tests
   done : WriteLeaves
-  done = writeLeaves (record { answer = Done; line = 0; column = 0; written = length (textOf form r) }) (textOf form r ++ drop (length (textOf form r)) out)
+  done = writeLeaves (record { answer = Done; line = 0; column = 0; written = length text }) (text ++ drop (length text) out)
 
   answer : Bool → Bool → Bool → Answer
   answer t lost room = first Done (BrokenRecord when not t ∷ ChipLost when lost ∷ NoRoom when not room ∷ [])
@@ -148,37 +149,42 @@ module _ (form : Form) (r : Record) (out : List ℕ) where
 
   -- what stands in the place where it is done
   stands : (t lost room : Bool) → leaves t lost room .outcome .answer ≡ Done
-      → (leaves t lost room .outcome .written ≡ length (textOf form r)) × (leaves t lost room .out ≡ textOf form r ++ drop (length (textOf form r)) out)
+      → (leaves t lost room .outcome .written ≡ length text) × (leaves t lost room .out ≡ text ++ drop (length text) out)
   unfolding done answer leaves refusedWith
   stands true false true e = (refl, refl)
   stands true false false e = absurd (let z : _≡_ {A = ℕ} 6 0 = ap numberOf e in omega arith)
   stands true true room e = absurd (let z : _≡_ {A = ℕ} 11 0 = ap numberOf e in omega arith)
   stands false lost room e = absurd (let z : _≡_ {A = ℕ} 10 0 = ap numberOf e in omega arith)
 
--- a writing, by its three tests
-record Writes (form : Form) (r : Record) (out : List ℕ) : Type 0 where
-  said : Says (writeCall form r out .outcome .answer) (first Done (writeFaults form r (length out)))
-      ((writeCall form r out .out ≡ out) × (writeCall form r out .outcome .written ≡ 0))
-  line : writeCall form r out .outcome .line ≡ broken form r
-  column : writeCall form r out .outcome .column ≡ 0
-  stands : writeCall form r out .outcome .answer ≡ Done
-      → (writeCall form r out .outcome .written ≡ length (textOf form r)) × (writeCall form r out .out ≡ textOf form r ++ drop (length (textOf form r)) out)
+-- the writing of a record as a text, by its three tests
+pub record Writes (form : Form) (r : Record) (text out : List ℕ) : Type 0 where
+  pub said : Says (writeAs form r text out .outcome .answer) (first Done (writeFaults form r (length text) (length out)))
+      ((writeAs form r text out .out ≡ out) × (writeAs form r text out .outcome .written ≡ 0))
+  pub line : writeAs form r text out .outcome .line ≡ broken form r
+  pub column : writeAs form r text out .outcome .column ≡ 0
+  pub stands : writeAs form r text out .outcome .answer ≡ Done
+      → (writeAs form r text out .outcome .written ≡ length text) × (writeAs form r text out .out ≡ text ++ drop (length text) out)
 
-write-said : (form : Form) (r : Record) (out : List ℕ) → Writes form r out
-unfolding writeCall done answer leaves
-write-said form r out =
+pub write-said : (form : Form) (r : Record) (text out : List ℕ) → Writes form r text out
+unfolding done answer leaves
+write-said form r text out =
     let t = eqb (broken form r) 0 in
     let lost = losesChip form r in
-    let room = leb (length (textOf form r)) (length out) in
+    let room = leb (length text) (length out) in
     record {
-      said = said form r out t lost room;
-      line = at-line form r out t lost room refl;
-      column = at-column form r out t lost room;
-      stands = stands form r out t lost room;
+      said = said form r text out t lost room;
+      line = at-line form r text out t lost room refl;
+      column = at-column form r text out t lost room;
+      stands = stands form r text out t lost room;
     }
+
+-- as its own text
+own-said : (form : Form) (r : Record) (out : List ℕ) → Writes form r (textOf form r) out
+own-said form r out = write-said form r (textOf form r) out
 
 -- each answer is listed
 pub listed : Listed ours
+unfolding writeCall
 listed =
     record {
       read = λ form. record {
@@ -188,20 +194,22 @@ listed =
         decided = reads-and-writes form .decided;
       };
       read-any = record { answer = any-said; place = reads-any .refused; early = reads-any .early; decided = reads-any .decided };
-      write = λ form r out. write-said form r out .said .is;
-      write-line = λ form r out. write-said form r out .line;
-      write-column = λ form r out. write-said form r out .column;
+      write = λ form r out. own-said form r out .said .is;
+      write-line = λ form r out. own-said form r out .line;
+      write-column = λ form r out. own-said form r out .column;
     }
 
 -- each refusal changes nothing
 pub unchanged : Unchanged ours
+unfolding writeCall
 unchanged =
     record {
       read = λ form text. kept (readCall form text) (reads-and-writes form .answered text);
       read-any = λ text. kept (readAny text) (reads-any .answered text);
-      write = λ form r out. write-said form r out .said .kept;
+      write = λ form r out. own-said form r out .said .kept;
     }
 
 -- what each reports and leaves
 pub reported : Reported ours
-reported = record { write = λ form r out. write-said form r out .stands }
+unfolding writeCall
+reported = record { write = λ form r out. own-said form r out .stands }

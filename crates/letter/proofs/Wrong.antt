@@ -3,6 +3,7 @@ pub mod Engine
 pub mod Messages
 pub mod Streams
 pub mod Records
+pub mod Entries
 pub mod Moving
 pub mod Judging
 use Rattle.letter.specs.Wrong.{Wrong}
@@ -10,8 +11,9 @@ use Rattle.letter.proofs.Wrong.Engine as engine
 use Rattle.letter.proofs.Wrong.Messages as messages
 use Rattle.letter.proofs.Wrong.Streams as streams
 use Rattle.letter.proofs.Wrong.Records as records
+use Rattle.letter.proofs.Wrong.Entries as entries
 use Rattle.letter.proofs.Wrong.Moving as moving
 use Rattle.letter.proofs.Wrong.Judging as judging
 
 pub wrong : Wrong
-wrong = record { engine = engine.wrong; messages = messages.wrong; streams = streams.wrong; records = records.wrong; moving = moving.wrong; judging = judging.wrong }
+wrong = record { engine = engine.wrong; messages = messages.wrong; streams = streams.wrong; records = records.wrong; entries = entries.wrong; moving = moving.wrong; judging = judging.wrong }

@@ -4,6 +4,7 @@ use Rattle.permutation.specs.Round.{round}
 use Rattle.permutation.specs.Runs.{roundsOf, permute, permuteWords}
 use Rattle.timing.specs.Call as timed
 use Rattle.ascon.specs.Sets.{isSet, rowOf}
+use Rattle.ascon.specs.Rounds.{messageRounds}
 use Rattle.permutation.specs.Strings.{valueOf, same}
 use Rattle.sponge.specs.Sponge.{started, absorbed, crypted, cryptedOf, adClosed, finished}
 use Rattle.tags.specs.Tags.{sixteenOf, givenTag}
@@ -38,6 +39,8 @@ pub record EveryCall : Type 2 where
   pub sets-rounds-between : Answered sets.rounds_between.Statement.statement sets.rounds_between.Reads.Asked sets.rounds_between.Reads.Learnt
       (λ r e. r) (λ (set, _). roundsOf (rowOf set .between))
   pub sets-first-word : Answered sets.first_word.Statement.statement sets.first_word.Reads.Asked sets.first_word.Reads.Learnt (λ r e. r) (λ (set, _). valueOf (rowOf set .word))
+  pub sets-message-rounds : Answered sets.message_rounds.Statement.statement sets.message_rounds.Reads.Asked sets.message_rounds.Reads.Learnt
+      (λ r e. r) (λ (set, (ad, (text, _))). messageRounds (rowOf set) ad text)
   -- ---- sponge
   pub sponge-start : Answered sponge.start.Statement.statement sponge.start.Reads.Asked sponge.start.Reads.Learnt
       (λ r e. r) (λ (set, (key, (nonce, _))). started (rowOf set) key nonce)

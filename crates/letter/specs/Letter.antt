@@ -16,7 +16,9 @@ use Rattle.record.specs.declared.form.Form.{Form}
 use Rattle.record.specs.Known as record-crate
 use Rattle.record.specs.Laws.{ReadsAndWrites, TwoForms, ReadsAny}
 use Rattle.moving.specs.Known as moving-crate
-use Rattle.moving.specs.Laws.{Moves}
+use Rattle.entry.specs.Laws.{Entries}
+use Rattle.moving.specs.declared.route.Route.{Route}
+use Rattle.moving.specs.Laws.{Moves, Published}
 use Rattle.judge.specs.Laws.{Judges}
 use Rattle.turns.specs.Laws.{WholeReports}
 use Rattle.letter.specs.Model.{Model, ours, Keeps, Reported}
@@ -57,8 +59,12 @@ pub record Letter : Type 2 where
   -- what the two forms have in common, and a text of either
   pub two-forms : TwoForms
   pub any-form : ReadsAny
-  -- moving them to a form from the other: there and back gives the same bytes, and each refusal exactly where it is due
-  pub moving : (to : Form) → Moves to
+  -- entries of published test files: what was written is read and what was read is written, the line and column at which a text is wrong, and what decides a reading
+  pub entries : Entries
+  -- moving records from one kind of text to another: there and back gives the same bytes, and each refusal exactly where it is due
+  pub moving : (route : Route) → Moves route
+  -- records of a set with right round counts are the same when they were written as entries and read back
+  pub published : (set : ℕ) → Published set
   pub known-movings : moving-crate.Known
   -- known answers of records, written down from the papers
   pub known-records : record-crate.Known

@@ -4,6 +4,7 @@ pub mod Engine
 pub mod Messages
 pub mod Streams
 pub mod Records
+pub mod Entries
 pub mod Moving
 pub mod Judging
 pub mod Model

@@ -1,9 +1,11 @@
 -- A model, and what is said of it: the families joined. A new family is a file, and a line in each of these.
 use Rattle.history.specs.History as histories
+use Rattle.moving.specs.Moves.{readOn}
 use Rattle.letter.specs.Engine as engine
 use Rattle.letter.specs.Messages as messages
 use Rattle.letter.specs.Streams as streams
 use Rattle.letter.specs.Records as records
+use Rattle.letter.specs.Entries as entries
 use Rattle.letter.specs.Moving as moving
 use Rattle.letter.specs.Judging as judging
 
@@ -14,18 +16,20 @@ pub record Model : Type 0 where
   pub messages : messages.Model
   pub streams : histories.Streams
   pub records : records.Model
+  pub entries : entries.Model
   pub moving : moving.Model
   pub judging : judging.Model
 
 -- our own
 abbrev pub ours : Model
-ours = record { messages = messages.ours; streams = histories.ours; records = records.ours; moving = moving.ours; judging = judging.ours }
+ours = record { messages = messages.ours; streams = histories.ours; records = records.ours; entries = entries.ours; moving = moving.ours; judging = judging.ours }
 
 -- each call gives what the contract of the code allows
 pub record Keeps (m : Model) : Type 0 where
   pub messages : messages.Keeps (m .messages)
   pub streams : streams.Keeps (m .streams)
   pub records : records.Keeps (m .records)
+  pub entries : entries.Keeps (m .entries)
   pub moving : moving.Keeps (m .moving)
   pub judging : judging.Keeps (m .judging)
 
@@ -37,6 +41,7 @@ pub record EveryCall : Type 2 where
   pub messages : messages.EveryCall
   pub streams : streams.EveryCall
   pub records : records.EveryCall
+  pub entries : entries.EveryCall
   pub moving : moving.EveryCall
   pub judging : judging.EveryCall
 
@@ -45,7 +50,8 @@ pub record Listed (m : Model) : Type 0 where
   pub messages : messages.Listed (m .messages)
   pub streams : streams.Listed (m .streams)
   pub records : records.Listed (m .records)
-  pub moving : moving.Listed (m .records .read) (m .moving)
+  pub entries : entries.Listed (m .entries)
+  pub moving : moving.Listed (readOn (m .records .read) (m .entries .read)) (m .moving)
   pub judging : judging.Listed (m .records .read-any) (m .judging)
 
 -- a refusal changes nothing
@@ -53,6 +59,7 @@ pub record Unchanged (m : Model) : Type 0 where
   pub messages : messages.Unchanged (m .messages)
   pub streams : streams.Unchanged (m .streams)
   pub records : records.Unchanged (m .records)
+  pub entries : entries.Unchanged (m .entries)
   pub moving : moving.Unchanged (m .moving)
   pub judging : judging.Unchanged (m .judging)
 
@@ -66,5 +73,6 @@ pub record Reported (m : Model) : Type 0 where
   pub messages : messages.Reported (m .messages)
   pub streams : streams.Reported (m .streams)
   pub records : records.Reported (m .records)
-  pub moving : moving.Reported (m .records .read) (m .moving)
+  pub entries : entries.Reported (m .entries)
+  pub moving : moving.Reported (readOn (m .records .read) (m .entries .read)) (m .moving)
   pub judging : judging.Reported (m .records .read-any) (m .judging)

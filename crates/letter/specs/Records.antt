@@ -7,7 +7,7 @@ use Prim.Native.Nat.{ℕ, _≤_}
 use lib.ListN.{length, drop, take}
 use Rattle.answers.specs.declared.Answer.the-variants.{Done, BrokenRecord}
 use Rattle.answers.specs.Order.{first}
-use Rattle.digits.specs.Hex.{digitIn, digitOf, isValue, pairOf, hexOf}
+use Rattle.digits.specs.Hex.{digitIn, digitOf, isValue, pairOf, fromHexIn, hexIn}
 use Rattle.digits.specs.Numbers as decimals
 use Rattle.digits.specs.Room.{lineOf, laid, put}
 use Rattle.lines.specs.Right.{named}
@@ -16,7 +16,7 @@ use Rattle.record.specs.declared.form.Form.{Form}
 use Rattle.record.specs.declared.form.Record.{Record}
 use Rattle.record.specs.declared.reading.Reading.{Reading}
 use Rattle.record.specs.Form.{broken, blank}
-use Rattle.record.specs.Calls.{readCall, formOf, readAny, writeLeaves, writeCall, WriteLeaves, writeFaults}
+use Rattle.record.specs.Calls.{fitted, readCall, formOf, readAny, writeLeaves, writeCall, WriteLeaves, writeFaults}
 use Rattle.record.specs.Laws.{BegunWhole, BegunAny, WrongAt, Spellable}
 use Rattle.record.specs.Text.{textOf}
 use Rattle.digits.proofs as digits
@@ -50,9 +50,9 @@ pub record EveryCall : Type 2 where
   pub digits-is-digit : Answered digits.is_digit.Statement.statement digits.is_digit.Reads.Asked digits.is_digit.Reads.Learnt
       (λ r e. r) (λ (case, (character, _)). isValue (digitIn case character))
   pub digits-read-pair : Answered digits.read_pair.Statement.statement digits.read_pair.Reads.Asked digits.read_pair.Reads.Learnt
-      (λ r e. r) (λ (high, (low, _)). pairOf (digitOf high) (digitOf low))
+      (λ r e. r) (λ (case, (high, (low, _))). pairOf (digitIn case high) (digitIn case low))
   pub digits-put-bytes : Answered digits.put_bytes.Statement.statement digits.put_bytes.Reads.Asked digits.put_bytes.Reads.Learnt
-      (λ r (bytes, (out, _)). laid r (out .now)) (λ (bytes, (out, _)). put (hexOf (bytes .now)) (out .now))
+      (λ r (case, (bytes, (out, _))). laid r (out .now)) (λ (case, (bytes, (out, _))). put (hexIn case (bytes .now)) (out .now))
   pub digits-put-text : Answered digits.put_text.Statement.statement digits.put_text.Reads.Asked digits.put_text.Reads.Learnt
       (λ r (text, (out, _)). laid r (out .now)) (λ (text, (out, _)). put (text .now) (out .now))
   pub digits-put-line : Answered digits.put_line.Statement.statement digits.put_line.Reads.Asked digits.put_line.Reads.Learnt
@@ -68,6 +68,8 @@ pub record EveryCall : Type 2 where
   pub lines-read : Answered lines.read.Statement.statement lines.read.Reads.Asked lines.read.Reads.Learnt (λ r e. r) (λ (kind, (text, _)). readOf kind (text .now))
   pub lines-either : Answered lines.either.Statement.statement lines.either.Reads.Asked lines.either.Reads.Learnt (λ r e. r) (λ (one, (other, _)). eitherOf one other)
   -- ---- record
+  pub record-read-field : Answered record-crate.read_field.Statement.statement record-crate.read_field.Reads.Asked record-crate.read_field.Reads.Learnt
+      (λ r e. r) (λ (case, (text, _)). fitted (fromHexIn case (text .now)))
   pub record-first-broken : Answered record-crate.first_broken.Statement.statement record-crate.first_broken.Reads.Asked record-crate.first_broken.Reads.Learnt
       (λ r e. r) (λ (form, (entry, _)). broken form entry)
   pub record-read : Answered record-crate.read.Statement.statement record-crate.read.Reads.Asked record-crate.read.Reads.Learnt
@@ -107,7 +109,7 @@ pub record Listed (m : Model) : Type 0 where
   pub read : (form : Form) → ReadSo (λ text. form) (BegunWhole form) (m .read form)
   pub read-any : ReadSo formOf BegunAny (m .read-any)
   pub write : (form : Form) (r : Record) (out : List ℕ)
-      → m .write form r out .outcome .answer ≡ first Done (writeFaults form r (length out))
+      → m .write form r out .outcome .answer ≡ first Done (writeFaults form r (length (textOf form r)) (length out))
   pub write-line : (form : Form) (r : Record) (out : List ℕ) → m .write form r out .outcome .line ≡ broken form r
   pub write-column : (form : Form) (r : Record) (out : List ℕ) → m .write form r out .outcome .column ≡ 0
 

@@ -4,12 +4,14 @@ pub mod Engine
 pub mod Messages
 pub mod Streams
 pub mod Records
+pub mod Entries
 pub mod Moving
 pub mod Judging
 use Rattle.letter.specs.Wrong.Engine as engine
 use Rattle.letter.specs.Wrong.Messages as messages
 use Rattle.letter.specs.Wrong.Streams as streams
 use Rattle.letter.specs.Wrong.Records as records
+use Rattle.letter.specs.Wrong.Entries as entries
 use Rattle.letter.specs.Wrong.Moving as moving
 use Rattle.letter.specs.Wrong.Judging as judging
 
@@ -18,5 +20,6 @@ pub record Wrong : Type 0 where
   pub messages : messages.Wrong
   pub streams : streams.Wrong
   pub records : records.Wrong
+  pub entries : entries.Wrong
   pub moving : moving.Wrong
   pub judging : judging.Wrong

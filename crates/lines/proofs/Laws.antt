@@ -146,5 +146,5 @@ reads-lines = record {
   one-feed = one-feed;
   in-line = λ right text c feeds w. column-in-line right feeds text c w;
   early = λ right text other c h e p. column-early {right = right} text other c h e p;
-  pair = λ kind least most fit hex x rest a b bytes room other. blamed kind least most fit hex x rest a b bytes room other;
+  pair = λ kind least most case fit hex x rest a b bytes room other. blamed kind least most case fit hex x rest a b bytes room other;
 }

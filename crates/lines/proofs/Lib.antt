@@ -9,4 +9,6 @@ pub mod Pairs
 pub mod Laws
 pub mod Walks
 pub mod Tables
+pub mod Rows
 pub mod Values
+pub mod Names

@@ -10,11 +10,11 @@ use lib.ListN.{length, getD, drop, drop-of-length-le}
 use lib.Pow.{areBytes}
 use lib.Seq.{drop-cons, getD-take}
 use borrow.Author.Tests.{le-ltb, lt-ltb, ltb-true, eqb-true, eqb-false, eq-eqb, ne-eqb}
-use Rattle.digits.specs.declared.hex.Case.the-variants.{Lower}
+use Rattle.digits.specs.declared.hex.Case.{Case}
 use Rattle.digits.specs.declared.hex.Digit.{Digit}
 use Rattle.digits.specs.declared.hex.Digit.the-variants.{Value, NoDigit}
 use Rattle.digits.specs.declared.hex.Pair.the-variants.{BadFirst, BadSecond}
-use Rattle.digits.specs.Hex.{digitOf, isValue, pairOf, hexDigit, hexOf}
+use Rattle.digits.specs.Hex.{digitIn, isValue, pairOf, hexDigitIn, hexIn}
 use Rattle.digits.proofs.Spelling.{and-both, spelled-digit}
 use Rattle.lines.specs.declared.kinds.Value.the-variants.{Bytes}
 use Rattle.lines.specs.declared.kinds.Kind.{Kind}
@@ -37,7 +37,7 @@ step-on : (kind : Kind) (s t : State) (c : ℕ) (rest : List ℕ) → stepOf kin
 step-on kind s t c rest e =
     ap (λ (q : Step). onward s q (λ u. walk (stepOf kind) u rest)) e ∙ ap (λ (n : ℕ). stop n (walk (stepOf kind) t rest .state)) (omega arith)
 
-module _ (kind : Kind) (least most : ℕ) (fit : Fit kind) (hex : kind .value ≡ Bytes least most Lower) where
+module _ (kind : Kind) (least most : ℕ) (case : Case) (fit : Fit kind) (hex : kind .value ≡ Bytes least most case) where
   -- behind the name, with so many digits passed
   abbrev behind : ℕ → State
   behind k = standing (kind .name .size) k 0 false
@@ -66,9 +66,9 @@ module _ (kind : Kind) (least most : ℕ) (fit : Fit kind) (hex : kind .value �
   goesBy k digit = cond digit (On (behind (k + 1))) Off
 
   -- a character where a digit may come
-  digit-step : (k c : ℕ) → k / 2 < most → (c ≡ 0x0a → ⊥) → stepOf kind (behind k) c ≡ goesBy k (isValue (digitOf c))
+  digit-step : (k c : ℕ) → k / 2 < most → (c ≡ 0x0a → ⊥) → stepOf kind (behind k) c ≡ goesBy k (isValue (digitIn case c))
   unfolding stepOf valueStep
-  digit-step k c h f = rw (le-ltb (kind .name .size) (kind .name .size) (omega arith), ne-eqb c 0x0a f, hex, lt-ltb (k / 2) most h) (go (isValue (digitOf c)))
+  digit-step k c h f = rw (le-ltb (kind .name .size) (kind .name .size) (omega arith), ne-eqb c 0x0a f, hex, lt-ltb (k / 2) most h) (go (isValue (digitIn case c)))
     where
       go : (b : Bool) → goesBy k (b && true) ≡ goesBy k b
       go true = refl
@@ -80,25 +80,25 @@ module _ (kind : Kind) (least most : ℕ) (fit : Fit kind) (hex : kind .value �
   feed-step k h = rw (le-ltb (kind .name .size) (kind .name .size) (omega arith), hex, ne-eqb (k % 2) 0 (omega arith))
 
   -- a digit of bytes
-  hex-step : (k v : ℕ) → k / 2 < most → v < 16 → stepOf kind (behind k) (hexDigit v) ≡ On (behind (k + 1))
+  hex-step : (k v : ℕ) → k / 2 < most → v < 16 → stepOf kind (behind k) (hexDigitIn case v) ≡ On (behind (k + 1))
   hex-step k v h l =
-      let digit : isValue (digitOf (hexDigit v)) ≡ true = ap isValue (spelled-digit Lower v l) in
-      let other : hexDigit v ≡ 0x0a → ⊥ = λ e. false≢true (sym (feed-none Lower) ∙ ap (λ (c : ℕ). isValue (digitOf c)) (sym e) ∙ digit) in
-      digit-step k (hexDigit v) h other ∙ ap (goesBy k) digit
+      let digit : isValue (digitIn case (hexDigitIn case v)) ≡ true = ap isValue (spelled-digit case v l) in
+      let other : hexDigitIn case v ≡ 0x0a → ⊥ = λ e. false≢true (sym (feed-none case) ∙ ap (λ (c : ℕ). isValue (digitIn case c)) (sym e) ∙ digit) in
+      digit-step k (hexDigitIn case v) h other ∙ ap (goesBy k) digit
 
   -- the digits of bytes are passed
   walk-hex : (x : List ℕ) (k : ℕ) (rest : List ℕ) → k % 2 ≡ 0 → k / 2 + length x ≤ most → areBytes x ≡ true
-      → walk (stepOf kind) (behind k) (hexOf x ++ rest) ≡ after (2 * length x) (walk (stepOf kind) (behind (k + 2 * length x)) rest)
+      → walk (stepOf kind) (behind k) (hexIn case x ++ rest) ≡ after (2 * length x) (walk (stepOf kind) (behind (k + 2 * length x)) rest)
   walk-hex [] k rest e h b =
       let same : k + 0 ≡ k = omega arith in
       rw same (ap (λ (n : ℕ). stop n (walk (stepOf kind) (behind k) rest .state)) (omega arith))
   walk-hex (c ∷ x) k rest e h b =
       let t = and-both (ltb c 256) _ b in
       let l : c < 256 = ltb-true c 256 (t .0) in
-      let tail : List ℕ = hexOf x ++ rest in
+      let tail : List ℕ = hexIn case x ++ rest in
       let two : k + 1 + 1 + 2 * length x ≡ k + 2 * length (c ∷ x) = omega arith in
-      step-on kind (behind k) (behind (k + 1)) (hexDigit (c / 16)) (hexDigit (c % 16) ∷ tail) (hex-step k (c / 16) (omega arith) (omega arith))
-      ∙ ap (after 1) (step-on kind (behind (k + 1)) (behind (k + 1 + 1)) (hexDigit (c % 16)) tail (hex-step (k + 1) (c % 16) (omega arith) (omega arith)))
+      step-on kind (behind k) (behind (k + 1)) (hexDigitIn case (c / 16)) (hexDigitIn case (c % 16) ∷ tail) (hex-step k (c / 16) (omega arith) (omega arith))
+      ∙ ap (after 1) (step-on kind (behind (k + 1)) (behind (k + 1 + 1)) (hexDigitIn case (c % 16)) tail (hex-step (k + 1) (c % 16) (omega arith) (omega arith)))
       ∙ ap (λ (w : Walk). after 1 (after 1 w)) (walk-hex x (k + 1 + 1) rest (omega arith) (omega arith) (t .1))
       ∙ (λ j. stop (count j) (walk (stepOf kind) (behind (two j)) rest .state))
     where
@@ -110,14 +110,14 @@ module _ (kind : Kind) (least most : ℕ) (fit : Fit kind) (hex : kind .value �
   module _ (x rest : List ℕ) (a b : ℕ) (bytes : areBytes x ≡ true) (room : length x < most) (other : a ≡ 0x0a → ⊥) where
     -- a line up to the pair, and the pair
     abbrev text : List ℕ
-    text = nameOf kind ++ (hexOf x ++ a ∷ b ∷ rest)
+    text = nameOf kind ++ (hexIn case x ++ a ∷ b ∷ rest)
 
     -- the walk up to it
     up-to : walk (stepOf kind) (standing 0 0 0 false) text
         ≡ after (kind .name .size) (after (2 * length x) (walk (stepOf kind) (behind (2 * length x)) (a ∷ b ∷ rest)))
     up-to =
         let none : 0 + 2 * length x ≡ 2 * length x = omega arith in
-        walk-name (kind .name .size) 0 (hexOf x ++ a ∷ b ∷ rest) (omega arith)
+        walk-name (kind .name .size) 0 (hexIn case x ++ a ∷ b ∷ rest) (omega arith)
         ∙ ap (after (kind .name .size)) (rw none at (walk-hex x 0 (a ∷ b ∷ rest) (omega arith) (omega arith) bytes))
 
     -- where a walk that goes on so ends
@@ -128,11 +128,11 @@ module _ (kind : Kind) (least most : ℕ) (fit : Fit kind) (hex : kind .value �
         rw (up-to ∙ ap (λ (w : Walk). after (kind .name .size) (after (2 * length x) w)) e) (ap Stopped (omega (arith, name-size kind (fit .named))))
 
     -- the first is no digit
-    first-bad : isValue (digitOf a) ≡ false → walk (stepOf kind) (behind (2 * length x)) (a ∷ b ∷ rest) ≡ stop 0 (behind (2 * length x))
+    first-bad : isValue (digitIn case a) ≡ false → walk (stepOf kind) (behind (2 * length x)) (a ∷ b ∷ rest) ≡ stop 0 (behind (2 * length x))
     first-bad e = ap (λ (q : Step). onward (behind (2 * length x)) q (λ u. walk (stepOf kind) u (b ∷ rest))) (digit-step (2 * length x) a (omega arith) other ∙ ap (goesBy (2 * length x)) e)
 
     -- the second is none
-    second-bad : isValue (digitOf a) ≡ true → isValue (digitOf b) ≡ false
+    second-bad : isValue (digitIn case a) ≡ true → isValue (digitIn case b) ≡ false
         → walk (stepOf kind) (behind (2 * length x)) (a ∷ b ∷ rest) ≡ stop 1 (behind (2 * length x + 1))
     second-bad e f =
         step-on kind (behind (2 * length x)) (behind (2 * length x + 1)) a (b ∷ rest) (digit-step (2 * length x) a (omega arith) other ∙ ap (goesBy (2 * length x)) e)
@@ -143,10 +143,10 @@ module _ (kind : Kind) (least most : ℕ) (fit : Fit kind) (hex : kind .value �
         at false g = digit-step (2 * length x + 1) b (omega arith) (eqb-false b 0x0a g) ∙ ap (goesBy (2 * length x + 1)) f
 
     -- the digit that the pair blames is the wrong character
-    pub blamed : Blamed kind x rest a b
+    pub blamed : Blamed kind case x rest a b
     blamed = record {
-      first = λ e. ends 0 (2 * length x) (first-bad (first-none (digitOf a) (digitOf b) e)) ∙ ap Stopped (omega arith);
-      second = λ e. let d = second-none (digitOf a) (digitOf b) e in ends 1 (2 * length x + 1) (second-bad (d .0) (d .1)) ∙ ap Stopped (omega arith);
+      first = λ e. ends 0 (2 * length x) (first-bad (first-none (digitIn case a) (digitIn case b) e)) ∙ ap Stopped (omega arith);
+      second = λ e. let d = second-none (digitIn case a) (digitIn case b) e in ends 1 (2 * length x + 1) (second-bad (d .0) (d .1)) ∙ ap Stopped (omega arith);
     }
       where
         first-none : (d f : Digit) → pairOf d f ≡ BadFirst → isValue d ≡ false

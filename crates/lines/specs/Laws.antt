@@ -7,9 +7,9 @@ use Prim.Native.Nat.{ℕ, _+_, _*_, _≤_, _<_}
 use lib.Dec.{eqb, leb}
 use lib.ListN.{length, take}
 use lib.Pow.{areBytes}
-use Rattle.digits.specs.declared.hex.Case.the-variants.{Lower}
+use Rattle.digits.specs.declared.hex.Case.{Case}
 use Rattle.digits.specs.declared.hex.Pair.the-variants.{BadFirst, BadSecond}
-use Rattle.digits.specs.Hex.{digitOf, pairOf, hexOf}
+use Rattle.digits.specs.Hex.{digitIn, pairOf, hexIn}
 use Rattle.lines.specs.declared.kinds.Value.{Value}
 use Rattle.lines.specs.declared.kinds.Value.the-variants.{Fixed, Number, Bytes}
 use Rattle.lines.specs.declared.kinds.Kind.{Kind}
@@ -50,11 +50,11 @@ abbrev pub OneFeed : (List ℕ → Type 0) → Type 0
 OneFeed right = (a b : List ℕ) → right (a ++ 0x0a ∷ b) → b ≡ []
 
 -- behind a name and the digits of bytes, the digit that a pair blames is the wrong character
-pub record Blamed (kind : Kind) (x rest : List ℕ) (a b : ℕ) : Type 0 where
-  pub first : pairOf (digitOf a) (digitOf b) ≡ BadFirst
-      → readOf kind (nameOf kind ++ (hexOf x ++ a ∷ b ∷ rest)) ≡ Stopped (length (nameOf kind) + 2 * length x + 1)
-  pub second : pairOf (digitOf a) (digitOf b) ≡ BadSecond
-      → readOf kind (nameOf kind ++ (hexOf x ++ a ∷ b ∷ rest)) ≡ Stopped (length (nameOf kind) + 2 * length x + 2)
+pub record Blamed (kind : Kind) (case : Case) (x rest : List ℕ) (a b : ℕ) : Type 0 where
+  pub first : pairOf (digitIn case a) (digitIn case b) ≡ BadFirst
+      → readOf kind (nameOf kind ++ (hexIn case x ++ a ∷ b ∷ rest)) ≡ Stopped (length (nameOf kind) + 2 * length x + 1)
+  pub second : pairOf (digitIn case a) (digitIn case b) ≡ BadSecond
+      → readOf kind (nameOf kind ++ (hexIn case x ++ a ∷ b ∷ rest)) ≡ Stopped (length (nameOf kind) + 2 * length x + 2)
 
 pub record ReadsLines : Type 1 where
   -- what a reading of a line says is so
@@ -73,6 +73,6 @@ pub record ReadsLines : Type 1 where
   -- the characters up to it decide it: a text that goes on otherwise behind it has the same column
   pub early : (right : List ℕ → Type 0) (text other : List ℕ) (c : ℕ) → c ≤ length text → take c other ≡ take c text
       → LeavesAt right text c → LeavesAt right other c
-  -- in a line of bytes in lower case, where one more byte may come and its first character is no line feed, a pair of digits blames the wrong character
-  pub pair : (kind : Kind) (least most : ℕ) → Fit kind → kind .value ≡ Bytes least most Lower → (x rest : List ℕ) (a b : ℕ) → areBytes x ≡ true
-      → length x < most → (a ≡ 0x0a → ⊥) → Blamed kind x rest a b
+  -- in a line of bytes, in either case, where one more byte may come and its first character is no line feed, a pair of digits blames the wrong character
+  pub pair : (kind : Kind) (least most : ℕ) (case : Case) → Fit kind → kind .value ≡ Bytes least most case → (x rest : List ℕ) (a b : ℕ) → areBytes x ≡ true
+      → length x < most → (a ≡ 0x0a → ⊥) → Blamed kind case x rest a b

@@ -15,9 +15,9 @@ use Rattle.lines.specs.declared.kinds.Value.{Value}
 use Rattle.lines.specs.declared.kinds.Value.the-variants.{Fixed, Number, Bytes}
 use Rattle.lines.specs.declared.kinds.Kind.{Kind}
 
--- a text of at most 16 bytes as a name, with zeros behind it
+-- a text of at most 32 bytes as a name, with zeros behind it
 unfoldable pub named : List ℕ → Name
-named x = cond (leb (length x) 16) (record { bytes = x ++ zeros (16 - length x); size = length x }) (record { bytes = zeros 16; size = 0 })
+named x = cond (leb (length x) 32) (record { bytes = x ++ zeros (32 - length x); size = length x }) (record { bytes = zeros 32; size = 0 })
 
 -- the name of a kind
 abbrev pub nameOf : Kind → List ℕ

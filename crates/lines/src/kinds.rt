@@ -3,9 +3,9 @@ ghost use mathlib.Core.Path.{_≡_};
 ghost use Rattle.lines.specs.Right.{named};
 use digits::Case;
 
-// A name: the first `size` of 16 places.
+// A name: the first `size` of 32 places.
 pub struct Name {
-    pub bytes: [u8; 16],
+    pub bytes: [u8; 32],
     pub size: usize,
 }
 
@@ -23,12 +23,12 @@ pub struct Kind {
     pub value: Value,
 }
 
-// A text of at most 16 bytes as a name, with zeros behind it; the empty name for a longer text.
+// A text of at most 32 bytes as a name, with zeros behind it; the empty name for a longer text.
 pub fn named(text: &[u8]) -> Name
     ensures { λ r. ⌜ r ≡ named (now (text .entry)) ⌝ }
 {
-    let mut bytes = [0; 16];
-    if 16 < text.len() {
+    let mut bytes = [0; 32];
+    if 32 < text.len() {
         return Name { bytes, size: 0 };
     }
     let size = bytes::copy(text, &mut bytes);

@@ -31,7 +31,7 @@ fn name_at(name: Name, place: usize) -> u8
     ensures { λ r. ⌜ r ≡ getD (name .bytes) place 0 ⌝ }
 {
     let bytes = name.bytes;
-    if place < 16 {
+    if place < 32 {
         return bytes[place];
     }
     0

@@ -7,7 +7,6 @@ ghost use lib.ListN.{length, drop};
 ghost use Rattle.ascon.specs.Sets.{rowOf, adLimit, textLimit};
 ghost use Rattle.permutation.specs.Strings.{zeros};
 ghost use Rattle.ascon.specs.Mode.{finalise};
-ghost use Rattle.ascon.specs.Rounds.{adBlocks, messageRounds};
 ghost use Rattle.message.specs.Message.{processed, messageTest, sealLeaves, sealCall, openLeaves, openCall};
 use answers::Answer;
 use sponge::Way;
@@ -47,28 +46,6 @@ fn message_test(
         return Answer::NoRoom;
     }
     Answer::Done
-}
-
-// The padded blocks of associated data.
-fn ad_blocks(set: u64, ad: usize) -> usize
-    requires { ⌜ ad ≤ adLimit ⌝ }
-    ensures { λ r. ⌜ r ≡ adBlocks (rowOf set .block) ad ⌝ }
-    ensures { λ r. ⌜ r ≤ 65537 ⌝ }
-{
-    if ad == 0 {
-        return 0;
-    }
-    ad / sets::block_length(set) + 1
-}
-
-// The rounds of a message, by the lengths of its data and of its text.
-fn message_rounds(set: u64, ad: usize, text: usize) -> u64
-    requires { ⌜ ad ≤ adLimit ⌝ }
-    requires { ⌜ text ≤ textLimit ⌝ }
-    ensures { λ r. ⌜ r ≡ messageRounds (rowOf set) ad text ⌝ }
-{
-    let blocks = ad_blocks(set, ad) + text / sets::block_length(set);
-    24 + sets::rounds_between(set) * (blocks as u64)
 }
 
 // Processes a text in a direction into `out`, and gives the tag with zeros behind it.
@@ -135,7 +112,7 @@ pub fn seal(
     tags::give_tag(ours, tag);
     Outcome {
         answer: Answer::Done,
-        rounds: message_rounds(set, ad.len(), text.len()),
+        rounds: sets::message_rounds(set, ad.len() as u32, text.len() as u32),
     }
 }
 
@@ -164,7 +141,7 @@ pub fn open(
         return Outcome { answer, rounds: 0 };
     }
     let ours = process(set, Way::Open, key, nonce, ad, cipher, &mut *out);
-    let rounds = message_rounds(set, ad.len(), cipher.len());
+    let rounds = sets::message_rounds(set, ad.len() as u32, cipher.len() as u32);
     let n = sets::key_length(set);
     if tags::same_tag(&ours[..n], tag) {
         return Outcome {

@@ -7,119 +7,170 @@ use native.Mathlib.Omega.{arith}
 use lib.Dec.{eqb}
 use lib.ListN.{length, drop, length-drop, length-append}
 use lib.Seq.{drop-drop}
-use borrow.Author.Tests.{eq-eqb, ne-eqb}
+use borrow.Author.Tests.{eq-eqb, ne-eqb, eqb-false}
 use Rattle.answers.specs.declared.Answer.the-variants.{Done, BrokenRecord, ChipLost}
 use Rattle.answers.specs.Numbers.{isDone}
 use Rattle.answers.proofs.Numbers.{done-is}
-use Rattle.record.specs.declared.form.Form.{Form}
 use Rattle.record.specs.declared.reading.Reading.{Reading}
 use Rattle.record.specs.Form.{losesChip}
-use Rattle.record.specs.Text.{textOf}
-use Rattle.record.specs.Calls.{readCall}
-use Rattle.record.proofs.Laws.{taken-inside}
-use Rattle.moving.proofs.Sizes.{sized}
-use Rattle.moving.specs.Moves.{other, Whole, whole, stopped, movedIn, movedAll}
+use Rattle.moving.specs.declared.route.Route.{Route}
+use Rattle.moving.specs.Moves.{isKnown, readBy, formBy, textBy, Whole, whole, stopped, movedIn, movedAll}
+use Rattle.moving.specs.Laws.{Counts}
+use Rattle.moving.proofs.Routes.{fewer, Read, read-is}
+use Rattle.moving.proofs.Sizes.{doubled}
 
 -- the first record of a text that is not empty: whether it is read, whether its chip would be lost, and what those behind it come to
 abbrev pub onward : Bool → Bool → ℕ → ℕ → ℕ → Whole → Whole
 onward read loses count line column rest = cond read (cond loses (stopped ChipLost (count + 1) 0 0) rest) (stopped BrokenRecord (count + 1) line column)
 
-module _ (to : Form) where
+module _ (route : Route) where
+  -- what is read of a text behind so many records
+  abbrev pub next : ℕ → List ℕ → Reading
+  next count text = readBy route (count + 1) text
+
+  -- whether its chip would be lost
+  abbrev pub loses : Reading → Bool
+  loses reading = losesChip (formBy route) (reading .content)
+
+  -- the records of a text, by our own reading
+  abbrev pub steps : ℕ → ℕ → List ℕ → List ℕ → Whole
+  steps n count before text = movedIn (readBy route) route n count before text
+
+  -- the text of those before with the next
+  abbrev pub grows : ℕ → List ℕ → Reading → List ℕ
+  grows count before reading = before ++ textBy route (count + 1) (reading .content)
+
+  -- a text that is read, behind so many records, is known
+  pub next-is : (count : ℕ) (text : List ℕ) → Counts route (count + length text) → next count text .answer ≡ Done → 1 ≤ length text → Read route (count + 1) text
+  next-is count text c d h = read-is route (count + 1) (fewer route (count + 1) (count + length text) (omega arith) c) text d
+
+  -- and the numbers of those behind it can be had
+  pub later-counts : (count : ℕ) (text : List ℕ) → Counts route (count + length text) → (r : Read route (count + 1) text)
+      → Counts route (count + 1 + length (drop (next count text .taken) text))
+  later-counts count text c r =
+      fewer route _ (count + length text) (omega (arith, r .some, r .inside, length-drop (next count text .taken) text)) c
+
   -- more steps than bytes change nothing
-  enough-steps : (m n count : ℕ) (before text : List ℕ) → length text ≤ m → length text ≤ n → movedIn (readCall (other to)) to m count before text ≡ movedIn (readCall (other to)) to n count before text
-  enough-steps zero zero count before text h k = refl
-  enough-steps zero (suc n) count before text h k = rw (eq-eqb (length text) 0 (omega arith))
-  enough-steps (suc m) zero count before text h k = rw (eq-eqb (length text) 0 (omega arith))
-  enough-steps (suc m) (suc n) count before text h k =
-      let reading : Reading = readCall (other to) text in
-      ap (λ (rest : Whole). cond (eqb (length text) 0) (whole count before) rest)
-      (go (isDone (reading .answer)) refl (enough-steps m n (count + 1) (before ++ textOf to (reading .content)) (drop (reading .taken) text)))
+  enough-steps : (m n count : ℕ) (before text : List ℕ) → Counts route (count + length text) → length text ≤ m → length text ≤ n → steps m count before text ≡ steps n count before text
+  enough-steps zero zero count before text c h k = refl
+  enough-steps zero (suc n) count before text c h k = rw (eq-eqb (length text) 0 (omega arith))
+  enough-steps (suc m) zero count before text c h k = rw (eq-eqb (length text) 0 (omega arith))
+  enough-steps (suc m) (suc n) count before text c h k =
+      by (eqb (length text) 0) refl (enough-steps m n (count + 1) (grows count before (next count text)) (drop (next count text .taken) text))
     where
-      go : let reading = readCall (other to) text in
-          let left = drop (reading .taken) text in
-          let rest : ℕ → Whole = λ steps. movedIn (readCall (other to)) to steps (count + 1) (before ++ textOf to (reading .content)) left in
-          (t : Bool) → isDone (reading .answer) ≡ t → (length left ≤ m → length left ≤ n → rest m ≡ rest n)
-          → onward t (losesChip to (reading .content)) count (reading .line) (reading .column) (rest m)
-          ≡ onward t (losesChip to (reading .content)) count (reading .line) (reading .column) (rest n)
-      go true e same =
-          let reading : Reading = readCall (other to) text in
-          let b = taken-inside (other to) text (done-is _ e) in
+      reading : Reading
+      reading = next count text
+
+      left : List ℕ
+      left = drop (reading .taken) text
+
+      rest : ℕ → Whole
+      rest i = steps i (count + 1) (grows count before reading) left
+
+      Same : Type 0
+      Same = Counts route (count + 1 + length left) → length left ≤ m → length left ≤ n → rest m ≡ rest n
+
+      go : Same → 1 ≤ length text → (t : Bool) → isDone (reading .answer) ≡ t
+          → onward t (loses reading) count (reading .line) (reading .column) (rest m) ≡ onward t (loses reading) count (reading .line) (reading .column) (rest n)
+      go same some true e =
+          let r = next-is count text c (done-is _ e) some in
           let l = length-drop (reading .taken) text in
-          ap (onward true (losesChip to (reading .content)) count (reading .line) (reading .column)) (same (omega arith) (omega arith))
-      go false e same = refl
+          ap (onward true (loses reading) count (reading .line) (reading .column))
+          (same (later-counts count text c r) (omega (arith, r .some, r .inside)) (omega (arith, r .some, r .inside)))
+      go same some false e = refl
+
+      by : (b : Bool) → eqb (length text) 0 ≡ b → Same
+          → cond b (whole count before) (onward (isDone (reading .answer)) (loses reading) count (reading .line) (reading .column) (rest m))
+          ≡ cond b (whole count before) (onward (isDone (reading .answer)) (loses reading) count (reading .line) (reading .column) (rest n))
+      by true e same = refl
+      by false e same = let some : length text ≡ 0 → ⊥ = eqb-false (length text) 0 e in go same (omega (arith, some)) (isDone (reading .answer)) refl
 
   -- what moving the records of a text comes to, behind so many with their text
   abbrev pub movedFrom : ℕ → List ℕ → List ℕ → Whole
-  movedFrom count before text = movedIn (readCall (other to)) to (length text) count before text
+  movedFrom count before text = steps (length text) count before text
 
   -- all of them are behind none
-  pub from-none : (text : List ℕ) → movedFrom 0 [] text ≡ movedAll to text
+  pub from-none : (text : List ℕ) → isKnown route ≡ true → movedFrom 0 [] text ≡ movedAll route text
   unfolding movedAll
-  from-none text = refl
+  from-none text k = rw k
 
   -- a text that is not empty, one step more
-  step : (count : ℕ) (before text : List ℕ) → 1 ≤ length text → let reading = readCall (other to) text in
+  step : (count : ℕ) (before text : List ℕ) → Counts route (count + length text) → 1 ≤ length text → let reading = next count text in
       movedFrom count before text
-      ≡ onward (isDone (reading .answer)) (losesChip to (reading .content)) count (reading .line) (reading .column)
-      (movedIn (readCall (other to)) to (length text) (count + 1) (before ++ textOf to (reading .content)) (drop (reading .taken) text))
-  step count before text h =
-      enough-steps (length text) (suc (length text)) count before text (omega arith) (omega arith) ∙ rw (ne-eqb (length text) 0 (λ e. omega arith))
+      ≡ onward (isDone (reading .answer)) (loses reading) count (reading .line) (reading .column)
+      (steps (length text) (count + 1) (grows count before reading) (drop (reading .taken) text))
+  step count before text c h =
+      enough-steps (length text) (suc (length text)) count before text c (omega arith) (omega arith) ∙ rw (ne-eqb (length text) 0 (λ e. omega arith))
 
   -- one that is not read is the last
-  pub step-refused : (count : ℕ) (before text : List ℕ) → 1 ≤ length text → readCall (other to) text .answer ≡ BrokenRecord
-      → movedFrom count before text ≡ stopped BrokenRecord (count + 1) (readCall (other to) text .line) (readCall (other to) text .column)
-  step-refused count before text h d = step count before text h ∙ rw d
+  pub step-refused : (count : ℕ) (before text : List ℕ) → Counts route (count + length text) → 1 ≤ length text → next count text .answer ≡ BrokenRecord
+      → movedFrom count before text ≡ stopped BrokenRecord (count + 1) (next count text .line) (next count text .column)
+  step-refused count before text c h d = step count before text c h ∙ rw d
 
   -- and one whose chip would be lost
-  pub step-lost : (count : ℕ) (before text : List ℕ) → readCall (other to) text .answer ≡ Done → losesChip to (readCall (other to) text .content) ≡ true
-      → movedFrom count before text ≡ stopped ChipLost (count + 1) 0 0
-  step-lost count before text d e = let b = taken-inside (other to) text d in step count before text (omega arith) ∙ rw (d, e)
+  pub step-lost : (count : ℕ) (before text : List ℕ) → Counts route (count + length text) → 1 ≤ length text → next count text .answer ≡ Done
+      → loses (next count text) ≡ true → movedFrom count before text ≡ stopped ChipLost (count + 1) 0 0
+  step-lost count before text c h d e = step count before text c h ∙ rw (d, e)
 
   -- behind one that is moved stand the others
-  pub step-moved : (count : ℕ) (before text : List ℕ) → readCall (other to) text .answer ≡ Done → losesChip to (readCall (other to) text .content) ≡ false
-      → movedFrom count before text
-      ≡ movedFrom (count + 1) (before ++ textOf to (readCall (other to) text .content)) (drop (readCall (other to) text .taken) text)
-  step-moved count before text d e =
-      let b = taken-inside (other to) text d in
-      let l = length-drop (readCall (other to) text .taken) text in
-      step count before text (omega arith)
+  pub step-moved : (count : ℕ) (before text : List ℕ) → Counts route (count + length text) → 1 ≤ length text → next count text .answer ≡ Done
+      → loses (next count text) ≡ false
+      → movedFrom count before text ≡ movedFrom (count + 1) (grows count before (next count text)) (drop (next count text .taken) text)
+  step-moved count before text c h d e =
+      let reading = next count text in
+      let r = next-is count text c d h in
+      let l = length-drop (reading .taken) text in
+      step count before text c h
       ∙ rw (d, e)
-      (enough-steps (length text) (length (drop (readCall (other to) text .taken) text)) (count + 1) (before ++ textOf to (readCall (other to) text .content))
-      (drop (readCall (other to) text .taken) text) (omega arith) (omega arith))
+      (enough-steps (length text) (length (drop (reading .taken) text)) (count + 1) (grows count before reading) (drop (reading .taken) text) (later-counts count text c r)
+      (omega (arith, r .some, r .inside)) (omega arith))
 
 -- ---- a text read up to a place
 
 -- what holds before a record of a text is moved, behind so many with their text
-pub record Left (to : Form) (text : List ℕ) (at count : ℕ) (before : List ℕ) : Type 0 where
+pub record Left (route : Route) (text : List ℕ) (at count : ℕ) (before : List ℕ) : Type 0 where
   pub inside : at ≤ length text
   pub few : count ≤ at
   pub double : length before ≤ 2 * at
-  pub rest : movedFrom to count before (drop at text) ≡ movedAll to text
+  pub rest : movedFrom route count before (drop at text) ≡ movedAll route text
 
-module _ (to : Form) (text : List ℕ) where
+module _ (route : Route) (text : List ℕ) (counts : Counts route (length text)) where
   -- at the beginning
-  pub left-all : Left to text 0 0 []
-  left-all = record { inside = omega arith; few = omega arith; double = omega arith; rest = from-none to text }
+  pub left-all : isKnown route ≡ true → Left route text 0 0 []
+  left-all k = record { inside = omega arith; few = omega arith; double = omega arith; rest = from-none route text k }
+
+  -- the numbers that are left can be had
+  pub left-counts : (at count : ℕ) (before : List ℕ) → Left route text at count before → Counts route (count + length (drop at text))
+  left-counts at count before left = fewer route _ (length text) (omega (arith, left .inside, left .few, length-drop at text)) counts
 
   -- behind a record that is moved
-  pub left-on : (at count : ℕ) (before : List ℕ) → Left to text at count before → let reading = readCall (other to) (drop at text) in
-      reading .answer ≡ Done → losesChip to (reading .content) ≡ false → Left to text (at + reading .taken) (count + 1) (before ++ textOf to (reading .content))
-  left-on at count before left d e =
-      let reading = readCall (other to) (drop at text) in
-      let s = sized to (drop at text) d e in
+  pub left-on : (at count : ℕ) (before : List ℕ) → Left route text at count before → 1 ≤ length (drop at text) → let reading = next route count (drop at text) in
+      reading .answer ≡ Done → loses route reading ≡ false → Left route text (at + reading .taken) (count + 1) (grows route count before reading)
+  left-on at count before left h d e =
+      let reading = next route count (drop at text) in
+      let c = left-counts at count before left in
+      let r = next-is route count (drop at text) c d h in
       let l = length-drop at text in
+      let one : Counts route (count + 1) = fewer route (count + 1) _ (omega arith) c in
       record {
-        inside = omega (arith, s .inside, left .inside);
-        few = omega (arith, s .some, left .few);
-        double = omega (arith, length-append before (textOf to (reading .content)), s .double, left .double);
+        inside = omega (arith, r .inside, left .inside);
+        few = omega (arith, r .some, left .few);
+        double =
+            omega (
+              arith,
+              length-append before (textBy route (count + 1) (reading .content)),
+              doubled route (count + 1) one (reading .content) (r .spells, e),
+              r .size-is,
+              left .double,
+            );
         rest =
-            ap (movedFrom to (count + 1) (before ++ textOf to (reading .content))) (sym (drop-drop (reading .taken) at text))
-            ∙ sym (step-moved to count before (drop at text) d e)
+            ap (movedFrom route (count + 1) (grows route count before reading)) (sym (drop-drop (reading .taken) at text))
+            ∙ sym (step-moved route count before (drop at text) c h d e)
             ∙ left .rest;
       }
 
   -- at the end
-  pub left-none : (at count : ℕ) (before : List ℕ) → Left to text at count before → length text ≤ at → movedAll to text ≡ whole count before
+  pub left-none : (at count : ℕ) (before : List ℕ) → Left route text at count before → length text ≤ at → movedAll route text ≡ whole count before
   left-none at count before left h =
       let none : length (drop at text) ≡ 0 = omega (arith, length-drop at text) in
-      sym (left .rest) ∙ ap (λ (steps : ℕ). movedIn (readCall (other to)) to steps count before (drop at text)) none
+      sym (left .rest) ∙ ap (λ (n : ℕ). steps route n count before (drop at text)) none

@@ -1,4 +1,4 @@
--- Moving records from one form to the other.
+-- Moving records from one kind of text to another.
 pub mod Moves
 pub mod Laws
 pub mod Known

@@ -1,8 +1,9 @@
 // Moving the record that a text begins with.
 ghost use mathlib.Core.Path.{_≡_};
-ghost use Rattle.moving.specs.Moves.{other, moveLeaves, refusedMove, moveCall};
+ghost use Rattle.moving.specs.Moves.{moveLeaves, refusedMove, moveCall};
+use crate::route;
+use crate::route::Route;
 use answers::Answer;
-use record::Form;
 
 // What moving a record answers: the answer; the line and column at which the text is wrong; and how many bytes were taken and written.
 pub struct Moving {
@@ -11,16 +12,6 @@ pub struct Moving {
     pub column: usize,
     pub taken: usize,
     pub written: usize,
-}
-
-// The other form.
-fn other_form(form: Form) -> Form
-    ensures { λ r. ⌜ r ≡ other form ⌝ }
-{
-    match form {
-        Form::One => Form::Two,
-        Form::Two => Form::One,
-    }
 }
 
 // A refusal: nothing is taken, and nothing is written.
@@ -36,17 +27,17 @@ fn refusal(answer: Answer, line: usize, column: usize) -> Moving
     }
 }
 
-// Moves the record that a text begins with to a form from the other, and writes it at the beginning of a place.
-pub fn move_record(to: Form, text: &[u8], out: &mut [u8]) -> Moving
-    ensures { λ r. ⌜ moveLeaves r (now (out .exit)) ≡ moveCall to (now (text .entry)) (now (out .entry)) ⌝ }
+// Moves the record that a text begins with, which has this number in it, and writes it at the beginning of a place.
+pub fn move_record(route: Route, number: u64, text: &[u8], out: &mut [u8]) -> Moving
+    ensures { λ r. ⌜ moveLeaves r (now (out .exit)) ≡ moveCall route number (now (text .entry)) (now (out .entry)) ⌝ }
 {
-    let reading = record::read(other_form(to), text);
+    let reading = route::read(route, number, text);
     let answer = reading.answer;
     if !answers::is_done(answer) {
         return refusal(answer, reading.line, reading.column);
     }
     let content = reading.content;
-    let writing = record::write(to, content, out);
+    let writing = route::write(route, number, content, out);
     let answer = writing.answer;
     if !answers::is_done(answer) {
         return refusal(answer, 0, 0);

@@ -1,5 +1,5 @@
 -- How long lines that keep their rules can be.
-use mathlib.Core.Path.{_≡_, ap}
+use mathlib.Core.Path.{_≡_}
 use mathlib.Core.Bool.{Bool, true, _&&_}
 use mathlib.Core.List.{[], _∷_}
 use Prim.Native.Nat.{ℕ, zero, suc, _+_, _-_, _≤_}
@@ -7,9 +7,10 @@ use native.Mathlib.Omega.{arith}
 use lib.Dec.{leb, lit≤}
 use lib.ListN.{length, getD, length-append, length-take}
 use borrow.Author.Tests.{leb-true}
-use Rattle.digits.specs.Hex.{hexOf}
+use Rattle.digits.specs.Hex.{hexIn}
 use Rattle.digits.proofs.Spelling.{and-both, length-hex}
 use Rattle.digits.proofs.Numerals.{places-least, length-numeral}
+use Rattle.digits.specs.declared.hex.Case.{Case}
 use Rattle.digits.specs.declared.hex.Case.the-variants.{Lower}
 use Rattle.ascon.specs.Sets.{isSet, rowOf}
 use Rattle.sets.proofs.Rows.{one-digit, row-sizes}
@@ -28,11 +29,11 @@ use Rattle.record.proofs.Lines.{line-length}
 use Rattle.record.proofs.Chains.{Sound}
 
 -- the digits of a field in form
-field-hex-most : (f : Field) (t : Bool) → (isField f && t) ≡ true → length (hexOf (held f)) ≤ 512
-field-hex-most f t e = omega (arith, length-hex Lower (held f), held-most f (and-both (isField f) t e .0))
+field-hex-most : (case : Case) (f : Field) (t : Bool) → (isField f && t) ≡ true → length (hexIn case (held f)) ≤ 512
+field-hex-most case f t e = omega (arith, length-hex case (held f), held-most f (and-both (isField f) t e .0))
 
 -- the digits of a field of the length of a set's key
-key-hex-most : (f : Field) (set : ℕ) (t : Bool) → (isField f && (t && leb (f .size) (rowOf set .key))) ≡ true → length (hexOf (held f)) ≤ 32
+key-hex-most : (f : Field) (set : ℕ) (t : Bool) → (isField f && (t && leb (f .size) (rowOf set .key))) ≡ true → length (hexIn Lower (held f)) ≤ 32
 key-hex-most f set t e =
     let k : f .size ≤ rowOf set .key = leb-true _ _ (and-both t _ (and-both (isField f) _ e .1) .1) in
     omega (arith, length-hex Lower (held f), length-take (f .size) (f .bytes), row-sizes set .key)
@@ -43,7 +44,7 @@ allowed-most (Fixed own) s n f k = omega arith
 allowed-most (Number least most) s n f k =
     let few : n ≤ 9_999_999 = omega (arith, leb-true n most (and-both (leb least n) _ k .1), leb-true most 9_999_999 s) in
     omega (arith, length-numeral n, places-least n 6 (omega arith))
-allowed-most (Bytes least most case) s n f k = field-hex-most f _ k
+allowed-most (Bytes least most case) s n f k = field-hex-most case f _ k
 
 -- so of a part that keeps its rule
 pub value-most : (part : ℕ) (r : Record) → keeps part r ≡ true → length (valueText part r) ≤ 512
@@ -64,9 +65,9 @@ line-most =
     (λ r k. omega (arith, line-length 3 r, length-numeral (r .chip), places-least (r .chip) 4 (omega (arith, leb-true (r .chip) 65_535 (and-both (leb 0 (r .chip)) _ k .1)))))
     (λ r k. omega (arith, line-length 4 r, key-hex-most (r .key) (r .set) (leb (rowOf (r .set) .key) (r .key .size)) k))
     (λ r k. omega (arith, line-length 5 r, key-hex-most (r .nonce) (r .set) (leb (rowOf (r .set) .key) (r .nonce .size)) k))
-    (λ r k. omega (arith, line-length 6 r, field-hex-most (r .ad) _ k))
-    (λ r k. omega (arith, line-length 7 r, field-hex-most (r .text) _ k))
-    (λ r k. omega (arith, line-length 8 r, field-hex-most (r .cipher) _ k))
+    (λ r k. omega (arith, line-length 6 r, field-hex-most Lower (r .ad) _ k))
+    (λ r k. omega (arith, line-length 7 r, field-hex-most Lower (r .text) _ k))
+    (λ r k. omega (arith, line-length 8 r, field-hex-most Lower (r .cipher) _ k))
     (λ r k. omega (arith, line-length 9 r, key-hex-most (r .tag) (r .set) (leb (rowOf (r .set) .key) (r .tag .size)) k))
     (λ r k. omega (arith, line-length 10 r, length-numeral (r .rounds), places-least (r .rounds) 6 (omega (arith, leb-true (r .rounds) 9_999_999 (and-both (leb 0 (r .rounds)) _ k .1)))))
 

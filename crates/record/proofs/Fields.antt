@@ -19,7 +19,7 @@ use Rattle.record.specs.Laws.{Whole}
 -- ---- bytes
 
 -- bytes behind bytes are bytes
-bytes-append : (x y : List ℕ) → areBytes x ≡ true → areBytes y ≡ true → areBytes (x ++ y) ≡ true
+pub bytes-append : (x y : List ℕ) → areBytes x ≡ true → areBytes y ≡ true → areBytes (x ++ y) ≡ true
 bytes-append [] y e f = f
 bytes-append (b ∷ x) y e f =
     let t = and-both (ltb b 256) _ e in
@@ -37,6 +37,12 @@ bytes-take (suc n) [] e = refl
 bytes-take (suc n) (b ∷ x) e =
     let t = and-both (ltb b 256) _ e in
     rw (t .0) (bytes-take n x (t .1))
+
+-- and so are those behind them
+pub bytes-drop : (n : ℕ) (x : List ℕ) → areBytes x ≡ true → areBytes (drop n x) ≡ true
+bytes-drop zero x e = e
+bytes-drop (suc n) [] e = refl
+bytes-drop (suc n) (b ∷ x) e = bytes-drop n x (and-both (ltb b 256) _ e .1)
 
 -- ---- a field of bytes
 

@@ -1,19 +1,17 @@
 -- What reading and writing promise, in each form.
 use mathlib.Core.Path.{_≡_, refl, sym, ap, _∙_}
-use mathlib.Core.Bool.{Bool, true, false, cond, true≢false, false≢true}
+use mathlib.Core.Bool.{Bool, true, false, true≢false, false≢true}
 use mathlib.Core.List.{List, [], _∷_, _++_, append-nil}
 use mathlib.Core.Logic.{_↔_, _⊎_, inl, inr}
 use Prim.Native.Nat.{ℕ, _+_, _-_, _≤_, _<_}
 use native.Mathlib.Omega.{arith}
-use lib.Dec.{eqb, leb}
+use lib.Dec.{eqb}
 use lib.ListN.{length, take, drop, length-append, length-take, take-append-drop}
 use lib.Seq.{take-all, take-at}
-use borrow.Author.Tests.{leb-true, eqb-true, le-leb, not-false}
+use borrow.Author.Tests.{eqb-true, not-false}
 use Rattle.answers.specs.declared.Answer.{Answer}
 use Rattle.answers.specs.declared.Answer.the-variants.{Done, BrokenRecord}
 use Rattle.answers.specs.Numbers.{isDone}
-use Rattle.answers.specs.Order.{first}
-use Rattle.answers.proofs.Order.{none-holds}
 use Rattle.lines.specs.Column.{lineAt}
 use Rattle.lines.specs.Steps.{readOf}
 use Rattle.lines.specs.Tables.{Outcome, whole, brokenAt}
@@ -25,7 +23,7 @@ use Rattle.record.specs.declared.form.Record.{Record}
 use Rattle.record.specs.declared.reading.Reading.{Reading}
 use Rattle.record.specs.Form.{partAt, linesIn, withNumber, withField, blank, valueKind, broken, losesChip}
 use Rattle.record.specs.Text.{kindOf, lineText, textFrom, textOf, mostBytes}
-use Rattle.record.specs.Calls.{readAt, given, linesOf, refusedAt, readAs, answered, readCall, WriteLeaves, writeLeaves, refusedWith, writeFaults, writeCall}
+use Rattle.record.specs.Calls.{readAt, given, linesOf, refusedAt, readAs, answered, readCall, writeLeaves, writeCall}
 use Rattle.record.specs.Laws.{Typed, BegunWhole, WrongAt, Spellable, ReadsAndWrites}
 use Rattle.record.proofs.Rules.{copiedPart}
 use Rattle.record.proofs.Lines.{line-length}
@@ -35,6 +33,7 @@ use Rattle.record.proofs.Forward.{copied, read-copied}
 use Rattle.record.proofs.Backward.{Far, read-far}
 use Rattle.record.proofs.Right.{read-begun, begun-read, read-again, stop-wrong, by-table, wrong-stop}
 use Rattle.record.proofs.Bounds.{text-most}
+use Rattle.record.proofs.Written.{write-done, done-write}
 
 -- ---- how a reading ended
 
@@ -203,44 +202,6 @@ module _ (form : Form) where
       let f : Far form (linesIn form) text (r .taken) (r .content) = read-far form (linesIn form) (omega arith) text (r .taken) (r .content) (all-read text d .is) in
       ap (take (r .taken)) (f .there) ∙ take-at (textFrom form (linesIn form) 1 (r .content)) (drop (r .taken) text) (r .taken) (sym (f .size-is))
 
-  -- ---- writing
-
-  -- a record that the form can spell is written where there is room
-  write-done : (r : Record) (out : List ℕ) → broken form r ≡ 0 → losesChip form r ≡ false → length (textOf form r) ≤ length out
-      → writeCall form r out
-      ≡ writeLeaves (record { answer = Done; line = 0; column = 0; written = length (textOf form r) }) (textOf form r ++ drop (length (textOf form r)) out)
-  unfolding writeCall
-  write-done r out e c h = rw (e, c, le-leb (length (textOf form r)) (length out) h)
-
-  -- what a writing leaves, by its answer
-  leaves : Record → List ℕ → Answer → WriteLeaves
-  leaves r out answer =
-      cond (isDone answer)
-      (writeLeaves (record { answer = Done; line = 0; column = 0; written = length (textOf form r) }) (textOf form r ++ drop (length (textOf form r)) out))
-      (writeLeaves (refusedWith answer (broken form r)) out)
-
-  -- a record that is written is one that the form can spell, and there was room
-  done-write : (r : Record) (out : List ℕ) → writeCall form r out .outcome .answer ≡ Done
-      → (broken form r ≡ 0) × (losesChip form r ≡ false) × (length (textOf form r) ≤ length out)
-  unfolding writeCall leaves refusedWith
-  done-write r out d =
-      let h = none-holds (writeFaults form r (length out)) refl (go (first Done (writeFaults form r (length out))) d) in (
-        eqb-true (broken form r) 0 (not-false (eqb (broken form r) 0) (h .0)),
-        h .1 .0,
-        leb-true (length (textOf form r)) (length out) (not-false (leb (length (textOf form r)) (length out)) (h .1 .1 .0)),
-      )
-    where
-      go : (answer : Answer) → leaves r out answer .outcome .answer ≡ Done → isDone answer ≡ true
-      go answer = by (isDone answer) refl
-        where
-          by : (b : Bool) → isDone answer ≡ b
-              → cond b
-              (writeLeaves (record { answer = Done; line = 0; column = 0; written = length (textOf form r) }) (textOf form r ++ drop (length (textOf form r)) out))
-              (writeLeaves (refusedWith answer (broken form r)) out) .outcome .answer ≡ Done
-              → isDone answer ≡ true
-          by true f e = f
-          by false f e = ap isDone e
-
   -- ---- what was written is read
 
   -- the text of a record that the form can spell is read as this record, whatever stands behind it
@@ -254,9 +215,11 @@ module _ (form : Form) where
   -- so what was written is read as the same record, and all of it is taken
   write-read : (r : Record) (out : List ℕ) → Typed r → writeCall form r out .outcome .answer ≡ Done
       → readCall form (writeCall form r out .out) ≡ readAs (writeCall form r out .outcome .written) r
+  unfolding writeCall
   write-read r out t d =
-      let b = done-write r out d in
-      rw (write-done r out (b .0) (b .1) (b .2)) (text-read r (drop (length (textOf form r)) out) (record { in-form = b .0; kept = b .1; typed = t }))
+      let b = done-write form r (textOf form r) out d in
+      rw (write-done form r (textOf form r) out (b .in-form) (b .kept) (b .room))
+      (text-read r (drop (length (textOf form r)) out) (record { in-form = b .in-form; kept = b .kept; typed = t }))
 
   -- ---- what was read is written
 
@@ -274,6 +237,13 @@ module _ (form : Form) where
         typed = f .typed;
       }
 
+  -- a record that the form can spell is written where there is room
+  write-spelled : (r : Record) (out : List ℕ) → Spellable form r → length (textOf form r) ≤ length out
+      → writeCall form r out
+      ≡ writeLeaves (record { answer = Done; line = 0; column = 0; written = length (textOf form r) }) (textOf form r ++ drop (length (textOf form r)) out)
+  unfolding writeCall
+  write-spelled r out s h = write-done form r (textOf form r) out (s .in-form) (s .kept) h
+
   -- what was read is written as the same bytes
   read-write : (text out : List ℕ) → readCall form text .answer ≡ Done → readCall form text .taken ≤ length out
       → let n = readCall form text .taken in
@@ -284,7 +254,7 @@ module _ (form : Form) where
       let f : Far form (linesIn form) text (r .taken) (r .content) = read-far form (linesIn form) (omega arith) text (r .taken) (r .content) (all-read text d .is) in
       let size : length (textOf form (r .content)) ≡ r .taken = sym (f .size-is) in
       let s = read-in-form text d in
-      let wrote = write-done (r .content) out (s .in-form) (s .kept) (omega arith) in
+      let wrote = write-spelled (r .content) out s (omega arith) in
       rw (spelled text d) (rw size at wrote)
 
   -- ---- what decides a reading

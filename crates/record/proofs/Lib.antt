@@ -11,6 +11,7 @@ pub mod Backward
 pub mod Bounds
 pub mod Right
 pub mod InForm
+pub mod Written
 pub mod Laws
 pub mod TwoForms
 pub mod Any

@@ -11,8 +11,9 @@ use borrow.Author.Tests.{leb-true, le-leb}
 use Rattle.permutation.specs.Strings.{zeros}
 use Rattle.permutation.proofs.Strings.{same-refl}
 use Rattle.sets.proofs.Rows.{row-sizes}
+use Rattle.digits.specs.declared.hex.Case.{Case}
 use Rattle.digits.specs.declared.hex.Case.the-variants.{Lower}
-use Rattle.digits.specs.Hex.{fromHex, hexOf}
+use Rattle.digits.specs.Hex.{fromHexIn, hexIn}
 use Rattle.digits.specs.Numbers.{numeral}
 use Rattle.digits.specs.Room.{lineOf}
 use Rattle.digits.proofs.Spelling.{and-both, bytes-hex}
@@ -52,9 +53,9 @@ saidAt part r = saidBy (valueKind part (r .set)) (numberAt part r)
 -- ---- what was written is read
 
 -- a field of bytes, at least and at most so many, spells them
-field-spells : (f : Field) (least most : ℕ) → Whole f → (isField f && (leb least (f .size) && leb (f .size) most)) ≡ true
-    → Spells (Bytes least most Lower) 0 (hexOf (held f))
-field-spells f least most w e =
+pub field-spells : (case : Case) (f : Field) (least most : ℕ) → Whole f → (isField f && (leb least (f .size) && leb (f .size) most)) ≡ true
+    → Spells (Bytes least most case) 0 (hexIn case (held f))
+field-spells case f least most w e =
     let b = and-both (isField f) _ e in
     let c = and-both (leb least (f .size)) _ (b .1) in
     let l = held-length f (b .0) (w .places) .0 in (
@@ -76,19 +77,19 @@ value-spells =
     (λ r s w k. (refl, refl))
     (λ r s w k. let b = and-both (leb 1 (r .set)) _ k in (leb-true _ _ (b .0), leb-true _ _ (b .1), refl))
     (λ r s w k. let b = and-both (leb 0 (r .chip)) _ k in (leb-true _ _ (b .0), leb-true _ _ (b .1), refl))
-    (λ r s w k. field-spells (r .key) _ _ w k)
-    (λ r s w k. field-spells (r .nonce) _ _ w k)
-    (λ r s w k. field-spells (r .ad) _ _ w k)
-    (λ r s w k. field-spells (r .text) _ _ w k)
-    (λ r s w k. field-spells (r .cipher) _ _ w k)
-    (λ r s w k. field-spells (r .tag) _ _ w k)
+    (λ r s w k. field-spells Lower (r .key) _ _ w k)
+    (λ r s w k. field-spells Lower (r .nonce) _ _ w k)
+    (λ r s w k. field-spells Lower (r .ad) _ _ w k)
+    (λ r s w k. field-spells Lower (r .text) _ _ w k)
+    (λ r s w k. field-spells Lower (r .cipher) _ _ w k)
+    (λ r s w k. field-spells Lower (r .tag) _ _ w k)
     (λ r s w k. let b = and-both (leb 0 (r .rounds)) _ k in (leb-true _ _ (b .0), leb-true _ _ (b .1), refl))
 
 -- bytes that a field in form holds are read as this field
-field-read : (f : Field) (t : Bool) → (isField f && t) ≡ true → Whole f → fitted (fromHex (hexOf (held f))) ≡ f
-field-read f t k w =
+pub field-read : (case : Case) (f : Field) (t : Bool) → (isField f && t) ≡ true → Whole f → fitted (fromHexIn case (hexIn case (held f))) ≡ f
+field-read case f t k w =
     let e = and-both (isField f) t k .0 in
-    rw (bytes-hex (held f) (bytes-take (f .size) (f .bytes) (w .bytes)), le-leb (length (held f)) 256 (held-most f e)) (field-held f e w)
+    rw (bytes-hex case (held f) (bytes-take (f .size) (f .bytes) (w .bytes)), le-leb (length (held f)) 256 (held-most f e)) (field-held f e w)
 
 -- the value of a part, put into a record, is the part copied
 value-copied : (part : ℕ) → 1 ≤ part → part ≤ 10 → (r s : Record) → Whole (fieldAt part r) → keeps part r ≡ true
@@ -100,12 +101,12 @@ value-copied =
     (λ r s w k. refl)
     (λ r s w k. refl)
     (λ r s w k. refl)
-    (λ r s w k. ap (λ (f : Field). withField 4 f s) (field-read (r .key) _ k w))
-    (λ r s w k. ap (λ (f : Field). withField 5 f s) (field-read (r .nonce) _ k w))
-    (λ r s w k. ap (λ (f : Field). withField 6 f s) (field-read (r .ad) _ k w))
-    (λ r s w k. ap (λ (f : Field). withField 7 f s) (field-read (r .text) _ k w))
-    (λ r s w k. ap (λ (f : Field). withField 8 f s) (field-read (r .cipher) _ k w))
-    (λ r s w k. ap (λ (f : Field). withField 9 f s) (field-read (r .tag) _ k w))
+    (λ r s w k. ap (λ (f : Field). withField 4 f s) (field-read Lower (r .key) _ k w))
+    (λ r s w k. ap (λ (f : Field). withField 5 f s) (field-read Lower (r .nonce) _ k w))
+    (λ r s w k. ap (λ (f : Field). withField 6 f s) (field-read Lower (r .ad) _ k w))
+    (λ r s w k. ap (λ (f : Field). withField 7 f s) (field-read Lower (r .text) _ k w))
+    (λ r s w k. ap (λ (f : Field). withField 8 f s) (field-read Lower (r .cipher) _ k w))
+    (λ r s w k. ap (λ (f : Field). withField 9 f s) (field-read Lower (r .tag) _ k w))
     (λ r s w k. refl)
 
 -- a line of a form that keeps its rule is read, and gives the part copied
@@ -133,7 +134,7 @@ line-spelled form line l m r s w k c rest =
 -- ---- what was read is written
 
 -- a field of at most 256 bytes is in form, and has as many as they are
-field-is : (x : List ℕ) → length x ≤ 256 → (isField (fieldOf x) ≡ true) × (fieldOf x .size ≡ length x)
+pub field-is : (x : List ℕ) → length x ≤ 256 → (isField (fieldOf x) ≡ true) × (fieldOf x .size ≡ length x)
 unfolding isField fieldOf
 field-is x h = (rw (le-leb (length x) 256 h, drop-append-seam x (zeros (256 - length x))) (same-refl (zeros (256 - length x))), refl)
 
@@ -158,17 +159,17 @@ number-follows part h least most r says digits s spelled rule =
 
 -- so do bytes, at least and at most so many
 bytes-follow : (part : ℕ) → part ≤ 10 → (least most : ℕ) → most ≤ 256 → (r : Record) (says : ℕ) (digits : List ℕ) → Spells (Bytes least most Lower) says digits
-    → ((f : Field) → valueText part (withField part f r) ≡ hexOf (held f))
+    → ((f : Field) → valueText part (withField part f r) ≡ hexIn Lower (held f))
     → ((f : Field) → keeps part (withField part f r) ≡ (isField f && (leb least (f .size) && leb (f .size) most)))
-    → Follows part digits r (withField part (fitted (fromHex digits)) r)
+    → Follows part digits r (withField part (fitted (fromHexIn Lower digits)) r)
 bytes-follow part h least most few r says digits s spelled rule =
     let x : List ℕ = s .1 in
     let short : length x ≤ 256 = omega (arith, s .4) in
     let f = field-is x short in
-    let read : fitted (fromHex digits) ≡ fieldOf x =
-    ap (λ (y : List ℕ). fitted (fromHex y)) (s .5) ∙ rw (bytes-hex x (s .2), le-leb (length x) 256 short) in
+    let read : fitted (fromHexIn Lower digits) ≡ fieldOf x =
+    ap (λ (y : List ℕ). fitted (fromHexIn Lower y)) (s .5) ∙ rw (bytes-hex Lower x (s .2), le-leb (length x) 256 short) in
     rw read (record {
-      spelled = spelled (fieldOf x) ∙ ap hexOf (held-field x) ∙ sym (s .5);
+      spelled = spelled (fieldOf x) ∙ ap (hexIn Lower) (held-field x) ∙ sym (s .5);
       rule = rule (fieldOf x) ∙ rw (f .0, f .1, le-leb least (length x) (s .3), le-leb (length x) most (s .4));
       typed = λ y. typed-field part (fieldOf x) r (whole-field x short (s .2)) y;
       before = λ i l j. field-before i l (omega arith) part (fieldOf x) r j;

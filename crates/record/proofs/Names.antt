@@ -1,18 +1,17 @@
 -- The names of the parts: each has one to eight bytes, and no line feed.
-use mathlib.Core.Path.{_≡_, refl, ap, _∙_}
+use mathlib.Core.Path.{_≡_, refl}
 use mathlib.Core.Bool.{Bool, true, _&&_}
-use mathlib.Core.List.{List, [], _∷_, _++_}
+use mathlib.Core.List.{List, [], _∷_}
 use Prim.Native.Nat.{ℕ, zero, suc, _-_, _≤_}
 use native.Mathlib.Omega.{arith}
 use lib.Dec.{leb}
-use lib.ListN.{length, getD, take, length-append}
-use lib.Seq.{take-append-seam}
-use borrow.Author.Tests.{leb-true, le-leb}
-use Rattle.permutation.specs.Strings.{zeros}
+use lib.ListN.{length, getD}
+use borrow.Author.Tests.{leb-true}
 use Rattle.digits.proofs.Spelling.{and-both}
 use Rattle.lines.specs.declared.kinds.Name.{Name}
 use Rattle.lines.specs.Right.{named}
 use Rattle.lines.specs.Laws.{plain}
+use Rattle.lines.proofs.Names.{Holds, named-holds}
 use Rattle.record.specs.Text.{names, name}
 
 -- one to eight bytes, and none a line feed
@@ -52,23 +51,6 @@ name-sizes part = (is-name part .some, is-name part .few)
 pub name-plain : (part : ℕ) → plain (name part) ≡ true
 name-plain part = is-name part .plainly
 
--- a name in its places
-named-name : (part : ℕ) → named (name part) ≡ record { bytes = name part ++ zeros (16 - length (name part)); size = length (name part) }
-unfolding named
-named-name part = rw (le-leb (length (name part)) 16 (omega (arith, name-sizes part .1)))
-
--- its size is within them
-pub name-in-places : (part : ℕ) (n : Name) → n ≡ named (name part) → n .size ≤ length (n .bytes)
-name-in-places part n e =
-    let f = e ∙ named-name part in
-    let s : n .size ≡ length (name part) = ap (λ (m : Name). m .size) f in
-    let b = ap (λ (m : Name). length (m .bytes)) f ∙ length-append (name part) (zeros (16 - length (name part))) in
-    omega arith
-
--- and out of them
-pub name-of-named : (part : ℕ) (n : Name) → n ≡ named (name part) → (n .size ≡ length (name part)) × (take (n .size) (n .bytes) ≡ name part)
-name-of-named part n e =
-    let f = e ∙ named-name part in (
-      ap (λ (m : Name). m .size) f,
-      ap (λ (m : Name). take (m .size) (m .bytes)) f ∙ take-append-seam (name part) (zeros (16 - length (name part))),
-    )
+-- so it is held by its places
+pub held-name : (part : ℕ) (n : Name) → n ≡ named (name part) → Holds (name part) n
+held-name part n e = named-holds (name part) (omega (arith, name-sizes part .1)) n e

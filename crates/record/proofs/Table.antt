@@ -11,22 +11,20 @@ use Rattle.record.specs.declared.form.Record.{Record}
 use Rattle.record.specs.Form.{partAt}
 use Rattle.record.specs.Text.{name, kindOf}
 use Rattle.record.specs.Calls.{readAt}
-use Rattle.record.proofs.Names.{name-plain, name-in-places, name-of-named}
+use Rattle.record.proofs.Names.{name-plain, held-name}
 use Rattle.record.proofs.Rules.{kind-tests}
 
 -- the name of a part's kind is the part's
 pub name-is : (part set : ℕ) → nameOf (kindOf part set) ≡ name part
 unfolding kindOf
-name-is part set = name-of-named part _ refl .1
+name-is part set = held-name part _ refl .text-is
 
 -- the kind of each part fits
 pub fit-kind : (part set : ℕ) → Fit (kindOf part set)
 unfolding kindOf
-fit-kind part set = record {
-  named = name-in-places part _ refl;
-  plainly = rw (name-of-named part _ refl .1) (name-plain part);
-  valued = kind-tests part set .0;
-}
+fit-kind part set =
+    let held = held-name part _ refl in
+    record { named = held .inside; plainly = rw (held .text-is) (name-plain part); valued = kind-tests part set .0 }
 
 -- ---- a form's readings
 

@@ -10,7 +10,7 @@ use Rattle.answers.specs.declared.Answer.the-variants.{Done, NoRoom, BrokenReco
 use Rattle.answers.specs.Numbers.{isDone}
 use Rattle.answers.specs.Order.{Choice, _when_, first}
 use Rattle.digits.specs.Ascii.{ascii}
-use Rattle.digits.specs.Hex.{fromHex}
+use Rattle.digits.specs.Hex.{fromHexIn}
 use Rattle.lines.specs.declared.kinds.Value.{Value}
 use Rattle.lines.specs.declared.kinds.Value.the-variants.{Fixed, Number, Bytes}
 use Rattle.lines.specs.declared.walk.Found.{Found}
@@ -37,7 +37,7 @@ fitted none = fieldOf []
 abbrev pub withSaid : Value → ℕ → Record → ℕ → List ℕ → Record
 withSaid (Fixed own) part r says digits = r
 withSaid (Number least most) part r says digits = withNumber part says r
-withSaid (Bytes least most case) part r says digits = withField part (fitted (fromHex digits)) r
+withSaid (Bytes least most case) part r says digits = withField part (fitted (fromHexIn case digits)) r
 
 unfoldable pub withValue : ℕ → Record → ℕ → List ℕ → Record
 withValue part r says digits = withSaid (valueKind part (r .set)) part r says digits
@@ -107,15 +107,17 @@ writeLeaves outcome out = record { outcome = outcome; out = out }
 unfoldable pub refusedWith : Answer → ℕ → Writing
 refusedWith answer line = record { answer = answer; line = line; column = 0; written = 0 }
 
--- 10, 11, 6
-abbrev pub writeFaults : Form → Record → ℕ → List (Choice Answer)
-writeFaults form r room =
-    BrokenRecord when not (eqb (broken form r) 0) ∷ ChipLost when losesChip form r ∷ NoRoom when not (leb (length (textOf form r)) room) ∷ []
+-- 10, 11, 6: by the record, and by how long its text and the room are
+abbrev pub writeFaults : Form → Record → ℕ → ℕ → List (Choice Answer)
+writeFaults form r size room = BrokenRecord when not (eqb (broken form r) 0) ∷ ChipLost when losesChip form r ∷ NoRoom when not (leb size room) ∷ []
 
--- 10 has the first broken line, and no column; a refusal changes nothing
-unfoldable pub writeCall : Form → Record → List ℕ → WriteLeaves
-writeCall form r out =
-    let text = textOf form r in
-    let answer = first Done (writeFaults form r (length out)) in
+-- writing a record as a text: 10 has the first broken line, and no column; a refusal changes nothing
+abbrev pub writeAs : Form → Record → List ℕ → List ℕ → WriteLeaves
+writeAs form r text out =
+    let answer = first Done (writeFaults form r (length text) (length out)) in
     cond (isDone answer) (writeLeaves (record { answer = Done; line = 0; column = 0; written = length text }) (text ++ drop (length text) out))
     (writeLeaves (refusedWith answer (broken form r)) out)
+
+-- as its own text in the form
+unfoldable pub writeCall : Form → Record → List ℕ → WriteLeaves
+writeCall form r out = writeAs form r (textOf form r) out

@@ -3,7 +3,7 @@ use mathlib.Core.List.{List, [], _∷_, _++_}
 use Prim.Native.Nat.{ℕ, zero, suc, _+_, _-_}
 use lib.ListN.{getD}
 use Rattle.digits.specs.Ascii.{ascii}
-use Rattle.digits.specs.Hex.{hexOf}
+use Rattle.digits.specs.Hex.{hexIn}
 use Rattle.digits.specs.Numbers.{numeral}
 use Rattle.digits.specs.Room.{lineOf}
 use Rattle.lines.specs.declared.kinds.Kind.{Kind}
@@ -43,7 +43,7 @@ kindOf part set = record { name = named (name part); value = valueKind part set 
 abbrev pub spelledAs : Value → ℕ → Field → List ℕ
 spelledAs (Fixed own) n f = []
 spelledAs (Number least most) n f = numeral n
-spelledAs (Bytes least most case) n f = hexOf (held f)
+spelledAs (Bytes least most case) n f = hexIn case (held f)
 
 -- of a part
 unfoldable pub valueText : ℕ → Record → List ℕ

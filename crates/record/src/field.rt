@@ -1,9 +1,10 @@
 // A field: up to 256 bytes, with zeros behind them.
 ghost use mathlib.Core.Path.{_≡_};
 ghost use mathlib.Core.List.{[]};
-ghost use Rattle.digits.specs.Hex.{fromHex};
+ghost use Rattle.digits.specs.Hex.{fromHexIn};
 ghost use Rattle.record.specs.Form.{fieldOf, isField};
 ghost use Rattle.record.specs.Calls.{fitted};
+use digits::Case;
 use digits::Pair;
 
 // The bytes of a line: the first `size` of 256 places.
@@ -41,8 +42,8 @@ pub(crate) fn is_field(field: Field) -> bool
 }
 
 // The field of digits, two a byte; the empty one where they are no bytes, or more than 256.
-pub(crate) fn read_field(text: &[u8]) -> Field
-    ensures { λ r. ⌜ r ≡ fitted (fromHex (now (text .entry))) ⌝ }
+pub fn read_field(case: Case, text: &[u8]) -> Field
+    ensures { λ r. ⌜ r ≡ fitted (fromHexIn case (now (text .entry))) ⌝ }
 {
     let mut bytes = [0; 256];
     let mut size = 0;
@@ -54,7 +55,7 @@ pub(crate) fn read_field(text: &[u8]) -> Field
         if text.len() - at == 1 {
             return no_field();
         }
-        let pair = digits::read_pair(text[at], text[at + 1]);
+        let pair = digits::read_pair(case, text[at], text[at + 1]);
         let Pair::Byte(b) = pair else {
             return no_field();
         };

@@ -6,6 +6,7 @@ mod reading;
 mod writing;
 
 pub use field::Field;
+pub use field::read_field;
 pub use form::Form;
 pub use form::Record;
 pub use form::first_broken;

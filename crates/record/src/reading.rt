@@ -29,8 +29,8 @@ fn with_value(part: usize, entry: Record, number: u64, digits: &[u8]) -> Record
     match value {
         Value::Fixed(_) => entry,
         Value::Number(_, _) => form::with_number(part, entry, number),
-        Value::Bytes(_, _, _) => {
-            let field = field::read_field(digits);
+        Value::Bytes(_, _, case) => {
+            let field = field::read_field(case, digits);
             form::with_field(part, entry, field)
         }
     }

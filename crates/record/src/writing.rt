@@ -45,11 +45,11 @@ fn put_value(part: usize, entry: Record, out: &mut [u8]) -> usize
     match value {
         Value::Fixed(_) => 0,
         Value::Number(_, _) => digits::put_number(form::number_at(part, entry), out),
-        Value::Bytes(_, _, _) => {
+        Value::Bytes(_, _, case) => {
             let field = form::field_at(part, entry);
             let bytes = field.bytes;
             let size = field.size;
-            digits::put_bytes(&bytes[..size], out)
+            digits::put_bytes(case, &bytes[..size], out)
         }
     }
 }

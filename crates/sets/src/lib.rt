@@ -1,10 +1,11 @@
-// The parameter sets: the one table of their numbers, the limits of data and text, and the tests of a start.
+// The parameter sets: the one table of their numbers, the limits of data and text, the rounds of a message, and the tests of a start.
 ghost use mathlib.Core.Path.{_≡_};
-ghost use Prim.Native.Nat.{_<_};
+ghost use Prim.Native.Nat.{_≤_, _<_};
 ghost use lib.ListN.{length, getD};
 ghost use Rattle.permutation.specs.Runs.{roundsOf};
 ghost use Rattle.permutation.specs.Strings.{valueOf};
 ghost use Rattle.ascon.specs.Sets.{ascon128, table, isSet, rowOf};
+ghost use Rattle.ascon.specs.Rounds.{adBlocks, messageRounds};
 ghost use Rattle.sets.specs.Rows.{inCode};
 ghost use Rattle.sets.specs.Start.{startTest};
 use answers::Answer;
@@ -107,6 +108,25 @@ pub fn first_word(set: u64) -> u64
     ensures { λ r. ⌜ r ≡ valueOf (rowOf set .word) ⌝ }
 {
     row_of(set).word
+}
+
+// The padded blocks of associated data.
+fn ad_blocks(set: u64, ad: u32) -> u64
+    ensures { λ r. ⌜ r ≡ adBlocks (rowOf set .block) ad ⌝ }
+    ensures { λ r. ⌜ r ≤ 4294967296 ⌝ }
+{
+    if ad == 0 {
+        return 0;
+    }
+    (ad as u64) / (block_length(set) as u64) + 1
+}
+
+// The rounds of a message, by the lengths of its data and of its text.
+pub fn message_rounds(set: u64, ad: u32, text: u32) -> u64
+    ensures { λ r. ⌜ r ≡ messageRounds (rowOf set) ad text ⌝ }
+{
+    let blocks = ad_blocks(set, ad) + (text as u64) / (block_length(set) as u64);
+    24 + rounds_between(set) * blocks
 }
 
 // The tests of a start: set, key length, nonce length.

@@ -1,8 +1,9 @@
 //! What a run leaves that comes to its end, and what the command says of one that doesn't.
 
 use crate::program::{Task, Tried};
+use second::exchange::{export_all, import_all};
 use second::judge::{fault_line, judge_all};
-use second::moving::{move_all, Direction};
+use second::moving::{move_all, Moved};
 use std::process::ExitStatus;
 
 /// What the command says of a report that broke off.
@@ -15,15 +16,16 @@ pub const NOT_MOVED: &str = "bench: the text was not moved";
 pub fn broken_off(task: Task) -> &'static str {
     match task {
         Task::Judge => NOT_WHOLE,
-        Task::Move(_) => NOT_MOVED,
+        Task::Move(_) | Task::Import(_) | Task::Export => NOT_MOVED,
     }
 }
 
 /// What a whole run leaves, by the second program.
 pub struct Whole {
-    /// What is printed: the report, or the moved records.
+    /// What is printed: the report, or the records or entries that the input became.
     pub report: Vec<u8>,
-    /// What is said on standard error: of a report the place of an unread record and the counts, of moved records how many they are, or why there are none.
+    /// What is said on standard error: of a report the place of an unread record and the counts, of a moved text how many records or entries it had, or why
+    /// there is none.
     pub words: String,
     /// The command's status.
     pub status: i32,
@@ -34,13 +36,14 @@ impl Whole {
     pub fn of(task: Task, input: &[u8]) -> Whole {
         match task {
             Task::Judge => Whole::on(input),
-            Task::Move(direction) => Whole::moved(direction, input),
+            Task::Move(direction) => Whole::moved(move_all(direction, input)),
+            Task::Import(set) => Whole::moved(import_all(set, input)),
+            Task::Export => Whole::moved(export_all(input)),
         }
     }
 
-    /// Gives what moving this input leaves.
-    fn moved(direction: Direction, input: &[u8]) -> Whole {
-        let moved = move_all(direction, input);
+    /// Gives what a text leaves that was moved so.
+    fn moved(moved: Moved) -> Whole {
         Whole {
             report: moved.output,
             words: moved.said,

@@ -1,6 +1,7 @@
 //! The folder of inputs: a folder for each class, a file for each input.
 
 use crate::classes::Class;
+use crate::end::Whole;
 use second::judge::{fault_line, judge_all};
 use std::fs::{self, File};
 use std::io::Write;
@@ -30,6 +31,10 @@ pub fn write(folder: &Path, classes: &[Class]) -> Vec<Case> {
             }
             if let Some(fault) = input.fault {
                 assert_eq!(fault_line(&input.bytes), fault, "{}", input.name);
+            }
+            if let Some((task, end)) = input.ends {
+                let said = Whole::of(task, &input.bytes).words;
+                assert!(said.starts_with(&end), "{}: {said}, not {end}", input.name);
             }
             let file = File::create_new(room.join(file_name(&input.name)));
             file.and_then(|mut file| file.write_all(&input.bytes))

@@ -1,4 +1,6 @@
-//! One input of the program, and what it was made for: its output and the place where a record breaks.
+//! One input of the program, and what it was made for: its output and the place where a record breaks, or how its moving ends.
+
+use crate::program::Task;
 
 /// What is said of one record, written down when an input is made.
 #[derive(Clone, Copy)]
@@ -13,13 +15,14 @@ pub enum Said {
 
 use Said::*;
 
-/// An input: its name, its bytes and, where no program has to be asked, its whole output and the line that tells where a record
-/// breaks, which is empty where none does.
+/// An input: its name, its bytes and, where no program has to be asked, the whole output of judging it and the line that tells where a record
+/// breaks, which is empty where none does; or a task and what the line begins with that ends it.
 pub struct Input {
     pub name: String,
     pub bytes: Vec<u8>,
     pub output: Option<String>,
     pub fault: Option<String>,
+    pub ends: Option<(Task, String)>,
 }
 
 impl Input {
@@ -31,6 +34,7 @@ impl Input {
             bytes: bytes.into(),
             output: Some(reports.collect()),
             fault: fault(said),
+            ends: None,
         }
     }
 
@@ -70,6 +74,49 @@ impl Input {
             bytes: bytes.into(),
             output: None,
             fault: None,
+            ends: None,
+        }
+    }
+
+    /// Gives an input of so many records or entries, all of them right for the task, or for reading a test file of the set.
+    pub fn done(
+        name: impl Into<String>,
+        bytes: impl Into<Vec<u8>>,
+        task: impl Into<Task>,
+        count: usize,
+    ) -> Input {
+        let said = format!("bench: done: records={count}\n");
+        Input::told(name, bytes).ending(task.into(), said)
+    }
+
+    /// Gives an input of which the record or entry with this number is the first that is broken for the task, in this line.
+    pub fn broken(
+        name: impl Into<String>,
+        bytes: impl Into<Vec<u8>>,
+        task: impl Into<Task>,
+        [record, line]: [usize; 2],
+    ) -> Input {
+        let said = format!("bench: refused: answer=10 record={record} line={line} column=");
+        Input::told(name, bytes).ending(task.into(), said)
+    }
+
+    /// Gives an input of which the record or entry with this number is the first that is broken for the task, in this line, at this column.
+    pub fn broken_at(
+        name: impl Into<String>,
+        bytes: impl Into<Vec<u8>>,
+        task: impl Into<Task>,
+        [record, line, column]: [usize; 3],
+    ) -> Input {
+        let said =
+            format!("bench: refused: answer=10 record={record} line={line} column={column}\n");
+        Input::told(name, bytes).ending(task.into(), said)
+    }
+
+    /// Gives the input, of which this task ends with a line that begins so.
+    fn ending(self, task: Task, said: String) -> Input {
+        Input {
+            ends: Some((task, said)),
+            ..self
         }
     }
 }

@@ -1,5 +1,5 @@
 //! Inputs for the bench program and for the command that runs it, and ways to have both judge or move
-//! them. What they have to print comes from the second program and, where a case says it by itself, from
+//! them, records and entries of test files. What they have to print comes from the second program and, where a case says it by itself, from
 //! the case.
 //!
 //! The program is what `host/run bench` runs; the variable `KVISTMAUR_BENCH` names another
@@ -7,12 +7,17 @@
 //! program that writes records again.
 
 pub mod classes;
+pub mod command;
 pub mod comparing;
 pub mod end;
+pub mod entry;
 pub mod failing;
 pub mod folder;
 pub mod input;
 pub mod layout;
 pub mod lines;
+mod message;
 pub mod program;
+pub mod right_texts;
 pub mod session;
+pub mod text;

@@ -1,6 +1,7 @@
 //! What is tried, the program or the command that runs it: how it is found, started and waited for.
 
 use crate::layout::lay_out;
+use second::cipher::Set;
 use second::moving::Direction;
 use std::ffi::{OsStr, OsString};
 use std::io::Read;
@@ -80,23 +81,40 @@ fn built() -> PathBuf {
     path
 }
 
-/// What is asked: to judge the records, or to move them.
+/// What is asked: to judge the records, to move them, to read them from a test file of this set, or to write one from them.
 #[derive(Clone, Copy, Debug, PartialEq, Eq)]
 pub enum Task {
     Judge,
     Move(Direction),
+    Import(u64),
+    Export,
 }
 
 impl Task {
-    pub const MOVES: [Task; 2] = [Task::Move(Direction::Forward), Task::Move(Direction::Back)];
+    /// Each task that gives a text for a text.
+    pub const MOVES: [Task; 4] = [
+        Task::Move(Direction::Forward),
+        Task::Move(Direction::Back),
+        Task::Import(1),
+        Task::Export,
+    ];
 
-    /// Gives the word that asks for it, of which judging needs none.
-    pub fn word(self) -> Option<&'static str> {
+    /// Gives the words that ask for it, of which judging needs none.
+    pub fn words(self) -> Vec<String> {
         match self {
-            Task::Judge => None,
-            Task::Move(Direction::Forward) => Some("forward"),
-            Task::Move(Direction::Back) => Some("back"),
+            Task::Judge => vec![],
+            Task::Move(Direction::Forward) => vec!["forward".to_string()],
+            Task::Move(Direction::Back) => vec!["back".to_string()],
+            Task::Import(set) => vec!["import".to_string(), set.to_string()],
+            Task::Export => vec!["export".to_string()],
         }
+    }
+}
+
+impl From<&Set> for Task {
+    /// Gives the task that reads a test file of the set.
+    fn from(set: &Set) -> Task {
+        Task::Import(set.number)
     }
 }
 
@@ -123,7 +141,7 @@ impl Tried {
         }
     }
 
-    /// Gives a shell script that runs it in the shell's place, with the word that stands behind the name of the program.
+    /// Gives a shell script that runs it in the shell's place, with the words that stand behind the name of the program.
     pub fn script(self) -> String {
         let words = self.words();
         let quoted = words.iter().map(|word| format!("'{}'", word.display()));
@@ -142,7 +160,7 @@ impl Tried {
             Tried::Program => program_by(&self.words()),
             Tried::Command => started_by(&self.words()),
         };
-        command.args(task.word());
+        command.args(task.words());
         command
     }
 
@@ -155,7 +173,7 @@ impl Tried {
     pub fn in_shell_to(self, task: Task, script: &str) -> Command {
         let mut command = Command::new("sh");
         command.args(["-c", script, "sh"]).args(self.words());
-        command.args(task.word());
+        command.args(task.words());
         command
     }
 

@@ -1,5 +1,6 @@
 //! The words of the command for people, `./bench`, and its status.
 
+use judging::command::{bench, ends, named_sample, sample};
 use judging::end::{Whole, NOT_MOVED};
 use judging::failing::full;
 use judging::layout::{file_of, place};
@@ -8,7 +9,7 @@ use second::judge::judge_all;
 use second::moving::Direction::{Back, Forward};
 use std::fs::{self, File};
 use std::io::pipe;
-use std::process::{Command, Output, Stdio};
+use std::process::Stdio;
 
 /// What is said of the sample's records, one after another.
 const SAMPLE: [&str; 6] = [
@@ -19,31 +20,6 @@ const SAMPLE: [&str; 6] = [
     "verdict=differs field=tag",
     "verdict=equal field=none",
 ];
-
-/// Gives the command, called in a folder of the repository with these words.
-fn bench(folder: &str, words: &[&str]) -> Command {
-    let mut command = Tried::Command.start();
-    command.current_dir(root().join(folder)).args(words);
-    command
-}
-
-/// Panics unless the command ends with this status, and gives what it leaves.
-fn ends(command: Command, input: Stdio, status: i32) -> Output {
-    let output = run(command, input, Stdio::piped()).expect("the command ends");
-    let words = String::from_utf8_lossy(&output.stderr);
-    assert_eq!(output.status.code(), Some(status), "{words}");
-    output
-}
-
-/// Gives the sample.
-fn sample() -> Vec<u8> {
-    named_sample("records.txt")
-}
-
-/// Gives the sample of this name.
-fn named_sample(name: &str) -> Vec<u8> {
-    fs::read(root().join("samples").join(name)).expect("the sample can be read")
-}
 
 /// Says that the sample is judged as it was made, however the command is given it.
 #[test]
@@ -233,22 +209,37 @@ fn the_status() {
 #[test]
 fn the_status_of_a_moving() {
     let (one, chips) = (sample(), named_sample("chips.txt"));
+    let file = named_sample("published.txt");
+    let [forward, back] = [Forward, Back].map(Task::Move);
     let mut ran = 0;
-    for (direction, bytes, status) in [
-        (Forward, &b""[..], 0),
-        (Forward, &one, 0),
-        (Forward, &chips, 1),
-        (Forward, &one[..100], 1),
-        (Forward, b"\n", 1),
-        (Back, b"", 0),
-        (Back, &chips[..chips.len() / 5], 1),
-        (Back, &chips, 1),
-        (Back, &one, 1),
-        (Back, b"\n", 1),
+    for (task, bytes, status) in [
+        (forward, &b""[..], 0),
+        (forward, &one, 0),
+        (forward, &chips, 1),
+        (forward, &one[..100], 1),
+        (forward, b"\n", 1),
+        (back, b"", 0),
+        (back, &chips[..chips.len() / 5], 1),
+        (back, &chips, 1),
+        (back, &one, 1),
+        (back, b"\n", 1),
+        (Task::Import(1), b"", 0),
+        (Task::Import(1), &file, 0),
+        (Task::Import(1), &file[..file.len() - 1], 1),
+        (Task::Import(1), &one, 1),
+        (Task::Import(1), b"\n", 1),
+        (Task::Import(2), b"", 0),
+        (Task::Import(2), &file, 1),
+        (Task::Import(5), b"", 1),
+        (Task::Import(5), &file, 1),
+        (Task::Export, b"", 0),
+        (Task::Export, &one, 0),
+        (Task::Export, &one[..one.len() - 1], 1),
+        (Task::Export, &chips, 1),
+        (Task::Export, &file, 1),
     ] {
         let path = place("status-moved");
         fs::write(&path, bytes).expect("a file for the test");
-        let task = Task::Move(direction);
         let mut command = Tried::Command.in_shell_to(task, r#""$@" && echo shipped"#);
         command.arg(&path);
         let output = ends(command, Stdio::null(), status);
@@ -262,7 +253,7 @@ fn the_status_of_a_moving() {
         assert_eq!(output.stderr, words.as_bytes());
         ran += 1;
     }
-    assert_eq!(ran, 10);
+    assert_eq!(ran, 24);
 }
 
 /// Says that the name of a file may have blanks, begin with a minus behind `--` or in a folder, or be a word of the command in a folder.
@@ -284,6 +275,13 @@ fn names_of_files() {
         ("forward", &["./forward"]),
         ("back", &["--", "back"]),
         ("back", &["judge", "back"]),
+        ("import", &["--", "import"]),
+        ("import", &["judge", "import"]),
+        ("import", &["./import"]),
+        ("export", &["--", "export"]),
+        ("export", &["judge", "export"]),
+        ("export", &["./export"]),
+        ("1", &["1"]),
     ] {
         fs::write(folder.join(name), sample()).expect("a file for the test");
         let mut command = bench("", words);
@@ -292,21 +290,42 @@ fn names_of_files() {
         assert!(output.stdout == judge_all(&sample()));
         ran += 1;
     }
-    assert_eq!(ran, 12);
-    for (name, words) in [
-        ("forward", &["forward", "forward"][..]),
-        ("judge", &["forward", "judge"]),
-        ("back", &["forward", "--", "back"]),
-        ("-h", &["forward", "--", "-h"]),
+    assert_eq!(ran, 19);
+    let file = named_sample("published.txt");
+    for (task, name, words) in [
+        (Task::Move(Forward), "forward", &["forward", "forward"][..]),
+        (Task::Move(Forward), "judge", &["forward", "judge"]),
+        (Task::Move(Forward), "import", &["forward", "import"]),
+        (Task::Move(Forward), "back", &["forward", "--", "back"]),
+        (Task::Move(Forward), "-h", &["forward", "--", "-h"]),
+        (Task::Export, "export", &["export", "export"]),
+        (Task::Export, "import", &["export", "import"]),
+        (Task::Export, "1", &["export", "1"]),
+        (Task::Export, "-h", &["export", "--", "-h"]),
+        (Task::Import(1), "import", &["import", "1", "import"]),
+        (Task::Import(1), "export", &["import", "1", "export"]),
+        (Task::Import(1), "1", &["import", "1", "1"]),
+        (Task::Import(1), "two words", &["import", "1", "two words"]),
+        (Task::Import(1), "-h", &["import", "1", "--", "-h"]),
+        (Task::Import(1), "import", &["import", "1", "./import"]),
     ] {
-        fs::write(folder.join(name), sample()).expect("a file for the test");
+        let bytes = match task {
+            Task::Import(_) => &file,
+            _ => &sample(),
+        };
+        fs::write(folder.join(name), bytes).expect("a file for the test");
         let mut command = bench("", words);
         command.current_dir(&folder);
         let output = ends(command, Stdio::null(), 0);
-        assert!(output.stdout == Whole::of(Task::Move(Forward), &sample()).report);
+        assert!(output.stdout == Whole::of(task, bytes).report, "{words:?}");
         ran += 1;
     }
-    assert_eq!(ran, 16);
+    assert_eq!(ran, 34);
+    // The word asks for a task, also where a file has its name.
+    let mut command = bench("", &["import"]);
+    command.current_dir(&folder);
+    let output = ends(command, Stdio::null(), 2);
+    assert!(output.stdout.is_empty());
 }
 
 /// Says that a file which can't be opened and words that aren't understood are status 2, with no report.
@@ -342,12 +361,94 @@ fn what_cannot_be_done() {
         &["backward", "samples/chips.txt"],
         &["--", "forward", "samples/records.txt"],
         &["-", "forward"],
+        &["import", "1", "samples/no-such-file"],
+        &["import", "1", ""],
+        &["import", "1", "-x"],
+        &["import", "1", "--"],
+        &["import", "1", "1", "samples/published.txt"],
+        &[
+            "import",
+            "1",
+            "samples/published.txt",
+            "samples/published.txt",
+        ],
+        &["import", "1", "-h", "samples/published.txt"],
+        &["import", "1", "import", "samples/published.txt"],
+        &["1", "import", "samples/published.txt"],
+        &["imports", "1", "samples/published.txt"],
+        &["Import", "1", "samples/published.txt"],
+        &["import1", "samples/published.txt"],
+        &["judge", "import", "1"],
+        &["--", "import", "1"],
+        &["-", "import", "1"],
+        &["export", "samples/no-such-file"],
+        &["export", ""],
+        &["export", "-x"],
+        &["export", "--"],
+        &["export", "1", "samples/records.txt"],
+        &["export", "export", "samples/records.txt"],
+        &["export", "samples/records.txt", "samples/records.txt"],
+        &["exports", "samples/records.txt"],
+        &["Export", "samples/records.txt"],
+        &["--", "export", "samples/records.txt"],
+        &["samples/records.txt", "export"],
     ] {
         let output = ends(bench("", words), Stdio::null(), 2);
         assert!(output.stdout.is_empty() && !output.stderr.is_empty());
         ran += 1;
     }
-    assert_eq!(ran, 28);
+    assert_eq!(ran, 54);
+}
+
+/// Says that importing needs a set, and that a word which is no decimal of up to 2^64 - 1 is none: status 2 and the usage, whatever follows.
+#[test]
+fn no_number_of_a_set() {
+    let output = ends(bench("", &["-h"]), Stdio::null(), 0);
+    let usage = String::from_utf8(output.stdout).expect("plain text");
+    let mut ran = 0;
+    for word in [
+        "",
+        " ",
+        "x",
+        "one",
+        "-",
+        "--",
+        "-1",
+        "-0",
+        "+1",
+        " 1",
+        "1 ",
+        "1\n",
+        "1 1",
+        "1.",
+        "1.0",
+        "1e0",
+        "0x1",
+        "1x",
+        "*",
+        "?",
+        "[1]",
+        "$(echo 1)",
+        "\u{661}",
+        "samples/published.txt",
+        "18446744073709551616",
+        "18446744073709551617",
+        "28446744073709551615",
+        "100000000000000000001",
+        "100000000000000000000000000000000000000001",
+    ] {
+        for more in [&[][..], &["-"], &["samples/published.txt"]] {
+            let words = [&["import", word][..], more].concat();
+            let input = file_of("no-number", &named_sample("published.txt"));
+            let output = ends(bench("", &words), input.into(), 2);
+            assert!(output.stdout.is_empty(), "{words:?}");
+            assert_eq!(String::from_utf8_lossy(&output.stderr), usage, "{words:?}");
+            ran += 1;
+        }
+    }
+    assert_eq!(ran, 87);
+    let output = ends(bench("", &["import"]), Stdio::null(), 2);
+    assert_eq!(String::from_utf8_lossy(&output.stderr), usage);
 }
 
 /// Says that help is printed when it is asked for, or is status 2 where it can't be.
@@ -359,6 +460,11 @@ fn help() {
         &["judge", "-h"],
         &["forward", "-h"],
         &["back", "--help"],
+        &["import", "-h"],
+        &["import", "--help"],
+        &["import", "1", "-h"],
+        &["export", "-h"],
+        &["export", "--help"],
     ] {
         let output = ends(bench("", words), Stdio::null(), 0);
         let usage = String::from_utf8_lossy(&output.stdout);
@@ -366,6 +472,8 @@ fn help() {
         for named in [
             "\n       bench forward [FILE]\n",
             "\n       bench back [FILE]\n",
+            "\n       bench import SET [FILE]\n",
+            "\n       bench export [FILE]\n",
             "bench: record 3: line 4, column 17",
             "bench: done: records=6",
             "bench: refused: answer=10 record=2 line=4 column=7",
@@ -391,12 +499,19 @@ fn what_fails() {
     assert!(output.stderr.starts_with(b"bench: writing failed"));
     assert_eq!(output.status.code(), Some(2));
 
-    let output = ends(bench("", &["forward", "samples"]), Stdio::null(), 2);
-    assert!(output.stdout.is_empty());
-    let said = String::from_utf8_lossy(&output.stderr);
-    assert!(
-        said.starts_with("bench: reading failed") && said.ends_with(&format!("\n{NOT_MOVED}\n"))
-    );
+    for words in [
+        &["forward", "samples"][..],
+        &["import", "1", "samples"],
+        &["export", "samples"],
+    ] {
+        let output = ends(bench("", words), Stdio::null(), 2);
+        assert!(output.stdout.is_empty());
+        let said = String::from_utf8_lossy(&output.stderr);
+        assert!(
+            said.starts_with("bench: reading failed")
+                && said.ends_with(&format!("\n{NOT_MOVED}\n"))
+        );
+    }
 }
 
 /// Says that a closed stream is status 2, whichever it is; a file needs no standard input.
@@ -442,22 +557,27 @@ fn closed_streams() {
 fn closed_streams_of_a_moving() {
     let mut ran = 0;
     let (no_input, no_output) = ("standard input is closed", "standard output is closed");
-    for (closed, status, said) in [
-        ("<&-", 2, no_input),
-        (">&-", 2, no_output),
-        (r#""$SAMPLE" <&-"#, 0, "done: records=6"),
-        (r#""$SAMPLE" >&-"#, 2, no_output),
-        (r#""$SAMPLE" 2>&-"#, 2, ""),
+    for (task, name) in [
+        (Task::Move(Forward), "samples/records.txt"),
+        (Task::Import(1), "samples/published.txt"),
+        (Task::Export, "samples/records.txt"),
     ] {
-        let task = Task::Move(Forward);
-        let mut command = Tried::Command.in_shell_to(task, &format!(r#""$@" {closed}"#));
-        command.env("SAMPLE", root().join("samples/records.txt"));
-        let output = ends(command, Stdio::null(), status);
-        if !said.is_empty() {
-            assert_eq!(output.stderr, format!("bench: {said}\n").as_bytes());
-            assert_eq!(output.stdout.is_empty(), status == 2, "{closed}");
+        for (closed, status, said) in [
+            ("<&-", 2, no_input),
+            (">&-", 2, no_output),
+            (r#""$SAMPLE" <&-"#, 0, "done: records=6"),
+            (r#""$SAMPLE" >&-"#, 2, no_output),
+            (r#""$SAMPLE" 2>&-"#, 2, ""),
+        ] {
+            let mut command = Tried::Command.in_shell_to(task, &format!(r#""$@" {closed}"#));
+            command.env("SAMPLE", root().join(name));
+            let output = ends(command, Stdio::null(), status);
+            if !said.is_empty() {
+                assert_eq!(output.stderr, format!("bench: {said}\n").as_bytes());
+                assert_eq!(output.stdout.is_empty(), status == 2, "{closed}");
+            }
+            ran += 1;
         }
-        ran += 1;
     }
-    assert_eq!(ran, 5);
+    assert_eq!(ran, 15);
 }

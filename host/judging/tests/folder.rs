@@ -1,6 +1,6 @@
 //! Every input of the judged classes: what the program and the command print and say, beside the second program.
 
-use judging::classes::judged;
+use judging::classes::classes_of;
 use judging::comparing::all_agree;
 use judging::program::Task;
 use std::io::{self, Write};
@@ -11,7 +11,7 @@ use std::path::Path;
 #[test]
 fn the_program_says_what_the_second_program_says() {
     let folder = Path::new(env!("CARGO_TARGET_TMPDIR")).join("inputs");
-    let said = all_agree(Task::Judge, &judged(), &folder);
+    let said = all_agree(Task::Judge, &classes_of(Task::Judge), &folder);
     // Past the test runner, which would keep it back.
     writeln!(io::stderr(), "folder: {said}").expect("it can be said");
 }

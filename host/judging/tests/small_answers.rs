@@ -4,6 +4,7 @@ use judging::classes::{many, many_in};
 use judging::end::Whole;
 use judging::layout::file_of;
 use judging::program::{run, Task, Tried};
+use judging::right_texts::right_text;
 use second::moving::Direction::{Back, Forward};
 use second::record::Form::Two;
 use std::path::{Path, PathBuf};
@@ -54,6 +55,10 @@ fn all_is_the_same() {
         (Task::Move(Forward), broken),
         (Task::Move(Back), many_in(|_| Two, 2, 7)),
         (Task::Move(Back), many_in(|_| Two, 20, 7)),
+        (Task::Import(1), right_text(Task::Import(1), 20)),
+        (Task::Import(2), b"Count = 1\nKey = 0\n".to_vec()),
+        (Task::Import(5), right_text(Task::Import(1), 2)),
+        (Task::Export, many(20)),
     ] {
         let Whole { report, words, .. } = Whole::of(task, &records);
         let wanted = [String::from_utf8_lossy(&report).into_owned(), words];
@@ -66,5 +71,5 @@ fn all_is_the_same() {
         assert_eq!(nothing, [String::new(), String::new()]);
         ran += 1;
     }
-    assert_eq!(ran, 40);
+    assert_eq!(ran, 60);
 }

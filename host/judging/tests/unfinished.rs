@@ -36,6 +36,15 @@ const REFUSED: [&str; 2] = [
     "bench: refused: answer=11 record=12\n",
 ];
 
+/// The last line where there is no such set.
+const NO_SET: &str = "bench: refused: answer=1\n";
+
+/// The tasks, by what their last lines can be.
+const FORWARD: Task = Task::Move(Forward);
+const BACK: Task = Task::Move(Back);
+const IMPORT: Task = Task::Import(1);
+const EXPORT: Task = Task::Export;
+
 /// Gives the command with that program, which says this.
 fn saying(command: &PathBuf, said: &str) -> Command {
     saying_to(Task::Judge, command, said)
@@ -44,7 +53,7 @@ fn saying(command: &PathBuf, said: &str) -> Command {
 /// Gives the command with this task and that program, which says this.
 fn saying_to(task: Task, command: &PathBuf, said: &str) -> Command {
     let mut command = Command::new(command);
-    command.args(task.word()).env("SAID", said);
+    command.args(task.words()).env("SAID", said);
     command
 }
 
@@ -292,8 +301,11 @@ fn wrong_ends() {
     ] {
         for (task, said) in [
             (Task::Judge, RIGHT),
-            (Task::Move(Forward), DONE),
-            (Task::Move(Back), DONE),
+            (FORWARD, DONE),
+            (BACK, DONE),
+            (IMPORT, DONE),
+            (IMPORT, NO_SET),
+            (EXPORT, DONE),
         ] {
             let mut command = saying_to(task, &command, said);
             command.env(name, value);
@@ -301,7 +313,7 @@ fn wrong_ends() {
             ran += 1;
         }
     }
-    assert_eq!(ran, 21);
+    assert_eq!(ran, 42);
 }
 
 /// Says that a right line which can't be passed on is status 2.
@@ -309,7 +321,7 @@ fn wrong_ends() {
 fn lines_that_cannot_be_passed_on() {
     let command = lay_out("unfinished-passing", PROGRAM);
     let mut ran = 0;
-    for (task, said) in [(Task::Judge, RIGHT), (Task::Move(Back), DONE)] {
+    for (task, said) in [(Task::Judge, RIGHT), (BACK, DONE), (IMPORT, NO_SET)] {
         let read_only = File::open("Cargo.toml").expect("the file opens");
         let (reader, gone) = pipe().expect("a pipe");
         drop(reader);
@@ -329,13 +341,13 @@ fn lines_that_cannot_be_passed_on() {
         ] {
             let mut shell = Command::new("sh");
             shell.args(["-c", script]).arg(&command);
-            shell.args(task.word()).env("SAID", said);
+            shell.args(task.words()).env("SAID", said);
             let output = run_on(shell, Stdio::null(), Stdio::null(), stderr).expect("it ends");
             assert_eq!(output.status.code(), Some(2), "{script}");
             ran += 1;
         }
     }
-    assert_eq!(ran, 10);
+    assert_eq!(ran, 15);
 }
 
 /// Gives an empty file.
@@ -386,75 +398,91 @@ fn right_lines_of_a_moving() {
     let command = lay_out("unfinished-moving-right", PROGRAM);
     let [broken, chip] = REFUSED;
     let mut ran = 0;
-    for (directions, said, status) in [
-        (&[Forward, Back][..], DONE, 0),
-        (&[Forward, Back], "bench: done: records=0\n", 0),
+    for (tasks, said, status) in [
+        (&Task::MOVES[..], DONE, 0),
+        (&Task::MOVES, "bench: done: records=0\n", 0),
         (
-            &[Forward, Back],
+            &Task::MOVES,
             "bench: done: records=18446744073709551615\n",
             0,
         ),
         (
-            &[Forward, Back],
+            &Task::MOVES,
             "a loader's warning\nbench: done: records=1\n",
             0,
         ),
-        (&[Forward, Back], broken, 1),
+        (&Task::MOVES, broken, 1),
         (
-            &[Forward, Back],
+            &Task::MOVES,
             "bench: refused: answer=10 record=1 line=1 column=1\n",
             1,
         ),
         (
-            &[Forward, Back],
+            &Task::MOVES,
+            "bench: refused: answer=10 record=6000 line=7 column=1\n",
+            1,
+        ),
+        (
+            &[FORWARD, BACK, EXPORT],
             "bench: refused: answer=10 record=6000 line=8 column=15\n",
             1,
         ),
         (
-            &[Back],
+            &[BACK],
             "bench: refused: answer=10 record=1 line=9 column=5\n",
             1,
         ),
         (
-            &[Back],
+            &[BACK],
             "bench: refused: answer=10 record=1 line=10 column=15\n",
             1,
         ),
-        (&[Back], chip, 1),
-        (&[Back], "bench: refused: answer=11 record=1\n", 1),
+        (&[BACK], chip, 1),
+        (&[BACK], "bench: refused: answer=11 record=1\n", 1),
         (
-            &[Back],
+            &[BACK],
             "a loader's warning\nbench: refused: answer=11 record=1\n",
             1,
         ),
+        (&[IMPORT, Task::Import(5)], NO_SET, 1),
+        (
+            &[IMPORT],
+            "a loader's warning\nbench: refused: answer=1\n",
+            1,
+        ),
     ] {
-        for direction in directions {
-            let task = Task::Move(*direction);
-            let output = ends_to(task, saying_to(task, &command, said), said, status);
+        for task in tasks {
+            let output = ends_to(*task, saying_to(*task, &command, said), said, status);
             assert_eq!(output.stderr, said.as_bytes());
             ran += 1;
         }
     }
-    assert_eq!(ran, 19);
+    assert_eq!(ran, 39);
 }
 
 /// Says that the last line of a moving cut at any byte is none, be it with a line feed behind it.
 #[test]
 fn cut_lines_of_a_moving() {
     let command = lay_out("unfinished-moving-cut", PROGRAM);
-    let task = Task::Move(Back);
-    let mut cut = Vec::new();
-    for line in [DONE, REFUSED[0], REFUSED[1]] {
-        cut.extend((0..line.len()).map(|length| line[..length].to_string()));
-        // Without its last digit alone it is another number.
-        cut.extend((0..line.len() - 2).map(|length| format!("{}\n", &line[..length])));
-    }
     let mut ran = 0;
-    for said in &cut {
-        ends_to(task, saying_to(task, &command, said), said, 2);
-        ran += 1;
+    for (task, lines) in [
+        (BACK, [DONE, REFUSED[0], REFUSED[1]]),
+        (IMPORT, [DONE, REFUSED[0], NO_SET]),
+    ] {
+        let mut cut = Vec::new();
+        for line in lines {
+            cut.extend((0..line.len()).map(|length| line[..length].to_string()));
+            // Without its last digit alone it may be another number.
+            cut.extend((0..line.len() - 2).map(|length| format!("{}\n", &line[..length])));
+        }
+        // An answer 10 can be cut so that it is all of another line.
+        cut.retain(|said| task != IMPORT || said != NO_SET);
+        for said in &cut {
+            ends_to(task, saying_to(task, &command, said), said, 2);
+            ran += 1;
+        }
     }
-    assert_eq!(ran, 218);
+    assert_eq!(ran, 413);
 }
 
 /// Says that any other line, or another one of the program's own before it, is status 2.
@@ -514,6 +542,27 @@ fn wrong_lines_of_a_moving() {
         "bench: refused: record=2\n",
         "bench: refused:\n",
         "bench: refused\n",
+        "bench: refused: answer=1 record=1\n",
+        "bench: refused: answer=1 record=\n",
+        "bench: refused: answer=1 record=0\n",
+        "bench: refused: answer=1 line=1 column=1\n",
+        "bench: refused: answer=1 record=1 line=1 column=1\n",
+        "bench: refused: answer=1 line=0 column=0\n",
+        "bench: refused: answer=1 \n",
+        "bench: refused: answer=1\r\n",
+        "bench: refused: answer=1.\n",
+        "bench: refused: answer=1 set=3\n",
+        "bench: refused: answer=01\n",
+        "bench: refused: answer=+1\n",
+        "bench: refused: answer= 1\n",
+        "bench: refused:  answer=1\n",
+        "bench: refused: answer=\n",
+        "bench: refused: answer=2\n",
+        "bench: refused: answer=6\n",
+        "bench: refused: answer=12\n",
+        "bench: refused: 1\n",
+        "refused: answer=1\n",
+        " bench: refused: answer=1\n",
         // What belongs to it is missing, or more stands there.
         "bench: refused: answer=10\n",
         "bench: refused: answer=10 record=2\n",
@@ -560,6 +609,10 @@ fn wrong_lines_of_a_moving() {
         "bench: done: records=2\nbench: done: records=2\n",
         "bench: refused: answer=11 record=2\nbench: refused: answer=11 record=2\n",
         "bench: refused: answer=11 record=2\nbench: done: records=2\n",
+        "bench: refused: answer=1\nbench: refused: answer=1\n",
+        "bench: refused: answer=1\nbench: done: records=2\n",
+        "bench: done: records=2\nbench: refused: answer=1\n",
+        "bench: unknown task\nbench: refused: answer=1\n",
         "bench: writing failed: Broken pipe\nbench: done: records=2\n",
         "bench: record 2: line 4, column 17\nbench: refused: answer=10 record=2 line=4 column=17\n",
         "bench: done: records=2\nbench: writing failed: Broken pipe\n",
@@ -572,30 +625,73 @@ fn wrong_lines_of_a_moving() {
             ran += 1;
         }
     }
-    assert_eq!(ran, 192);
+    assert_eq!(ran, 484);
 }
 
-/// Says that no record of form 1 has lines 9 and 10 or a chip, and that the end of a moving is none of a judging.
+/// Says that no record of form 1 has lines 9 and 10 or a chip, no entry a line 8, only importing names a set, and the end of a moving is none of a judging.
 #[test]
 fn lines_of_another_task() {
     let command = lay_out("unfinished-other-task", PROGRAM);
+    let line = |number| format!("bench: refused: answer=10 record=2 line={number} column=1\n");
     let mut ran = 0;
     for (task, said) in [
-        (
-            Task::Move(Forward),
-            "bench: refused: answer=10 record=2 line=9 column=1\n",
-        ),
-        (
-            Task::Move(Forward),
-            "bench: refused: answer=10 record=2 line=10 column=1\n",
-        ),
-        (Task::Move(Forward), REFUSED[1]),
-        (Task::Judge, DONE),
-        (Task::Judge, REFUSED[0]),
-        (Task::Judge, REFUSED[1]),
+        (FORWARD, line(9)),
+        (FORWARD, line(10)),
+        (FORWARD, REFUSED[1].to_string()),
+        (FORWARD, NO_SET.to_string()),
+        (BACK, NO_SET.to_string()),
+        (IMPORT, line(8)),
+        (IMPORT, line(9)),
+        (IMPORT, line(10)),
+        (IMPORT, line(70)),
+        (IMPORT, REFUSED[1].to_string()),
+        (EXPORT, line(9)),
+        (EXPORT, line(10)),
+        (EXPORT, line(80)),
+        (EXPORT, REFUSED[1].to_string()),
+        (EXPORT, NO_SET.to_string()),
+        (Task::Judge, DONE.to_string()),
+        (Task::Judge, REFUSED[0].to_string()),
+        (Task::Judge, REFUSED[1].to_string()),
+        (Task::Judge, NO_SET.to_string()),
     ] {
-        ends_to(task, saying_to(task, &command, said), said, 2);
+        ends_to(task, saying_to(task, &command, &said), &said, 2);
         ran += 1;
     }
-    assert_eq!(ran, 6);
+    assert_eq!(ran, 19);
+}
+
+/// A program that says its words and nothing else.
+const WORDS: &str = r#"printf '%s,' "$@" >&2
+printf '\nbench: done: records=0\n' >&2"#;
+
+/// Says that the program gets the words of the command as they are, and no others.
+#[test]
+fn the_words_are_passed_on() {
+    let command = lay_out("unfinished-words", WORDS);
+    let mut ran = 0;
+    for (words, passed) in [
+        (&["forward"][..], "bench,forward,"),
+        (&["back", "-"], "bench,back,"),
+        (&["import", "1"], "bench,import,1,"),
+        (&["import", "2", "-"], "bench,import,2,"),
+        (&["import", "2", "/dev/null"], "bench,import,2,"),
+        (&["import", "2", "--", "/dev/null"], "bench,import,2,"),
+        (
+            &["import", "18446744073709551615"],
+            "bench,import,18446744073709551615,",
+        ),
+        (&["export"], "bench,export,"),
+        (&["export", "-"], "bench,export,"),
+        (&["export", "/dev/null"], "bench,export,"),
+    ] {
+        let mut command = Command::new(&command);
+        command.args(words);
+        let output = run(command, Stdio::null(), Stdio::piped()).expect("it ends");
+        let said = String::from_utf8_lossy(&output.stderr);
+        assert_eq!(said, format!("{passed}\nbench: done: records=0\n"));
+        assert_eq!(output.status.code(), Some(0));
+        ran += 1;
+    }
+    assert_eq!(ran, 10);
 }

@@ -1,4 +1,4 @@
-//! The round count by arithmetic. Only tests use it: sealing counts what it runs.
+//! The round count by arithmetic, for tests and for entries that are read: sealing counts what it runs.
 
 use crate::cipher::Set;
 

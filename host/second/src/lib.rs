@@ -1,13 +1,16 @@
 //! A slow and plain second program for Ascon v1, its whole-message calls, its
-//! streams and its bench records. It is there to be compared with, so every
-//! part follows the printed definition step by step.
+//! streams, its bench records and published test files. It is there to be
+//! compared with, so every part follows the printed definition step by step.
 
 pub mod calls;
 pub mod cases;
 pub mod cipher;
+pub mod entry;
+pub mod exchange;
 pub mod formula;
 pub mod hex;
 pub mod judge;
+mod lines;
 pub mod make;
 pub mod moving;
 pub mod permutation;
@@ -15,3 +18,4 @@ pub mod random;
 pub mod record;
 pub mod stream;
 pub mod vectors;
+mod whole;

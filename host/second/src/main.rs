@@ -2,12 +2,13 @@
 
 use second::calls::{open, seal, Answer, AD_LIMIT, TEXT_LIMIT};
 use second::cipher::set_of;
+use second::exchange::{export_all, import_all};
 use second::judge::{fault_line, judge_all};
 use second::make::{lines_of, right_record, Unmade};
-use second::moving::{move_all, Direction};
+use second::moving::{move_all, Direction, Moved};
 use second::random::Random;
 use second::record::Form;
-use second::{hex, vectors};
+use second::{entry, hex, vectors};
 use std::fs::File;
 use std::io::{self, BufWriter, Read, Write};
 use std::os::fd::AsFd;
@@ -17,10 +18,13 @@ const USAGE: &str = "usage:
   second judge
   second forward
   second back
+  second import SET
+  second export
   second seal SET KEYHEX NONCEHEX ADHEX TEXTHEX
   second open SET KEYHEX NONCEHEX ADHEX CIPHERHEX TAGHEX
   second vectors COUNT SEED
   second vectors2 COUNT SEED
+  second entries SET COUNT SEED
   second rounds SET ADLEN TEXTLEN
 hex is lower-case, two digits a byte, and may be empty; numbers are decimal";
 
@@ -53,8 +57,10 @@ fn work() -> Result<u8, Trouble> {
     let parts: Vec<&str> = arguments.iter().map(String::as_str).collect();
     let done = match parts.as_slice() {
         ["judge"] => print_judged(&input()?),
-        ["forward"] => return print_moved(Direction::Forward, &input()?),
-        ["back"] => return print_moved(Direction::Back, &input()?),
+        ["forward"] => return print_moved(move_all(Direction::Forward, &input()?)),
+        ["back"] => return print_moved(move_all(Direction::Back, &input()?)),
+        ["import", set] => return print_moved(import_all(number(set)?, &input()?)),
+        ["export"] => return print_moved(export_all(&input()?)),
         ["seal", set, key, nonce, ad, text] => {
             let parts = [bytes(key)?, bytes(nonce)?, bytes(ad)?, bytes(text)?];
             print_sealed(number(set)?, parts)
@@ -65,6 +71,7 @@ fn work() -> Result<u8, Trouble> {
         }
         ["vectors", count, seed] => print_vectors(Form::One, number(count)?, number(seed)?),
         ["vectors2", count, seed] => print_vectors(Form::Two, number(count)?, number(seed)?),
+        ["entries", set, count, seed] => print_entries(number(set)?, number(count)?, number(seed)?),
         ["rounds", set, ad, text] => print_rounds(number(set)?, number(ad)?, number(text)?),
         _ => Err(Trouble::Usage),
     };
@@ -127,9 +134,8 @@ fn print_judged(input: &[u8]) -> Result<(), Trouble> {
     write_all(io::stderr(), fault_line(input).as_bytes())
 }
 
-/// Prints the moved records, and on standard error how it went, and gives the status or the trouble met.
-fn print_moved(direction: Direction, input: &[u8]) -> Result<u8, Trouble> {
-    let moved = move_all(direction, input);
+/// Prints what was moved, and on standard error how it went, and gives the status or the trouble met.
+fn print_moved(moved: Moved) -> Result<u8, Trouble> {
     say(&moved.output)?;
     write_all(io::stderr(), moved.said.as_bytes())?;
     Ok(moved.status)
@@ -164,12 +170,31 @@ fn print_opened(
 
 /// Prints pseudo-random right records one after another and gives the trouble met, if any.
 fn print_vectors(form: Form, count: u64, seed: u64) -> Result<(), Trouble> {
+    print_made(count, seed, |random, index| {
+        let record = vectors::record_in(form, random, index);
+        lines_of(form, &record).expect("a right record can be written")
+    })
+}
+
+/// Prints pseudo-random right entries of the set one after another and gives the trouble met, if any.
+fn print_entries(set: u64, count: u64, seed: u64) -> Result<(), Trouble> {
+    let set = set_of(set).ok_or_else(|| refused(1))?;
+    print_made(count, seed, |random, index| {
+        entry::written(index + 1, &vectors::short_record(random, set))
+    })
+}
+
+/// Prints so many texts, made in turn from pseudo-random numbers, and gives the trouble met, if any.
+fn print_made(
+    count: u64,
+    seed: u64,
+    made: impl Fn(&mut Random, u64) -> Vec<u8>,
+) -> Result<(), Trouble> {
     let mut random = Random::new(seed);
     let mut out = plain(io::stdout())?;
     for index in 0..count {
-        let record = vectors::record_in(form, &mut random, index);
-        let lines = lines_of(form, &record).expect("a right record can be written");
-        out.write_all(&lines).map_err(unwritten)?;
+        out.write_all(&made(&mut random, index))
+            .map_err(unwritten)?;
     }
     out.flush().map_err(unwritten)
 }

@@ -1,6 +1,9 @@
 //! Moving records from form 1 to form 2 and back, one at a time or a whole input.
 
-use crate::record::{read, write, Broken, Form, Refused, LONGEST_2};
+use crate::record::{read, write, Form, Refused, LONGEST_2};
+use crate::whole::each_turned;
+
+pub use crate::whole::Moved;
 
 /// Which way records are moved.
 #[derive(Clone, Copy, Debug, PartialEq, Eq)]
@@ -47,50 +50,24 @@ fn move_one(direction: Direction, text: &[u8], out: &mut [u8]) -> Result<Lengths
     Ok(Lengths { taken, written })
 }
 
-/// What moving a whole input prints, and its status.
-#[derive(Clone, Debug, PartialEq, Eq)]
-pub struct Moved {
-    /// All of standard output.
-    pub output: Vec<u8>,
-    /// All of standard error: one line.
-    pub said: String,
-    /// 0 when all records were moved, 1 when one was refused.
-    pub status: u8,
-}
-
 /// Gives what is printed when all records of the input are moved, or nothing because one is refused.
 pub fn move_all(direction: Direction, input: &[u8]) -> Moved {
-    let mut output = Vec::new();
-    let mut room = [0; LONGEST_2];
-    let mut place = 0;
-    let mut count = 0;
-    while place < input.len() {
-        match move_one(direction, &input[place..], &mut room) {
-            Ok(Lengths { taken, written }) => {
-                output.extend(&room[..written]);
-                place += taken;
-                count += 1;
-            }
-            Err(why) => return refused(count + 1, why),
-        }
-    }
-    Moved {
-        output,
-        said: format!("bench: done: records={count}\n"),
-        status: 0,
+    let moved = each_turned(input, |_, rest| {
+        let mut room = [0; LONGEST_2];
+        let Lengths { taken, written } = move_one(direction, rest, &mut room)?;
+        Ok((room[..written].to_vec(), taken))
+    });
+    match moved {
+        Ok(whole) => Moved::done(whole),
+        Err((record, why)) => refused(record, why),
     }
 }
 
 /// Gives what is printed when the record with the given number is refused.
 fn refused(record: u64, why: Refused) -> Moved {
-    let answer = why.number();
-    let mut said = format!("bench: refused: answer={answer} record={record}");
-    if let Refused::Broken(Broken { line, column }) = why {
-        said += &format!(" line={line} column={column}");
-    }
-    Moved {
-        output: Vec::new(),
-        said: said + "\n",
-        status: 1,
-    }
+    let broken = match why {
+        Refused::Broken(broken) => Some(broken),
+        Refused::Chip | Refused::Short => None,
+    };
+    Moved::refused(why.number(), Some(record), broken)
 }

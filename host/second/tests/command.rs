@@ -78,15 +78,20 @@ fn vectors_of_form_2_and_judge() {
     assert_eq!(done(&["vectors2", "0", "1"], b""), "");
 }
 
-/// Gives status, standard output and standard error of moving an input.
-fn moved(command: &str, input: &str) -> (Option<i32>, String, String) {
-    let output = run(&[command], input.as_bytes());
+/// Gives status, standard output and standard error of moving an input by those words.
+fn moved_by(words: &[&str], input: &str) -> (Option<i32>, String, String) {
+    let output = run(words, input.as_bytes());
     let text = |bytes| String::from_utf8(bytes).expect("plain text");
     (
         output.status.code(),
         text(output.stdout),
         text(output.stderr),
     )
+}
+
+/// Gives status, standard output and standard error of moving an input by a command of one word.
+fn moved(command: &str, input: &str) -> (Option<i32>, String, String) {
+    moved_by(&[command], input)
 }
 
 /// Says what moving prints, letter for letter, done and refused.
@@ -178,6 +183,167 @@ fn made_records_there_and_back() {
         ran += 1;
     }
     assert_eq!(ran, 4);
+}
+
+/// Says what import and export print, letter for letter, done and refused.
+#[test]
+fn import_and_export() {
+    let zeros = "00".repeat(12);
+    let rest = format!("Key = {zeros}\nNonce = {zeros}\nPT = AB\nAD = \nCT = CDEF{zeros}\n\n");
+    let [one, two] = [1, 2].map(|count| format!("Count = {count}\n{rest}"));
+    let record = format!(
+        "set=2\nkey={zeros}\nnonce={zeros}\nad=\ntext=ab\ncipher=cdef\ntag={zeros}\nrounds=24\n"
+    );
+    let both = one.clone() + &two;
+    let import_2: &[&str] = &["import", "2"];
+    let cases: [(&[&str], String, &str, &str, i32); 24] = [
+        (import_2, String::new(), "", "done: records=0", 0),
+        (&["import", "1"], String::new(), "", "done: records=0", 0),
+        (&["export"], String::new(), "", "done: records=0", 0),
+        (import_2, one.clone(), &record, "done: records=1", 0),
+        (
+            &["import", "02"],
+            one.clone(),
+            &record,
+            "done: records=1",
+            0,
+        ),
+        (&["export"], record.clone(), &one, "done: records=1", 0),
+        (
+            import_2,
+            both.clone(),
+            &record.repeat(2),
+            "done: records=2",
+            0,
+        ),
+        (&["export"], record.repeat(2), &both, "done: records=2", 0),
+        (
+            &["export"],
+            record.replace("rounds=24", "rounds=7"),
+            &one,
+            "done: records=1",
+            0,
+        ),
+        (
+            import_2,
+            one.clone() + &two.replace("PT = AB", "PT = ABc"),
+            "",
+            "refused: answer=10 record=2 line=4 column=8",
+            1,
+        ),
+        (
+            import_2,
+            one.clone() + &two.replace("PT = AB", "PT ="),
+            "",
+            "refused: answer=10 record=2 line=4 column=5",
+            1,
+        ),
+        (
+            import_2,
+            two.clone(),
+            "",
+            "refused: answer=10 record=1 line=1 column=9",
+            1,
+        ),
+        (
+            import_2,
+            one.trim_end().to_string() + "\n",
+            "",
+            "refused: answer=10 record=1 line=7 column=1",
+            1,
+        ),
+        (
+            &["import", "1"],
+            both.clone(),
+            "",
+            "refused: answer=10 record=1 line=2 column=31",
+            1,
+        ),
+        (
+            import_2,
+            record.clone(),
+            "",
+            "refused: answer=10 record=1 line=1 column=1",
+            1,
+        ),
+        (
+            &["export"],
+            record.clone() + &record.replace("ad=", "ad=abC"),
+            "",
+            "refused: answer=10 record=2 line=4 column=6",
+            1,
+        ),
+        (
+            &["export"],
+            record.replace("set=2\n", "form=2\nset=2\nchip=0\n"),
+            "",
+            "refused: answer=10 record=1 line=1 column=1",
+            1,
+        ),
+        (
+            &["export"],
+            one.clone(),
+            "",
+            "refused: answer=10 record=1 line=1 column=1",
+            1,
+        ),
+        (&["import", "0"], both.clone(), "", "refused: answer=1", 1),
+        (&["import", "3"], both.clone(), "", "refused: answer=1", 1),
+        (&["import", "3"], String::new(), "", "refused: answer=1", 1),
+        (&["import", "12"], two.clone(), "", "refused: answer=1", 1),
+        (
+            &["import", "4294967298"],
+            one.clone(),
+            "",
+            "refused: answer=1",
+            1,
+        ),
+        (
+            &["import", "18446744073709551615"],
+            one.clone(),
+            "",
+            "refused: answer=1",
+            1,
+        ),
+    ];
+    let mut ran = 0;
+    for (words, input, output, said, status) in cases {
+        let wanted = (Some(status), output.to_string(), format!("bench: {said}\n"));
+        assert_eq!(moved_by(words, &input), wanted, "{words:?}");
+        ran += 1;
+    }
+    assert_eq!(ran, 24);
+}
+
+/// Says that made entries are right, counted, of the asked set, and the same for the same seed.
+#[test]
+fn made_entries_there_and_back() {
+    let mut ran = 0;
+    for (set, other) in [("1", "2"), ("2", "1")] {
+        let entries = done(&["entries", set, "300", "42"], b"");
+        assert_eq!(entries, done(&["entries", set, "300", "42"], b""));
+        assert_ne!(entries, done(&["entries", set, "300", "43"], b""));
+        assert_eq!(entries.lines().count(), 300 * 7);
+        assert!(entries.starts_with("Count = 1\nKey = "));
+        assert!(entries.contains("\n\nCount = 300\nKey = "));
+        assert!(entries.contains("\nPT = \n") && entries.contains("\nAD = \n"));
+        let (status, records, said) = moved_by(&["import", set], &entries);
+        assert_eq!((status, &said[..]), (Some(0), "bench: done: records=300\n"));
+        assert_eq!(records.matches(&format!("set={set}\nkey=")).count(), 300);
+        let report = done(&["judge"], records.as_bytes());
+        assert_eq!(report.matches("verdict=equal\nfield=none\n").count(), 300);
+        assert_eq!(moved("export", &records), (Some(0), entries.clone(), said));
+        let (status, records, said) = moved_by(&["import", other], &entries);
+        assert_eq!((status, &records[..]), (Some(1), ""));
+        // The 25th digit of a key of set 1 is too many in set 2; a key of set 2 ends before it.
+        assert_eq!(
+            said,
+            "bench: refused: answer=10 record=1 line=2 column=31\n"
+        );
+        assert_eq!(done(&["entries", set, "0", "1"], b""), "");
+        ran += 1;
+    }
+    assert_eq!(ran, 2);
 }
 
 /// Says that the printed case of the rules comes out through the program.
@@ -341,8 +507,28 @@ fn rounds() {
 #[test]
 fn bad_command_lines() {
     let key = "00".repeat(16);
-    let cases: [&[&str]; 25] = [
+    let cases: [&[&str]; 45] = [
         &[],
+        &["import"],
+        &["import", "1", "more"],
+        &["import", ""],
+        &["import", "one"],
+        &["import", "+1"],
+        &["import", "-1"],
+        &["import", " 1"],
+        &["import", "1 "],
+        &["import", "0x1"],
+        &["import", "1.0"],
+        &["import", "18446744073709551616"],
+        &["import", "99999999999999999999"],
+        &["Import", "1"],
+        &["export", "1"],
+        &["Export"],
+        &["entries"],
+        &["entries", "1", "5"],
+        &["entries", "x", "5", "1"],
+        &["entries", "1", "x", "1"],
+        &["entries", "1", "5", "x"],
         &["forward", "more"],
         &["back", "more"],
         &["Forward"],
@@ -376,7 +562,7 @@ fn bad_command_lines() {
         assert!(output.stderr.starts_with(b"usage:"));
         ran += 1;
     }
-    assert_eq!(ran, 25);
+    assert_eq!(ran, 45);
 }
 
 /// Says that refused messages are said on standard error with status 1.
@@ -384,7 +570,9 @@ fn bad_command_lines() {
 fn refused_messages() {
     let key = "00".repeat(16);
     let long = "00".repeat(257);
-    let cases: [(&[&str], &str); 8] = [
+    let cases: [(&[&str], &str); 10] = [
+        (&["entries", "0", "5", "1"], "refused with answer 1"),
+        (&["entries", "3", "5", "1"], "refused with answer 1"),
         (&["seal", "3", &key, &key, "", ""], "refused with answer 1"),
         (&["seal", "2", &key, &key, "", ""], "refused with answer 2"),
         (&["seal", "1", &key, "00", "", ""], "refused with answer 3"),
@@ -405,7 +593,7 @@ fn refused_messages() {
         assert!(String::from_utf8_lossy(&output.stderr).contains(words));
         ran += 1;
     }
-    assert_eq!(ran, 8);
+    assert_eq!(ran, 10);
 }
 
 /// Gives an empty file that can be written but not read.
@@ -418,11 +606,18 @@ fn write_only() -> File {
 #[test]
 fn failed_reads() {
     let mut ran = 0;
-    for command in ["judge", "forward", "back"] {
+    let commands: [&[&str]; 5] = [
+        &["judge"],
+        &["forward"],
+        &["back"],
+        &["import", "1"],
+        &["export"],
+    ];
+    for command in commands {
         let folder = File::open(".").expect("the folder opens");
         for input in [folder, write_only()] {
             let output = Command::new(env!("CARGO_BIN_EXE_second"))
-                .arg(command)
+                .args(command)
                 .stdin(Stdio::from(input))
                 .output()
                 .expect("the program starts");
@@ -432,7 +627,7 @@ fn failed_reads() {
             ran += 1;
         }
     }
-    assert_eq!(ran, 6);
+    assert_eq!(ran, 10);
 }
 
 /// Says that moved records that can't be written are a failed write, of which nothing else is told.
@@ -460,7 +655,9 @@ fn moved_records_unwritten() {
 /// Says that a failed write is said with a nonzero status.
 #[test]
 fn failed_writes() {
-    let cases: [&[&str]; 5] = [
+    let cases: [&[&str]; 7] = [
+        &["entries", "1", "3", "1"],
+        &["entries", "2", "300", "1"],
         &["vectors2", "3", "1"],
         &["vectors", "3", "1"],
         &["vectors", "300", "1"],
@@ -481,5 +678,5 @@ fn failed_writes() {
         assert!(output.stderr.starts_with(b"second: writing failed"));
         ran += 1;
     }
-    assert_eq!(ran, 5);
+    assert_eq!(ran, 7);
 }

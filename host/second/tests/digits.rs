@@ -1,6 +1,6 @@
 //! Pairs of hex digits: their byte, or which of the two is at fault.
 
-use second::hex::{pair, read, written, BadDigit};
+use second::hex::{pair, pair_in, read, written, written_in, BadDigit, Case};
 
 /// Gives the value of a digit as the rules have it, or none.
 fn value(digit: u8) -> Option<u8> {
@@ -115,4 +115,36 @@ fn many_pairs() {
         ran += 1;
     }
     assert_eq!(ran, 256 + 512);
+}
+
+/// Says that upper-case digits are read where lower-case ones of the same value would be, and no others.
+#[test]
+fn every_upper_case_pair() {
+    let lowered = |digit: u8| match digit {
+        b'A'..=b'F' => digit - b'A' + b'a',
+        b'a'..=b'f' => b'x',
+        other => other,
+    };
+    let mut right = 0;
+    for first in 0..=255 {
+        for second in 0..=255 {
+            let wanted = pair(&[lowered(first), lowered(second)]);
+            assert_eq!(pair_in(Case::Upper, &[first, second]), wanted);
+            assert_eq!(
+                pair_in(Case::Lower, &[first, second]),
+                pair(&[first, second])
+            );
+            right += usize::from(wanted.is_ok());
+        }
+    }
+    assert_eq!(right, 16 * 16);
+}
+
+/// Says how bytes are written in either case.
+#[test]
+fn written_in_either_case() {
+    let bytes = [0x00, 0x09, 0x0a, 0x1f, 0xa0, 0xbc, 0xde, 0xff];
+    assert_eq!(written_in(Case::Lower, &bytes), b"00090a1fa0bcdeff");
+    assert_eq!(written_in(Case::Upper, &bytes), b"00090A1FA0BCDEFF");
+    assert_eq!(written(&bytes), b"00090a1fa0bcdeff");
 }

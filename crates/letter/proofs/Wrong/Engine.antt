@@ -10,6 +10,7 @@ use Rattle.permutation.specs.Strings.{bytesOf, valueOf, stringOf, stateOf}
 use Rattle.digits.specs.Hex.{digitIn}
 use Rattle.timing.specs.Call.{Called, permuteCall}
 use Rattle.ascon.specs.Sets.{table, isSet, rowOf}
+use Rattle.ascon.specs.Rounds.{adBlocks, textBlocks, messageRounds}
 use Rattle.ascon.specs.Mode.{p, firstBlock, initialise, separate, finalise}
 use Rattle.sponge.specs.Sponge.{Crypted, started, absorbed, given, cryptedOf, adClosed, tagOf}
 use Rattle.tags.specs.Tags.{sixteenOf, givenTag}
@@ -17,7 +18,7 @@ use Rattle.letter.specs.Wrong.Engine.{Wrong}
 use Rattle.letter.proofs.Calls.{off}
 
 pub wrong : Wrong
-unfolding permuteWords finalise absorbed given cryptedOf tagOf isSet rowOf table roundsOf constantsOf constants permuteCall digitIn adClosed separate started initialise firstBlock p permute rounds round diffuse Σ₀ Σ₁ Σ₂ Σ₃ Σ₄ _⋙_ substitute substituted column fromBits bit sBox addConstant stringOf stateOf bytesOf valueOf sixteenOf givenTag
+unfolding permuteWords finalise absorbed given cryptedOf tagOf isSet rowOf table roundsOf constantsOf constants permuteCall digitIn adClosed separate started initialise firstBlock p permute rounds round diffuse Σ₀ Σ₁ Σ₂ Σ₃ Σ₄ _⋙_ substitute substituted column fromBits bit sBox addConstant stringOf stateOf bytesOf valueOf sixteenOf givenTag messageRounds adBlocks textBlocks
 wrong = record {
   number-done = λ κ e p. off (cc p);
   is-done-differs = λ κ e p. off (cc p);
@@ -45,6 +46,10 @@ wrong = record {
   rounds-between-one = λ κ e p. off (cc p);
   first-word-later = λ κ e p. let word : _≡_ {A = ℕ} 0x80400c0600000000 0x800c060000000000 = p in absurd (omega arith);
   rounds-between-two = λ κ e p. off (cc p);
+  message-rounds-none = λ κ e p. let rounds : _≡_ {A = ℕ} 0 24 = p in absurd (omega arith);
+  message-rounds-block = λ κ e p. let rounds : _≡_ {A = ℕ} 30 36 = p in absurd (omega arith);
+  message-rounds-text = λ κ e p. let rounds : _≡_ {A = ℕ} 30 36 = p in absurd (omega arith);
+  message-rounds-two = λ κ e p. let rounds : _≡_ {A = ℕ} 36 40 = p in absurd (omega arith);
   start-zeros = λ κ e p. off (cc p);
   start-other-block = λ κ e p. let x0 : _≡_ {A = ℕ} 0x0bd5c797efcdd5ae 0x76da0f6a16b926b1 = ap (λ w. getD w 0 0) p in absurd (omega arith);
   absorb-next-block = λ κ e p. let x1 : _≡_ {A = ℕ} 0xfee8b912453958f1 0xffe8b912453958f1 = ap (λ w. getD w 1 0) p in absurd (omega arith);

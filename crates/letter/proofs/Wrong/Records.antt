@@ -8,7 +8,7 @@ use Rattle.answers.specs.declared.Answer.the-variants.{Done, NoRoom, BrokenReco
 use Rattle.ascon.specs.Sets.{table, rowOf}
 use Rattle.digits.specs.declared.hex.Case.the-variants.{Lower}
 use Rattle.digits.specs.declared.hex.Digit.the-variants.{Value, NoDigit}
-use Rattle.digits.specs.Hex.{digitIn, digitOf, hexDigitIn, hexDigit}
+use Rattle.digits.specs.Hex.{digitIn, digitOf, hexDigitIn}
 use Rattle.digits.specs.Numbers.{places, numeral}
 use Rattle.digits.specs.Room.{lineOf, Laid, put}
 use Rattle.digits.proofs.Spelling.{digit-spells, spelled-digit}
@@ -16,8 +16,8 @@ use Rattle.lines.specs.declared.kinds.Name.{Name}
 use Rattle.lines.specs.declared.step.State.{State}
 use Rattle.lines.specs.Right.{named}
 use Rattle.lines.specs.Steps.{nameStep, feedStep, valueStep, stepOf, readOf}
+use Rattle.record.specs.declared.field.Field.{Field}
 use Rattle.record.specs.declared.form.Form.{Form}
-use Rattle.record.specs.declared.form.Record.{Record}
 use Rattle.record.specs.declared.reading.Reading.{Reading}
 use Rattle.record.specs.Form.{fieldOf, isField, blank, withNumber, withField, valueKind, keeps, broken}
 use Rattle.record.specs.Text.{names, name, kindOf}
@@ -28,11 +28,11 @@ use Rattle.letter.specs.Wrong.Records.{Wrong}
 use Rattle.letter.proofs.Calls.{off}
 
 -- a character that is read as a value is its digit
-other : (c v : ℕ) → (v < 16 → hexDigit v ≡ c → ⊥) → Value v ≡ digitOf c → ⊥
+other : (c v : ℕ) → (v < 16 → hexDigitIn Lower v ≡ c → ⊥) → Value v ≡ digitOf c → ⊥
 other c v none p = let spells = digit-spells Lower c v (sym p) in none (spells .0) (spells .1)
 
 -- a digit is read as its value
-digit : (v : ℕ) → v < 16 → NoDigit ≡ digitOf (hexDigit v) → ⊥
+digit : (v : ℕ) → v < 16 → NoDigit ≡ digitOf (hexDigitIn Lower v) → ⊥
 digit v h p = let taken : NoDigit ≡ Value v = p ∙ spelled-digit Lower v h in off cc
 
 -- a text that is refused has a line and a column
@@ -55,7 +55,11 @@ wrong = record {
   read-pair-first = λ κ e p. off (cc p);
   read-pair-second = λ κ e p. off (cc p);
   read-pair-neither = λ κ e p. off (cc p);
+  read-pair-upper = λ κ e p. off (cc p);
+  read-pair-lower = λ κ e p. off (cc p);
+  read-pair-lower-first = λ κ e p. off (cc p);
   put-bytes-low = λ κ p. let first : _≡_ {A = ℕ} 0x66 0x31 = ap (λ (x : Laid). getD (x .out) 0 0) p in absurd (omega arith);
+  put-bytes-case = λ κ p. let second : _≡_ {A = ℕ} 0x66 0x46 = ap (λ (x : Laid). getD (x .out) 1 0) p in absurd (omega arith);
   put-bytes-room = λ κ e p. off (cc (ap (λ (x : Laid). x .count) p));
   put-text-room = λ κ e p. off (cc (ap (λ (x : Laid). x .count) p));
   put-text-beyond = λ κ p. off (cc (ap (λ (x : Laid). x .out) p));
@@ -66,8 +70,8 @@ wrong = record {
   put-number-ten = λ κ p. let first : _≡_ {A = ℕ} 0x30 0x31 = ap (λ (x : Laid). getD (x .out) 0 0) p in absurd (omega arith);
   put-number-room = λ κ e p. off (cc (ap (λ (x : Laid). x .count) p));
   put-number-high = λ κ p. let first : _≡_ {A = ℕ} 0x32 0x31 = ap (λ (x : Laid). getD (x .out) 0 0) p in absurd (omega arith);
-  named-long = λ κ e p. let size : _≡_ {A = ℕ} 17 0 = ap (λ (x : Name). x .size) p in absurd (omega arith);
-  named-size = λ κ e p. let size : _≡_ {A = ℕ} 16 2 = ap (λ (x : Name). x .size) p in absurd (omega arith);
+  named-long = λ κ e p. let size : _≡_ {A = ℕ} 33 0 = ap (λ (x : Name). x .size) p in absurd (omega arith);
+  named-size = λ κ e p. let size : _≡_ {A = ℕ} 32 2 = ap (λ (x : Name). x .size) p in absurd (omega arith);
   begun-ended = λ place count number κ e p. off (cc (ap (λ (x : State). x .ended) p));
   begun-digit = λ place number κ e p. let count : _≡_ {A = ℕ} 1 0 = ap (λ (x : State). x .digits) p in absurd (omega arith);
   advance-name = λ κ e p. off (cc p);
@@ -86,6 +90,8 @@ wrong = record {
   line-byte-too-few = λ κ e p. off (cc p);
   either-later = λ κ e p. off (cc p);
   either-line = λ κ e p. off (cc p);
+  read-field-case = λ κ e p. let size : _≡_ {A = ℕ} 1 0 = ap (λ (x : Field). x .size) p in absurd (omega arith);
+  read-field-odd = λ κ e p. let size : _≡_ {A = ℕ} 1 0 = ap (λ (x : Field). x .size) p in absurd (omega arith);
   read-nothing = λ column early κ e p. let line : _≡_ {A = ℕ} 8 1 = ap (λ (x : Reading). x .line) p in absurd (omega arith);
   read-line-nought = λ form text r refused none κ e p. absurd (omega (arith, place form text r refused p .first));
   read-column-nought = λ form text r refused none κ e p. absurd (omega (arith, place form text r refused p .wrong .first));

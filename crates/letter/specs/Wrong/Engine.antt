@@ -73,6 +73,13 @@ pub record Wrong : Type 0 where
   pub first-word-later : Never sets.first_word.Reads.Learnt (1, tt) 0x80400c0600000000
   -- the rounds between are not 12 in set 2
   pub rounds-between-two : Never sets.rounds_between.Reads.Learnt (2, tt) 12
+  -- a message of nothing has its rounds at the start and at the end
+  pub message-rounds-none : Never sets.message_rounds.Reads.Learnt (1, (0, (0, tt))) 0
+  -- data of a whole block has a block more, and so has text, which runs only between
+  pub message-rounds-block : Never sets.message_rounds.Reads.Learnt (1, (8, (0, tt))) 30
+  pub message-rounds-text : Never sets.message_rounds.Reads.Learnt (1, (1, (8, tt))) 30
+  -- set 2 has eight rounds between
+  pub message-rounds-two : Never sets.message_rounds.Reads.Learnt (2, (16, (15, tt))) 36
   -- a start under zeros does not leave zeros
   pub start-zeros : Never sponge.start.Reads.Learnt (1, (zeros 16, (zeros 16, tt))) (zeros 5)
   -- the first block of set 2 does not say six rounds between

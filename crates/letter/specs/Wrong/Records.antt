@@ -9,7 +9,7 @@ use Rattle.permutation.specs.Strings.{zeros}
 use Rattle.digits.specs.declared.hex.Case.the-variants.{Lower, Upper}
 use Rattle.digits.specs.declared.hex.Digit.the-variants.{Value, NoDigit}
 use Rattle.digits.specs.declared.hex.Pair.the-variants.{Byte, BadFirst, BadSecond}
-use Rattle.digits.specs.Hex.{hexDigit}
+use Rattle.digits.specs.Hex.{hexDigitIn}
 use Rattle.digits.specs.Ascii.{ascii}
 use Rattle.lines.specs.declared.kinds.Kind.{Kind}
 use Rattle.lines.specs.declared.kinds.Value.the-variants.{Number, Bytes}
@@ -45,9 +45,9 @@ bytesLine least most = record { name = named (ascii "b="); value = Bytes least m
 
 pub record Wrong : Type 0 where
   -- a character is read as no value of which it is not the digit: no value is off by one, and `A` to `F`, `/` and `g` have none
-  pub read-digit-other : (c v : ℕ) → (v < 16 → hexDigit v ≡ c → ⊥) → Never digits.read_digit.Reads.Learnt (c, tt) (Value v)
+  pub read-digit-other : (c v : ℕ) → (v < 16 → hexDigitIn Lower v ≡ c → ⊥) → Never digits.read_digit.Reads.Learnt (c, tt) (Value v)
   -- a digit is not read as none
-  pub read-digit-none : (v : ℕ) → v < 16 → Never digits.read_digit.Reads.Learnt (hexDigit v, tt) NoDigit
+  pub read-digit-none : (v : ℕ) → v < 16 → Never digits.read_digit.Reads.Learnt (hexDigitIn Lower v, tt) NoDigit
   -- `A` is no digit in lower case, nor `a` in upper case
   pub is-digit-upper : Never digits.is_digit.Reads.Learnt (Lower, (0x41, tt)) true
   pub is-digit-lower : Never digits.is_digit.Reads.Learnt (Upper, (0x61, tt)) true
@@ -55,17 +55,23 @@ pub record Wrong : Type 0 where
   pub is-digit-f : Never digits.is_digit.Reads.Learnt (Lower, (0x66, tt)) false
   pub is-digit-F : Never digits.is_digit.Reads.Learnt (Upper, (0x46, tt)) false
   -- `01` is not sixteen
-  pub read-pair-low : Never digits.read_pair.Reads.Learnt (0x30, (0x31, tt)) (Byte 16)
+  pub read-pair-low : Never digits.read_pair.Reads.Learnt (Lower, (0x30, (0x31, tt))) (Byte 16)
   -- `0g` is no byte
-  pub read-pair-half : Never digits.read_pair.Reads.Learnt (0x30, (0x67, tt)) (Byte 0)
+  pub read-pair-half : Never digits.read_pair.Reads.Learnt (Lower, (0x30, (0x67, tt))) (Byte 0)
   -- in `g0` the second digit is not at fault, in `0g` the first is not, and in `gg` the second is not
-  pub read-pair-first : Never digits.read_pair.Reads.Learnt (0x67, (0x30, tt)) BadSecond
-  pub read-pair-second : Never digits.read_pair.Reads.Learnt (0x30, (0x67, tt)) BadFirst
-  pub read-pair-neither : Never digits.read_pair.Reads.Learnt (0x67, (0x67, tt)) BadSecond
+  pub read-pair-first : Never digits.read_pair.Reads.Learnt (Lower, (0x67, (0x30, tt))) BadSecond
+  pub read-pair-second : Never digits.read_pair.Reads.Learnt (Lower, (0x30, (0x67, tt))) BadFirst
+  pub read-pair-neither : Never digits.read_pair.Reads.Learnt (Lower, (0x67, (0x67, tt))) BadSecond
+  -- `0A` is no byte in lower case, nor `0a` in upper case, where the second is at fault
+  pub read-pair-upper : Never digits.read_pair.Reads.Learnt (Lower, (0x30, (0x41, tt))) (Byte 10)
+  pub read-pair-lower : Never digits.read_pair.Reads.Learnt (Upper, (0x30, (0x61, tt))) (Byte 10)
+  pub read-pair-lower-first : Never digits.read_pair.Reads.Learnt (Upper, (0x30, (0x61, tt))) BadFirst
   -- 1f is not put as `f1`
-  pub put-bytes-low : NeverLeaves digits.put_bytes.Reads.Learnt (lent (0x1f ∷ []), (lent (zeros 2), tt)) 2 (lent (0x1f ∷ []), (lent (ascii "f1"), tt))
+  pub put-bytes-low : NeverLeaves digits.put_bytes.Reads.Learnt (Lower, (lent (0x1f ∷ []), (lent (zeros 2), tt))) 2 (Lower, (lent (0x1f ∷ []), (lent (ascii "f1"), tt)))
+  -- nor in lower case where upper case is asked for
+  pub put-bytes-case : NeverLeaves digits.put_bytes.Reads.Learnt (Upper, (lent (0x1f ∷ []), (lent (zeros 2), tt))) 2 (Upper, (lent (0x1f ∷ []), (lent (ascii "1f"), tt)))
   -- 1f is not put where one place is lent
-  pub put-bytes-room : Never digits.put_bytes.Reads.Learnt (lent (0x1f ∷ []), (lent (zeros 1), tt)) 2
+  pub put-bytes-room : Never digits.put_bytes.Reads.Learnt (Lower, (lent (0x1f ∷ []), (lent (zeros 1), tt))) 2
   -- two bytes do not go into one place
   pub put-text-room : Never digits.put_text.Reads.Learnt (lent (zeros 2), (lent (zeros 1), tt)) 2
   -- one byte does not touch the second place
@@ -84,10 +90,10 @@ pub record Wrong : Type 0 where
   pub put-number-room : Never digits.put_number.Reads.Learnt (10, (lent (zeros 1), tt)) 1
   -- 1 is not put as `2`
   pub put-number-high : NeverLeaves digits.put_number.Reads.Learnt (1, (lent (zeros 1), tt)) 1 (1, (lent (0x32 ∷ []), tt))
-  -- a name of 17 bytes does not go into its places
-  pub named-long : Never lines.named.Reads.Learnt (lent (zeros 17), tt) (record { bytes = zeros 16; size = 17 })
+  -- a name of 33 bytes does not go into its places
+  pub named-long : Never lines.named.Reads.Learnt (lent (zeros 33), tt) (record { bytes = zeros 32; size = 33 })
   -- a name keeps its length
-  pub named-size : Never lines.named.Reads.Learnt (lent (ascii "n="), tt) (record { bytes = ascii "n=" ++ zeros 14; size = 16 })
+  pub named-size : Never lines.named.Reads.Learnt (lent (ascii "n="), tt) (record { bytes = ascii "n=" ++ zeros 30; size = 32 })
   -- before its first character a line has not ended, and has no digit
   pub begun-ended : (place count number : ℕ) → Never lines.begun.Reads.Learnt tt (standing place count number true)
   pub begun-digit : (place number : ℕ) → Never lines.begun.Reads.Learnt tt (standing place 1 number false)
@@ -119,6 +125,9 @@ pub record Wrong : Type 0 where
   -- of two columns the later is right, and a line is right where either is
   pub either-later : Never lines.either.Reads.Learnt (Stopped 3, (Stopped 5, tt)) (Stopped 3)
   pub either-line : Never lines.either.Reads.Learnt (Stopped 3, (Line 2 7, tt)) (Stopped 3)
+  -- digits in lower case are no bytes where upper case is asked for, and a digit alone is none
+  pub read-field-case : Never record-crate.read_field.Reads.Learnt (Upper, (lent (ascii "0a"), tt)) (fieldOf (10 ∷ []))
+  pub read-field-odd : Never record-crate.read_field.Reads.Learnt (Lower, (lent (ascii "0"), tt)) (fieldOf (0 ∷ []))
   -- the empty text is broken at its first line, and not at its last
   pub read-nothing : (column : ℕ) (early : Bool) → Never record-crate.read.Reads.Learnt (One, (lent [], tt)) (refusedAt 8 column early)
   -- whatever the text, it is not refused at line 0, nor at column 0

@@ -43,8 +43,14 @@ passed c =
 process-requires : tie.Need-process-requires
 process-requires c κs = let h = passed (c .before) in (h .key-fits, (h .nonce-fits, h .room))
 
+cast-message-rounds : tie.Need-cast-message-rounds
+cast-message-rounds c = record { fits = omega (arith, passed (c .before .before .before .before) .ad-within) }
+
+cast-message-rounds-2 : tie.Need-cast-message-rounds-2
+cast-message-rounds-2 c = record { fits = omega (arith, passed (c .before .before .before .before) .text-within) }
+
 message-rounds-requires : tie.Need-message-rounds-requires
-message-rounds-requires c κs = let h = passed (c .before .before .before .before) in (h .ad-within, h .text-within)
+message-rounds-requires c κs = search needs
 
 key-length-requires : tie.Need-key-length-requires
 key-length-requires c κs = search needs
@@ -137,6 +143,8 @@ open-spec =
     is-done-requires
     returns
     process-requires
+    cast-message-rounds
+    cast-message-rounds-2
     message-rounds-requires
     key-length-requires
     array-share-prefix-ours

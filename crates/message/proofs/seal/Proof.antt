@@ -55,8 +55,14 @@ processed c = c .before .before .before .before
 abbrev tested : tie.After-give-tag → tie.Else1
 tested c = processed c .before .before
 
+cast-message-rounds : tie.Need-cast-message-rounds
+cast-message-rounds c = record { fits = omega (arith, passed (tested (c .before .before)) .ad-within) }
+
+cast-message-rounds-2 : tie.Need-cast-message-rounds-2
+cast-message-rounds-2 c = record { fits = omega (arith, passed (tested (c .before .before)) .text-within) }
+
 message-rounds-requires : tie.Need-message-rounds-requires
-message-rounds-requires c κs = let h = passed (tested (c .before .before)) in (h .ad-within, h .text-within)
+message-rounds-requires c κs = search needs
 
 same-length : tie.Need-same-length
 same-length c = search needs
@@ -93,6 +99,8 @@ seal-spec =
     returns
     process-requires
     give-tag-requires
+    cast-message-rounds
+    cast-message-rounds-2
     message-rounds-requires
     same-length
     same-length-2

@@ -5,6 +5,8 @@ pub mod by_hand;
 mod cuts;
 mod digits;
 mod edges;
+mod entries;
+mod exported;
 mod form_2;
 mod in_a_row;
 mod largest;
@@ -17,13 +19,16 @@ mod places;
 mod verdicts;
 
 pub use edges::row;
+pub use entries::of_length;
 pub use in_a_row::{many, many_in};
 pub use largest::largest;
 pub use moved::HELD;
 
 use crate::input::Input;
+use crate::program::Task;
 use in_a_row::behind_two;
-use second::moving::Direction;
+use second::cipher::{set_of, Set};
+use second::moving::Direction::{Back, Forward};
 use second::record::Form::{self, One, Two};
 
 /// A class: what it is, how many inputs it has, and what makes them.
@@ -33,25 +38,38 @@ pub struct Class {
     pub make: Box<dyn Fn() -> Vec<Input>>,
 }
 
-/// A class that each form has: what it is, how many inputs it has in form 1 and in form 2, and what makes them.
-struct Row {
+/// A class that each form or each set has: what it is, how many inputs it has in form 1 and in form 2, or of set 1 and of set 2, and what makes them.
+struct Row<K = Form> {
     name: &'static str,
     inputs: [usize; 2],
-    make: fn(Form) -> Vec<Input>,
+    make: fn(K) -> Vec<Input>,
 }
 
 impl Row {
     /// Gives the class in a form.
     fn of(&self, form: Form) -> Class {
+        match form {
+            One => self.at(0, form, ""),
+            Two => self.at(1, form, "form 2 "),
+        }
+    }
+}
+
+impl Row<&'static Set> {
+    /// Gives the class of a set.
+    fn of(&self, set: &'static Set) -> Class {
+        self.at(set.number as usize - 1, set, "")
+    }
+}
+
+impl<K: Copy + 'static> Row<K> {
+    /// Gives the class that has this place among the row's, of this kind, and words before its name.
+    fn at(&self, place: usize, kind: K, before: &str) -> Class {
         let make = self.make;
-        let (before, place) = match form {
-            One => ("", 0),
-            Two => ("form 2 ", 1),
-        };
         Class {
             name: format!("{before}{}", self.name),
             inputs: self.inputs[place],
-            make: Box::new(move || make(form)),
+            make: Box::new(move || make(kind)),
         }
     }
 }
@@ -60,7 +78,7 @@ impl Row {
 type Own = (&'static str, usize, fn() -> Vec<Input>);
 
 /// Gives the classes that are judged.
-pub fn judged() -> Vec<Class> {
+fn judged() -> Vec<Class> {
     let of = |form| IN_EACH_FORM.iter().map(move |row| row.of(form));
     of(One)
         .chain(of(Two))
@@ -68,13 +86,36 @@ pub fn judged() -> Vec<Class> {
         .collect()
 }
 
-/// Gives the classes that are moved in this direction.
-pub fn moved(direction: Direction) -> Vec<Class> {
-    let form = match direction {
-        Direction::Forward => One,
-        Direction::Back => Two,
-    };
-    moved::ROWS.iter().map(|row| row.of(form)).collect()
+/// Gives the classes of inputs for a task.
+pub fn classes_of(task: Task) -> Vec<Class> {
+    match task {
+        Task::Judge => judged(),
+        Task::Move(Forward) => moved(One),
+        Task::Move(Back) => moved(Two),
+        Task::Import(number) => match set_of(number) {
+            Some(set) => of_set(set),
+            None => vec![own(entries::OF_NO_SET)],
+        },
+        Task::Export => exported(),
+    }
+}
+
+/// Gives the classes that are moved from this form to the other.
+fn moved(form: Form) -> Vec<Class> {
+    let rows = moved::READ.iter().chain(&moved::MOVED);
+    rows.map(|row| row.of(form)).collect()
+}
+
+/// Gives the classes of test files of a set, without those that only the other has.
+fn of_set(set: &'static Set) -> Vec<Class> {
+    let classes = entries::ROWS.iter().map(|row| row.of(set));
+    classes.filter(|class| class.inputs > 0).collect()
+}
+
+/// Gives the classes of records that become entries.
+fn exported() -> Vec<Class> {
+    let read = moved::READ.iter().map(|row| row.of(One));
+    read.chain(exported::OWN.map(own)).collect()
 }
 
 /// Gives such a class.

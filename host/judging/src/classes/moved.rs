@@ -14,9 +14,9 @@ use second::record::Line;
 /// How many bytes can be moved at a time.
 pub const HELD: usize = 1_048_576;
 
-/// The classes, with their numbers of inputs going forward and going back.
+/// The classes that any task meets which reads records of one form, with their numbers of inputs in form 1 and in form 2.
 #[rustfmt::skip]
-pub const ROWS: [Row; 36] = [
+pub const READ: [Row; 24] = [
     Row { name: "nothing", inputs: [1, 1], make: |_| vec![Input::told("nothing", "")] },
     Row { name: "right records around block edges", inputs: [26, 26], make: |form| of_chip_0(verdicts::right(form)) },
     Row { name: "records that differ", inputs: [56, 56], make: |form| of_chip_0(verdicts::differing(form)) },
@@ -24,35 +24,40 @@ pub const ROWS: [Row; 36] = [
     Row { name: "rounds in form", inputs: [20, 20], make: |form| of_chip_0(numbers::rounds_in_form(form)) },
     Row { name: "lengths of ad text and cipher", inputs: [26, 26], make: |form| of_chip_0(lengths::up_to_256(form)) },
     Row { name: "the largest record", inputs: [12, 13], make: |form| of_chip_0(largest::around(form)) },
-    Row { name: "the largest record of chip 65535", inputs: [12, 13], make: largest::around },
     Row { name: "many records", inputs: [5, 5], make: many },
     Row { name: "as much as is held", inputs: [9, 9], make: as_much_as_is_held },
     Row { name: "around buffer edges", inputs: [18, 18], make: around_buffer_edges },
     Row { name: "written by hand", inputs: [17, 22], make: by_hand::whole_cases },
     Row { name: "faults written by hand", inputs: [23, 21], make: by_hand::faults },
-    Row { name: "each line damaged", inputs: [208, 260], make: |form| any_line::damaged(form, 0) },
     Row { name: "lines doubled or moved", inputs: [19, 23], make: |form| any_line::moved(form, 0) },
     Row { name: "wrong digits", inputs: [90, 90], make: digits::wrong },
     Row { name: "odd digits", inputs: [24, 24], make: |form| digits::odd(form, 0) },
     Row { name: "lengths of key nonce and tag", inputs: [32, 32], make: lengths::exact },
     Row { name: "set values", inputs: [26, 26], make: |form| numbers::sets(form, 0) },
     Row { name: "rounds out of form", inputs: [54, 54], make: numbers::rounds_broken },
-    Row { name: "lines far too long", inputs: [40, 50], make: lengths::far_too_long },
     Row { name: "a wrong character at every place", inputs: [314, 350], make: places::wrong_characters },
-    Row { name: "a line feed at every place", inputs: [314, 350], make: places::line_feeds },
-    Row { name: "cut at every byte", inputs: [316, 345], make: |form| cuts::every(form, 0) },
     Row { name: "three records cut at every byte", inputs: [436, 478], make: three_cut },
     Row { name: "a third record with each line damaged", inputs: [208, 260], make: |form| behind_two(form, any_line::damaged(form, 1)) },
-    Row { name: "of chip 0 a third record with each line damaged", inputs: [208, 260], make: |form| of_chip_0(behind_two(form, any_line::damaged(form, 1))) },
     Row { name: "bytes after the last record", inputs: [32, 32], make: |form| of_chip_0(trailing(form)) },
     Row { name: "one broken in a row", inputs: [24, 30], make: |form| of_chip_0(broken(form)) },
+    Row { name: "one byte mutated", inputs: [120, 120], make: |form| of_chip_0(mutations::mutated(&[form])) },
+];
+
+/// The classes that are only moved from one form to the other, with their numbers of inputs going forward and going back.
+#[rustfmt::skip]
+pub const MOVED: [Row; 12] = [
+    Row { name: "each line damaged", inputs: [208, 260], make: |form| any_line::damaged(form, 0) },
+    Row { name: "lines far too long", inputs: [40, 50], make: lengths::far_too_long },
+    Row { name: "a line feed at every place", inputs: [314, 350], make: places::line_feeds },
+    Row { name: "cut at every byte", inputs: [316, 345], make: |form| cuts::every(form, 0) },
     Row { name: "the first refused decides", inputs: [340, 340], make: first_decides },
-    Row { name: "a chip at one place", inputs: [66, 66], make: one_chip },
     Row { name: "form lines", inputs: [112, 112], make: |_| form_2::form_lines() },
+    Row { name: "the largest record of chip 65535", inputs: [12, 13], make: largest::around },
+    Row { name: "of chip 0 a third record with each line damaged", inputs: [208, 260], make: |form| of_chip_0(behind_two(form, any_line::damaged(form, 1))) },
+    Row { name: "a chip at one place", inputs: [66, 66], make: one_chip },
     Row { name: "chips", inputs: [40, 40], make: |_| form_2::chips() },
     Row { name: "chips out of form", inputs: [90, 90], make: |_| form_2::no_chips() },
     Row { name: "both forms in every order", inputs: [258, 258], make: |_| mixed::orders() },
-    Row { name: "one byte mutated", inputs: [120, 120], make: |form| of_chip_0(mutations::mutated(&[form])) },
 ];
 
 /// Gives the inputs with chip 0 in place of every other; only the second program tells what becomes of them.

@@ -1,8 +1,9 @@
-//! Right records in which chance has changed a byte.
+//! Right records and entries in which chance has changed a byte.
 
+use crate::entry::Entry;
 use crate::input::Input;
 use crate::lines::Lines;
-use second::cipher::SETS;
+use second::cipher::{Set, SETS};
 use second::random::Random;
 use second::record::Form;
 
@@ -11,18 +12,33 @@ const INPUTS: usize = 120;
 /// Bytes that a record could hold at another place, and some that it never holds.
 const BYTES: &[u8] = b"0123456789abcdefABF= \n\r\t\0gxst\x80\xff";
 
+/// Makes a right record or entry; the number is that of its place in the row, counted from 1.
+type Make<'a> = &'a dyn Fn(&mut Random, usize) -> Vec<u8>;
+
 /// Gives rows of up to four short records of these forms, one of them with a byte changed, removed, inserted or doubled.
 pub fn mutated(forms: &[Form]) -> Vec<Input> {
+    rows_of(&|random, _| record(forms, random))
+}
+
+/// Gives such rows of entries of a set.
+pub fn mutated_entries(set: &Set) -> Vec<Input> {
+    rows_of(&|random, place| Entry::right(set, place, random.below(41), random.below(41)).bytes())
+}
+
+/// Gives rows of up to four of what is made, one of them mutated.
+fn rows_of(make: Make) -> Vec<Input> {
     let mut random = Random::new(2_025);
     (0..INPUTS)
-        .map(|number| input(forms, &mut random, number))
+        .map(|number| input(make, &mut random, number))
         .collect()
 }
 
 /// Gives one such row.
-fn input(forms: &[Form], random: &mut Random, number: usize) -> Input {
-    let (before, after) = (rows(forms, random, 3), rows(forms, random, 2));
-    let mut record = record(forms, random);
+fn input(make: Make, random: &mut Random, number: usize) -> Input {
+    let before = rows(make, random, 1, 3);
+    let own = before.len() + 1;
+    let after = rows(make, random, own + 1, 2);
+    let mut record = make(random, own);
     let place = random.below(record.len());
     let byte = BYTES[random.below(BYTES.len())];
     let what = match number % 4 {
@@ -44,13 +60,14 @@ fn input(forms: &[Form], random: &mut Random, number: usize) -> Input {
         }
     };
     let name = format!("{number:03} byte {place} {what}");
-    Input::told(name, [before, record, after].concat())
+    Input::told(name, [before.concat(), record, after.concat()].concat())
 }
 
-/// Gives fewer right records than the number given, one after another.
-fn rows(forms: &[Form], random: &mut Random, end: usize) -> Vec<u8> {
+/// Gives fewer than the number given of what is made, from this place on.
+fn rows(make: Make, random: &mut Random, first: usize, end: usize) -> Vec<Vec<u8>> {
     let count = random.below(end);
-    (0..count).flat_map(|_| record(forms, random)).collect()
+    let places = first..first + count;
+    places.map(|place| make(random, place)).collect()
 }
 
 /// Gives a right record with at most 40 bytes of data and of text.

@@ -1,20 +1,28 @@
-//! Records moved to form 2 and back by the program and the command: what they print and say, beside the second program.
+//! Records moved to form 2 and back, test files read into records and written from them, by the program and the command: what they print and say,
+//! beside the second program.
 
 mod by_hand;
 mod streams;
+mod there_and_back;
+mod words;
 
-use judging::classes::{many, moved, row, HELD};
+use judging::classes::{classes_of, many, HELD};
 use judging::comparing::all_agree;
 use judging::end::{Whole, NOT_MOVED};
+use judging::entry::Entry;
 use judging::layout::file_of;
-use judging::lines::Lines;
 use judging::program::{run, Task, Tried};
+use judging::right_texts::right_text_of_length;
 use second::cipher::SETS;
 use second::moving::Direction::{Back, Forward};
-use second::record::Form::{One, Two};
+use second::random::Random;
+use second::vectors::short_record;
 use std::io::{self, Write};
 use std::path::Path;
 use std::process::{Output, Stdio};
+
+/// What is said where there is no such set.
+const UNKNOWN_SET: &str = "bench: refused: answer=1\n";
 
 /// What is said of an input that is longer than what can be held.
 const TOO_LONG: &str = "bench: the input has more than 1048576 bytes\n";
@@ -25,61 +33,84 @@ fn left(tried: Tried, task: Task, name: &str, bytes: &[u8]) -> Output {
     run(tried.start_to(task), input, Stdio::piped()).expect("it ends")
 }
 
-/// Says that for each input of each class, in both directions, all that is printed and said is what the second program says.
+/// Panics unless for each input of each class for the task all that is printed and said is what the second program says.
+fn all_agree_in(task: Task) {
+    let name = task.words().join("-");
+    let folder = Path::new(env!("CARGO_TARGET_TMPDIR")).join(format!("moved-{name}"));
+    let said = all_agree(task, &classes_of(task), &folder);
+    // Past the test runner, which would keep it back.
+    writeln!(io::stderr(), "{name}: {said}").expect("it can be said");
+}
+
+/// Says that the program moves records forward and back as the second program does.
 #[test]
 fn the_program_moves_as_the_second_program_moves() {
-    for (direction, name) in [(Forward, "forward"), (Back, "back")] {
-        let folder = Path::new(env!("CARGO_TARGET_TMPDIR")).join(format!("moved-{name}"));
-        let said = all_agree(Task::Move(direction), &moved(direction), &folder);
-        // Past the test runner, which would keep it back.
-        writeln!(io::stderr(), "{name}: {said}").expect("it can be said");
+    for direction in [Forward, Back] {
+        all_agree_in(Task::Move(direction));
     }
 }
 
-/// Says that records moved there and back are the same bytes, in both directions, for data and text of many lengths in both sets.
+/// Says that the program makes records of test files of either set as the second program does.
 #[test]
-fn there_and_back_are_the_same_bytes() {
-    let mut ran = 0;
-    for (there, back, form) in [(Forward, Back, One), (Back, Forward, Two)] {
-        for set in &SETS {
-            for ad in [0, 1, 8, 17, 255, 256] {
-                let right = |text| Lines::right(form, set, ad, text).with_chip(0).bytes();
-                let records = [0, 1, 7, 16, 256].map(right).concat();
-                let moved = left(Tried::Program, Task::Move(there), "moving-there", &records);
-                let returned = left(
-                    Tried::Program,
-                    Task::Move(back),
-                    "moving-back",
-                    &moved.stdout,
-                );
-                assert!(moved.stdout != records, "they were moved");
-                assert!(returned.stdout == records, "they came back");
-                for output in [moved, returned] {
-                    assert_eq!(output.stderr, b"bench: done: records=5\n");
-                }
-                ran += 1;
-            }
-        }
+fn the_program_imports_as_the_second_program_imports() {
+    for set in [1, 2] {
+        all_agree_in(Task::Import(set));
     }
-    assert_eq!(ran, 24);
+}
+
+/// Says that the program makes test files of records as the second program does.
+#[test]
+fn the_program_exports_as_the_second_program_exports() {
+    all_agree_in(Task::Export);
+}
+
+/// Says that a set which there is not is answered alike whatever the file is, be its last byte or its last four bytes those of a set.
+#[test]
+fn no_such_set() {
+    let mut ran = 0;
+    for set in [
+        0,
+        5,
+        10,
+        11,
+        12,
+        255,
+        256,
+        257,
+        258,
+        65_537,
+        4_294_967_297,
+        4_294_967_298,
+        9_223_372_036_854_775_809,
+        18_446_744_073_709_551_615,
+    ] {
+        let task = Task::Import(set);
+        for input in classes_of(task).iter().flat_map(|class| (class.make)()) {
+            assert_eq!(Whole::of(task, &input.bytes).words, UNKNOWN_SET);
+        }
+        all_agree_in(task);
+        ran += 1;
+    }
+    assert_eq!(ran, 14);
 }
 
 /// Says that an input of a byte more than can be held, or of far more, is an error and no cut: nothing is printed, whatever stands in it.
 #[test]
 fn an_input_that_is_too_long() {
     let mut ran = 0;
-    for (task, form) in Task::MOVES.into_iter().zip([One, Two]) {
-        let mut broken = row(form, HELD + 1);
+    for task in Task::MOVES {
+        let row = |length| right_text_of_length(task, length);
+        let mut broken = row(HELD + 1);
         broken[0] = b'x';
         for (tried, bytes) in [
-            (Tried::Program, row(form, HELD + 1)),
-            (Tried::Command, row(form, HELD + 1)),
-            (Tried::Program, row(form, 3_000_000)),
-            (Tried::Command, row(form, 3_000_000)),
+            (Tried::Program, row(HELD + 1)),
+            (Tried::Command, row(HELD + 1)),
+            (Tried::Program, row(3_000_000)),
+            (Tried::Command, row(3_000_000)),
             (Tried::Program, broken),
             (Tried::Program, b"\n".repeat(2 * HELD)),
             // The first bytes would be records, and the end a broken one.
-            (Tried::Program, [row(form, HELD), b"x".to_vec()].concat()),
+            (Tried::Program, [row(HELD), b"x".to_vec()].concat()),
         ] {
             let output = left(tried, task, "moving-too-long", &bytes);
             let rest = match tried {
@@ -93,49 +124,20 @@ fn an_input_that_is_too_long() {
             ran += 1;
         }
     }
-    assert_eq!(ran, 14);
+    assert_eq!(ran, 28);
 }
 
 /// Says that the longest input is moved by the command, too, to all of the records that the second program gives.
 #[test]
 fn an_input_as_long_as_it_may_be() {
-    for (task, form) in Task::MOVES.into_iter().zip([One, Two]) {
-        let records = row(form, HELD);
+    for task in Task::MOVES {
+        let records = right_text_of_length(task, HELD);
         let output = left(Tried::Command, task, "moving-longest", &records);
         let wanted = Whole::of(task, &records);
         assert_eq!((wanted.status, output.status.code()), (0, Some(0)));
         assert!(output.stdout == wanted.report);
         assert_eq!(output.stderr, wanted.words.as_bytes());
     }
-}
-
-/// Says that any other word, and more than one, is no task of the program: it prints nothing and says neither that it is done nor that anything was refused.
-#[test]
-fn other_words() {
-    let mut ran = 0;
-    for words in [
-        &["Forward"] as &[&str],
-        &["forwards"],
-        &["backward"],
-        &["bac"],
-        &["judge"],
-        &["-"],
-        &["forward back"],
-        &["back\n"],
-        &[""],
-        &["forwardforwardforward"],
-        &["forward", "back"],
-        &["", ""],
-    ] {
-        let mut command = Tried::Program.start();
-        command.args(words);
-        let output = run(command, file_of("moving-words", &many(3)), Stdio::piped());
-        let output = output.expect("it ends");
-        assert!(output.stdout.is_empty(), "{words:?}");
-        assert_eq!(output.stderr, b"bench: unknown task\n", "{words:?}");
-        ran += 1;
-    }
-    assert_eq!(ran, 12);
 }
 
 /// Says that moved records are judged as they were before, by the program.
@@ -147,4 +149,21 @@ fn moved_records_are_judged_alike() {
     let wanted = Whole::on(&records);
     assert!(judged.stdout == wanted.report);
     assert_eq!(judged.stderr, wanted.words.as_bytes());
+}
+
+/// Says that each record which a right entry becomes, of either set, is judged equal: its rounds are those of the message.
+#[test]
+fn records_of_right_entries_are_judged_equal() {
+    for set in &SETS {
+        let mut random = Random::new(set.number);
+        let entry = |count| Entry::of(count, &short_record(&mut random, set)).bytes();
+        let file: Vec<u8> = (1..=100).flat_map(entry).collect();
+        let task = Task::Import(set.number);
+        let records = left(Tried::Program, task, "moving-right", &file);
+        let name = "moved-right";
+        let judged = left(Tried::Program, Task::Judge, name, &records.stdout);
+        let said = String::from_utf8_lossy(&judged.stderr);
+        let wanted = "bench: 100 records: 100 equal, 0 differ, 0 unread\n";
+        assert_eq!(said, wanted, "set {}", set.number);
+    }
 }

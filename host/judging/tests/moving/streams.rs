@@ -1,12 +1,11 @@
-//! Moving on streams that fail, stall or trickle, and with signals in between: all is moved, or it is said that it was not.
+//! Every task that gives a text for a text, on streams that fail, stall or trickle, and with signals in between: all is moved, or it is said that it was not.
 
 use judging::end::{broken_off, ends_whole, Whole};
 use judging::failing::{broke_off, full, reset_after, undisturbed, UNDISTURBED};
 use judging::layout::{file_of, place};
-use judging::lines::Lines;
 use judging::program::{run, run_on, Task, Tried};
+use judging::right_texts::right_text;
 use judging::session::Session;
-use second::record::Form::{self, One, Two};
 use std::fs::{self, File};
 use std::io::{pipe, Read, Write};
 use std::os::fd::OwnedFd;
@@ -22,22 +21,15 @@ const PAUSE: Duration = Duration::from_millis(60);
 /// A time for which no read or write of a test waits; where one is set, a stop breaks them off.
 const NEVER: Option<Duration> = Some(Duration::from_secs(600));
 
-/// What is tried with each task, and the form of the records that the task reads.
-fn all() -> Vec<(Tried, Task, Form)> {
-    let tasks = Task::MOVES.into_iter().zip([One, Two]);
-    let both = |(task, form)| Tried::BOTH.map(|tried| (tried, task, form));
-    tasks.flat_map(both).collect()
+/// What is tried, with each task.
+fn all() -> Vec<(Tried, Task)> {
+    let both = |task| Tried::BOTH.map(|tried| (tried, task));
+    Task::MOVES.into_iter().flat_map(both).collect()
 }
 
-/// Gives as many records of the form, of chip 0.
-fn records(form: Form, count: usize) -> Vec<u8> {
-    let record = |turn| Lines::short(form, turn).with_chip(0).bytes();
-    (0..count).flat_map(record).collect()
-}
-
-/// Gives more records than a pipe or a socket holds: when all of them but the last are handed over, the program is at its reads.
-fn more_than_fit(form: Form) -> Vec<u8> {
-    records(form, 3_000)
+/// Gives more records or entries than a pipe or a socket holds: when all of them but the last are handed over, the program is at its reads.
+fn more_than_fit(task: Task) -> Vec<u8> {
+    right_text(task, 3_000)
 }
 
 /// Panics unless nothing is printed, and it is said that reading failed.
@@ -63,14 +55,14 @@ fn fails_to_write(
 #[test]
 fn an_input_that_cannot_be_read() {
     let mut ran = 0;
-    for (tried, task, form) in all() {
+    for (tried, task) in all() {
         let folder = File::open(".").expect("the folder opens");
         fails_to_read(tried, task, tried.start_to(task), folder);
         let write_only = File::create(place("moving-write-only")).expect("a file for the test");
         fails_to_read(tried, task, tried.start_to(task), write_only);
         let (mut ours, theirs) = UnixStream::pair().expect("a pair of sockets");
         theirs.set_nonblocking(true).expect("it can be set");
-        ours.write_all(&records(form, 2))
+        ours.write_all(&right_text(task, 2))
             .expect("the socket has room");
         fails_to_read(tried, task, tried.start_to(task), OwnedFd::from(theirs));
         ran += 3;
@@ -80,16 +72,16 @@ fn an_input_that_cannot_be_read() {
         fails_to_read(Tried::Program, task, closed, Stdio::null());
         ran += 1;
     }
-    assert_eq!(ran, 14);
+    assert_eq!(ran, 28);
 }
 
 /// Says that a read which fails after some bytes is no end of the input: nothing is moved, be it after whole records.
 #[test]
 fn an_input_that_fails_later() {
     let mut ran = 0;
-    for (tried, task, form) in all() {
-        let twice = records(form, 2);
-        let one = records(form, 1).len();
+    for (tried, task) in all() {
+        let twice = right_text(task, 2);
+        let one = right_text(task, 1).len();
         for length in [
             0,
             1,
@@ -105,15 +97,15 @@ fn an_input_that_fails_later() {
             ran += 1;
         }
     }
-    assert_eq!(ran, 32);
+    assert_eq!(ran, 64);
 }
 
 /// Says that records which can't be written, all of them or the last bytes, are never said to be moved.
 #[test]
 fn an_output_that_cannot_be_written() {
     let mut ran = 0;
-    for (tried, task, form) in all() {
-        let input = |count| file_of("moving-unwritten", &records(form, count));
+    for (tried, task) in all() {
+        let input = |count| file_of("moving-unwritten", &right_text(task, count));
         for count in [1, 30] {
             fails_to_write(tried, task, tried.start_to(task), input(count), full());
             ran += 1;
@@ -132,34 +124,34 @@ fn an_output_that_cannot_be_written() {
             ran += 1;
         }
     }
-    assert_eq!(ran, 18);
+    assert_eq!(ran, 36);
 }
 
 /// Says that a reader who has gone, or goes in the middle, is a failed write, where the signal for it is ignored; the command does that.
 #[test]
 fn a_reader_who_goes() {
     let mut ran = 0;
-    for (task, form) in Task::MOVES.into_iter().zip([One, Two]) {
+    for task in Task::MOVES {
         for taken in [0, 1_000] {
             for (tried, command) in undisturbed(task) {
                 let (mut reader, writer) = pipe().expect("a pipe");
                 let reading = spawn(move || reader.read_exact(&mut vec![0; taken]));
-                let input = file_of("moving-unread", &records(form, 4_000));
+                let input = file_of("moving-unread", &right_text(task, 4_000));
                 fails_to_write(tried, task, command, input, writer);
                 reading.join().expect("it ends").expect("so much is read");
                 ran += 1;
             }
         }
     }
-    assert_eq!(ran, 8);
+    assert_eq!(ran, 16);
 }
 
 /// Says that a file which may not grow any more gets a beginning of the records, and counts as not moved.
 #[test]
 fn a_file_that_may_not_grow() {
     let mut ran = 0;
-    for (tried, task, form) in all() {
-        let (path, input) = (place("moving-limited"), records(form, 30));
+    for (tried, task) in all() {
+        let (path, input) = (place("moving-limited"), right_text(task, 30));
         let output = File::create(&path).expect("a file for the test");
         let limited = tried.in_shell_to(task, &format!("ulimit -f 1; {UNDISTURBED}"));
         fails_to_write(
@@ -174,21 +166,21 @@ fn a_file_that_may_not_grow() {
         assert_eq!((left.len(), &left[..]), (512, &wanted[..512]));
         ran += 1;
     }
-    assert_eq!(ran, 4);
+    assert_eq!(ran, 8);
 }
 
 /// Says that a refusal and an empty input need no room for records, and that what can't be said is status 2.
 #[test]
 fn full_disks() {
     let mut ran = 0;
-    for (tried, task, form) in all() {
+    for (tried, task) in all() {
         for (input, output, errors, status) in [
             (b"x".to_vec(), Stdio::from(full()), Stdio::null(), 1),
             (Vec::new(), Stdio::from(full()), Stdio::null(), 0),
-            (records(form, 3), Stdio::null(), Stdio::null(), 0),
-            (records(form, 3), Stdio::null(), Stdio::from(full()), 2),
+            (right_text(task, 3), Stdio::null(), Stdio::null(), 0),
+            (right_text(task, 3), Stdio::null(), Stdio::from(full()), 2),
             (
-                records(form, 3),
+                right_text(task, 3),
                 Stdio::from(full()),
                 Stdio::from(full()),
                 2,
@@ -203,15 +195,15 @@ fn full_disks() {
             ran += 1;
         }
     }
-    assert_eq!(ran, 28);
+    assert_eq!(ran, 56);
 }
 
 /// Says that nothing is printed before the input has ended, also where the first record is broken, and that pieces of any length give the same.
 #[test]
 fn pieces_and_pauses() {
     let mut ran = 0;
-    for (tried, task, form) in all() {
-        let right = records(form, 3);
+    for (tried, task) in all() {
+        let right = right_text(task, 3);
         let broken = [b"x", &right[1..]].concat();
         for (bytes, piece) in [
             (&right, 1),
@@ -235,14 +227,14 @@ fn pieces_and_pauses() {
             ran += 1;
         }
     }
-    assert_eq!(ran, 20);
+    assert_eq!(ran, 40);
 }
 
 /// Says that on one pipe for both streams what is said comes behind every record.
 #[test]
 fn the_line_comes_last() {
     let mut ran = 0;
-    for (tried, task, form) in all() {
+    for (tried, task) in all() {
         for count in [0, 1, 300] {
             let (mut reader, writer) = pipe().expect("a pipe");
             let both = writer.try_clone().expect("a second end");
@@ -250,7 +242,7 @@ fn the_line_comes_last() {
                 let mut bytes = Vec::new();
                 reader.read_to_end(&mut bytes).map(|_| bytes)
             });
-            let input = records(form, count);
+            let input = right_text(task, count);
             let file = file_of("moving-last", &input);
             let output = run_on(tried.start_to(task), file, writer, both).expect("it ends");
             let found = found.join().expect("it ends").expect("it can be read");
@@ -260,17 +252,17 @@ fn the_line_comes_last() {
             ran += 1;
         }
     }
-    assert_eq!(ran, 12);
+    assert_eq!(ran, 24);
 }
 
 /// Says that a program which a signal ends while it reads has moved nothing, and that the command says so.
 #[test]
 fn a_program_ended_in_the_middle() {
     let mut ran = 0;
-    for (tried, task, form) in all() {
+    for (tried, task) in all() {
         for (name, number) in [("KILL", 9), ("TERM", 15), ("USR1", 10)] {
             let mut session = Session::start_to(tried, task);
-            session.feed(&more_than_fit(form));
+            session.feed(&more_than_fit(task));
             assert_eq!(session.after(PAUSE), "");
             session.signal_program(name);
             let (status, printed, said) = session.end();
@@ -289,37 +281,37 @@ fn a_program_ended_in_the_middle() {
             ran += 1;
         }
     }
-    assert_eq!(ran, 12);
+    assert_eq!(ran, 24);
 }
 
 /// Says that a signal to the command itself ends it at once, by that signal, and that nothing is said; the program it leaves behind still moves all or nothing.
 #[test]
 fn a_command_ended_in_the_middle() {
     let mut ran = 0;
-    for (task, form) in Task::MOVES.into_iter().zip([One, Two]) {
+    for task in Task::MOVES {
         for (name, number) in [("TERM", 15), ("KILL", 9)] {
             let mut session = Session::start_to(Tried::Command, task);
-            session.feed(&more_than_fit(form));
+            session.feed(&more_than_fit(task));
             assert_eq!(session.after(PAUSE), "");
             session.signal(name);
             let (status, printed, said) = session.end();
             assert_eq!((status.signal(), &said[..]), (Some(number), ""));
-            let all = Whole::of(task, &more_than_fit(form)).report;
+            let all = Whole::of(task, &more_than_fit(task)).report;
             assert!(printed.is_empty() || printed.as_bytes() == all, "{name}");
             ran += 1;
         }
     }
-    assert_eq!(ran, 4);
+    assert_eq!(ran, 8);
 }
 
 /// Says that reads which stops break off are tried again: no byte is lost, and none is taken for the last.
 #[test]
 fn stopped_while_it_reads() {
-    for (tried, task, form) in all() {
+    for (tried, task) in all() {
         let (mut ours, theirs) = UnixStream::pair().expect("a pair of sockets");
         theirs.set_read_timeout(NEVER).expect("it can be set");
         let session = Session::start_on(tried, task, OwnedFd::from(theirs), Stdio::piped());
-        let bytes = more_than_fit(form);
+        let bytes = more_than_fit(task);
         let (first, others) = bytes.split_at(bytes.len() - 400);
         for part in [&[first][..], &others.chunks(100).collect::<Vec<_>>()].concat() {
             ours.write_all(part).expect("the socket is read");
@@ -337,10 +329,10 @@ fn stopped_while_it_reads() {
 /// Says that writes which stops break off are tried again, and that a reader who takes a few bytes at a time gets all.
 #[test]
 fn stopped_while_it_writes() {
-    for (tried, task, form) in all() {
+    for (tried, task) in all() {
         let (mut ours, theirs) = UnixStream::pair().expect("a pair of sockets");
         theirs.set_write_timeout(NEVER).expect("it can be set");
-        let bytes = more_than_fit(form);
+        let bytes = more_than_fit(task);
         let input = file_of("moving-stopped", &bytes);
         let session = Session::start_on(tried, task, input, OwnedFd::from(theirs));
         let mut found: Vec<u8> = Vec::new();

@@ -20,6 +20,9 @@ pub const LONGEST_1: usize = 1_688;
 /// The most bytes that a written record of form 2 can have.
 pub const LONGEST_2: usize = 1_706;
 
+/// The most bytes that ad, text and cipher hold.
+pub const MOST_BYTES: usize = 256;
+
 /// The largest number of a chip.
 pub const MOST_CHIP: u64 = 65_535;
 

@@ -2,6 +2,7 @@
 
 use super::{first_broken_line, Broken, Form, Line, Record};
 use crate::hex;
+use crate::lines::line_of;
 
 /// Why a record wasn't written, or wasn't moved.
 #[derive(Clone, Copy, Debug, PartialEq, Eq)]
@@ -43,13 +44,8 @@ pub fn write(form: Form, record: &Record, out: &mut [u8]) -> Result<usize, Refus
 
 /// Gives the lines of a record that is right in the form, one after another.
 fn lines(form: Form, record: &Record) -> Vec<u8> {
-    let mut whole = Vec::new();
-    for line in form.lines() {
-        whole.extend(line.label());
-        whole.extend(value(record, *line));
-        whole.push(b'\n');
-    }
-    whole
+    let written = |line: &Line| line_of(line.label(), &value(record, *line));
+    form.lines().iter().flat_map(written).collect()
 }
 
 /// Gives the characters of the line's value.

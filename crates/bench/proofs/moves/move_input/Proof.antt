@@ -1,6 +1,6 @@
 -- `bench::moves::move_input` meets its contract.
 use mathlib.Core.Path.{_≡_, sym, ap, _∙_}
-use mathlib.Core.Bool.{true, false, true≢false}
+use mathlib.Core.Bool.{false, true≢false}
 use mathlib.Core.List.{List}
 use mathlib.Core.Logic.{inl, inr, ⊎-elim}
 use Prim.Native.Nat.{ℕ, _≤_}
@@ -9,14 +9,13 @@ use denote.Ref.{now}
 use lib.ListN.{length, take}
 use lib.Seq.{length-take-le}
 use borrow.Author.Needs.{needs}
-use Rattle.record.specs.declared.form.Form.{Form}
-use Rattle.moving.specs.Moves.{AllLeaves, moveAllCall}
+use Rattle.moving.specs.declared.route.Route.{Route}
+use Rattle.moving.specs.Moves.{AllLeaves}
 use Rattle.moving.proofs.Places.{written-inside}
 use Rattle.bench.specs.declared.whole.Input.{Input}
-use Rattle.bench.specs.declared.whole.Input.the-variants as input
 use Rattle.bench.specs.declared.moves.Carried.{Carried}
 use Rattle.bench.specs.declared.moves.Carried.the-variants as carried
-use Rattle.bench.specs.Whole.{Got, CarryLeaves, carryLeaves, carriedBy, sizeOf, isPart, ReadAll, Carries}
+use Rattle.bench.specs.Whole.{Got, carryLeaves, carriedBy, sizeOf, isPart, ReadAll, Carries}
 use Rattle.bench.proofs.moves.move_input.Statement.{statement}
 use Rattle.bench.proofs.moves.move_input.Tie as tie
 
@@ -61,12 +60,12 @@ no : _≡_ {A = ℕ} 0 1 → ⊥
 no e = omega arith
 
 -- what a reading of all of the input comes to, moved
-carries : (to : Form) (place after out out' : List ℕ) (r : Input) (ended : Carried) → ReadAll place r after → (isPart r ≡ false → ended ≡ carried.Endless → ⊥)
-    → carryLeaves ended out' ≡ carriedBy to (take (sizeOf r) after) r out → Carries to place ended out out'
-carries to place after out out' r ended a n e =
+carries : (route : Route) (place after out out' : List ℕ) (r : Input) (ended : Carried) → ReadAll place r after → (isPart r ≡ false → ended ≡ carried.Endless → ⊥)
+    → carryLeaves ended out' ≡ carriedBy route (take (sizeOf r) after) r out → Carries route place ended out out'
+carries route place after out out' r ended a n e =
     record {
       replies = a .replies;
-      is = e ∙ ap (λ (g : Got). carriedBy to (g .content) (g .input) out) (a .is);
+      is = e ∙ ap (λ (g : Got). carriedBy route (g .content) (g .input) out) (a .is);
       over = ⊎-elim (λ p. inl (n p)) inr (a .over);
     }
 
@@ -76,13 +75,13 @@ returns c =
     let z = m .before .before .before .before in
     let r = z .before .before .before .before .read-all in
     let s = c .before .before .before .before .before .before .before .before .before .before .before .before .before .before in
-    let to = s .args .to in
+    let route = s .args .route in
     let out = now (s .args .out) in
     let is = z .size .given .1 in
     let moved = ap (λ (l : AllLeaves). carryLeaves (carried.Moved (l .outcome)) (l .out)) (m .move-all .ensures) in
     let written = ap (λ (l : AllLeaves). l .outcome .written) (m .move-all .ensures) in (
-      carries to _ (r .last .0) out _ (r .result) _ (r .ensures) (λ p q. no (cc q)) (moved ∙ ap (λ (i : Input). carriedBy to (take (sizeOf i) (r .last .0)) i out) (sym is)),
-      omega (arith, written, written-inside to (take (z .size .given .0 .0) (r .last .0)) out, m .move-all .kept .1 .1 .0),
+      carries route _ (r .last .0) out _ (r .result) _ (r .ensures) (λ p q. no (cc q)) (moved ∙ ap (λ (i : Input). carriedBy route (take (sizeOf i) (r .last .0)) i out) (sym is)),
+      omega (arith, written, written-inside route (take (z .size .given .0 .0) (r .last .0)) out, m .move-all .kept .1 .1 .0),
     )
 
 same-length-3 : tie.Need-same-length-3
@@ -93,7 +92,7 @@ returns-2 c =
     let r = c .before .before .before .before .read-all in
     let s = c .before .before .before .before .before .before .before .before in
     let is = c .enum-told .given .1 in
-    (carries (s .args .to) _ (r .last .0) (now (s .args .out)) _ (r .result) _ (r .ensures) (λ p q. no (cc q)) (ap (λ (i : Input). carriedBy (s .args .to) (take (sizeOf i) (r .last .0)) i (now (s .args .out))) (sym is)), omega arith)
+    (carries (s .args .route) _ (r .last .0) (now (s .args .out)) _ (r .result) _ (r .ensures) (λ p q. no (cc q)) (ap (λ (i : Input). carriedBy (s .args .route) (take (sizeOf i) (r .last .0)) i (now (s .args .out))) (sym is)), omega arith)
 
 same-length-4 : tie.Need-same-length-4
 same-length-4 c = search needs
@@ -103,7 +102,7 @@ returns-3 c =
     let r = c .before .before .before .before .read-all in
     let s = c .before .before .before .before .before .before .before .before in
     let is = c .enum-told2 .given .1 in
-    (carries (s .args .to) _ (r .last .0) (now (s .args .out)) _ (r .result) _ (r .ensures) (λ p q. no (cc q)) (ap (λ (i : Input). carriedBy (s .args .to) (take (sizeOf i) (r .last .0)) i (now (s .args .out))) (sym is)), omega arith)
+    (carries (s .args .route) _ (r .last .0) (now (s .args .out)) _ (r .result) _ (r .ensures) (λ p q. no (cc q)) (ap (λ (i : Input). carriedBy (s .args .route) (take (sizeOf i) (r .last .0)) i (now (s .args .out))) (sym is)), omega arith)
 
 same-length-5 : tie.Need-same-length-5
 same-length-5 c = search needs
@@ -113,7 +112,7 @@ returns-4 c =
     let r = c .before .before .before .before .read-all in
     let s = c .before .before .before .before .before .before .before .before in
     let is = c .enum-told3 .given .1 in
-    (carries (s .args .to) _ (r .last .0) (now (s .args .out)) _ (r .result) _ (r .ensures) (λ p q. true≢false (sym (ap isPart is) ∙ p)) (ap (λ (i : Input). carriedBy (s .args .to) (take (sizeOf i) (r .last .0)) i (now (s .args .out))) (sym is)), omega arith)
+    (carries (s .args .route) _ (r .last .0) (now (s .args .out)) _ (r .result) _ (r .ensures) (λ p q. true≢false (sym (ap isPart is) ∙ p)) (ap (λ (i : Input). carriedBy (s .args .route) (take (sizeOf i) (r .last .0)) i (now (s .args .out))) (sym is)), omega arith)
 
 pub move-input-spec : {M : Type 1} → statement M
 move-input-spec =

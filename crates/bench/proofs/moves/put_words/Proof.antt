@@ -41,11 +41,8 @@ number-requires c κs = search needs
 put-numbered-requires-2 : tie.Need-put-numbered-requires-2
 put-numbered-requires-2 c κs = search needs
 
-slice-aggregate-put-numbered-3 : tie.Need-slice-aggregate-put-numbered-3
-slice-aggregate-put-numbered-3 c = search needs
-
-put-numbered-requires-3 : tie.Need-put-numbered-requires-3
-put-numbered-requires-3 c κs = search needs
+put-record-requires : tie.Need-put-record-requires
+put-record-requires c κs = search needs
 
 put-place-requires : tie.Need-put-place-requires
 put-place-requires c κs = search needs
@@ -65,11 +62,11 @@ returns-2 c =
     let four = c .before .before in
     let three = four .before .before .before .before .before in
     let two = three .before .before .before .before in
-    let one = two .before .before .before .before .before in
+    let one = two .before .before .before .before in
     let e = one .before .before .before .before in
     rw (sym (e .before .is-done .ensures) ∙ e .if1 .left)
     (follows-more (rw (one .before .before .number .ensures) at (one .put-numbered2 .ensures .0))
-    (follows-more (two .put-numbered3 .ensures .0) (follows-more (three .put-place .ensures .0) (four .put-piece2 .ensures))))
+    (follows-more (two .put-record .ensures .0) (follows-more (three .put-place .ensures .0) (four .put-piece2 .ensures))))
 
 pub put-words-spec : {M : Type 1} → statement M
 put-words-spec =
@@ -85,8 +82,7 @@ put-words-spec =
     slice-aggregate-put-numbered-2
     number-requires
     put-numbered-requires-2
-    slice-aggregate-put-numbered-3
-    put-numbered-requires-3
+    put-record-requires
     put-place-requires
     slice-aggregate-put-piece-2
     put-piece-requires-2

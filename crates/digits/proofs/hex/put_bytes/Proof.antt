@@ -9,16 +9,16 @@ use denote.Ref.{now}
 use lib.ListN.{length, getD, set, take, drop, length-set}
 use lib.Seq.{take-length}
 use borrow.Author.Needs.{needs}
-use Rattle.digits.specs.Hex.{hexDigit, hexOf}
+use Rattle.digits.specs.declared.hex.Case.{Case}
+use Rattle.digits.specs.Hex.{hexDigitIn, hexIn}
 use Rattle.digits.proofs.Room.{put-short, put-is}
-use Rattle.digits.specs.declared.hex.Case.the-variants.{Lower}
 use Rattle.digits.proofs.Spelling.{length-hex}
 use Rattle.digits.proofs.hex.put_bytes.Statement.{statement}
 use Rattle.digits.proofs.hex.put_bytes.Tie as tie
 
 -- a place with the digits of the first i bytes put
-abbrev spelt : List ℕ → List ℕ → ℕ → List ℕ
-spelt x out i = hexOf (take i x) ++ drop (2 * i) out
+abbrev spelt : Case → List ℕ → List ℕ → ℕ → List ℕ
+spelt case x out i = hexIn case (take i x) ++ drop (2 * i) out
 
 -- two places more
 two-more : (i : ℕ) → 2 * suc i ≡ suc (suc (2 * i))
@@ -29,20 +29,20 @@ suc-one : (i : ℕ) → suc (suc i) + 1 ≡ suc (suc (i + 1))
 suc-one i = omega arith
 
 -- one byte more
-one-more : (x out : List ℕ) (i : ℕ) → i < length x → 2 * length x ≤ length out
-    → set (set (spelt x out i) (2 * i) (hexDigit (getD x i 0 / 16))) (2 * i + 1) (hexDigit (getD x i 0 % 16)) ≡ spelt x out (suc i)
-one-more [] out i h room = absurd (omega arith)
-one-more (b ∷ x) [] i h room = absurd (omega arith)
-one-more (b ∷ x) (p ∷ []) i h room = absurd (omega arith)
-one-more (b ∷ x) (p ∷ q ∷ out) zero h room = refl
-one-more (b ∷ x) (p ∷ q ∷ out) (suc i) h room =
-    rw (two-more i, two-more (suc i), suc-one (2 * i)) (ap (λ (y : List ℕ). hexDigit (b / 16) ∷ hexDigit (b % 16) ∷ y) (one-more x out i (omega arith) (omega arith)))
+one-more : (case : Case) (x out : List ℕ) (i : ℕ) → i < length x → 2 * length x ≤ length out
+    → set (set (spelt case x out i) (2 * i) (hexDigitIn case (getD x i 0 / 16))) (2 * i + 1) (hexDigitIn case (getD x i 0 % 16)) ≡ spelt case x out (suc i)
+one-more case [] out i h room = absurd (omega arith)
+one-more case (b ∷ x) [] i h room = absurd (omega arith)
+one-more case (b ∷ x) (p ∷ []) i h room = absurd (omega arith)
+one-more case (b ∷ x) (p ∷ q ∷ out) zero h room = refl
+one-more case (b ∷ x) (p ∷ q ∷ out) (suc i) h room =
+    rw (two-more i, two-more (suc i), suc-one (2 * i)) (ap (λ (y : List ℕ). hexDigitIn case (b / 16) ∷ hexDigitIn case (b % 16) ∷ y) (one-more case x out i (omega arith) (omega arith)))
 
 abbrev Inv-loop : tie.InvT-loop
-Inv-loop bytes out₀ i₀ out i = (i ≤ length bytes) × (length out ≡ length out₀) × (out ≡ spelt bytes out₀ i)
+Inv-loop case bytes out₀ i₀ out i = (i ≤ length bytes) × (length out ≡ length out₀) × (out ≡ spelt case bytes out₀ i)
 
 abbrev μ-loop : tie.MeasureT-loop
-μ-loop bytes out₀ i₀ out i = length bytes - i
+μ-loop case bytes out₀ i₀ out i = length bytes - i
 
 -- the entry, seen from a turn
 abbrev entry : tie.At-loop Inv-loop μ-loop → tie.Start Inv-loop μ-loop
@@ -55,7 +55,7 @@ turn c = c .before .before .before .before .before
 returns : tie.Need-returns Inv-loop μ-loop
 returns c =
     let a = c .before .before .before .args in
-    put-short (hexOf (now (a .bytes))) (now (a .out)) (omega (arith, length-hex Lower (now (a .bytes)), c .if1 .taken))
+    put-short (hexIn (a .case) (now (a .bytes))) (now (a .out)) (omega (arith, length-hex (a .case) (now (a .bytes)), c .if1 .taken))
 
 loop-holds : tie.Need-loop-holds Inv-loop μ-loop
 loop-holds c = (search needs, refl, refl)
@@ -104,8 +104,8 @@ loop-again c =
       omega arith,
       length-set (set (l .out) (2 * l .i) (high .result)) (2 * l .i + 1) (c .spelled2 .result) ∙ length-set (l .out) (2 * l .i) (high .result) ∙ l .inv .1,
       (λ j. set (set (l .inv .2 j) (2 * l .i) (high .ensures j)) (2 * l .i + 1) (c .spelled2 .ensures j))
-          ∙ one-more x (now (a .out)) (l .i) inside room
-          ∙ ap (spelt x (now (a .out))) (sym (add-one (l .i))),
+          ∙ one-more (a .case) x (now (a .out)) (l .i) inside room
+          ∙ ap (spelt (a .case) x (now (a .out))) (sym (add-one (l .i))),
     )
 
 mul-result : tie.Need-mul-result Inv-loop μ-loop
@@ -120,8 +120,8 @@ returns-2 c =
     let a = entry (c .before) .args in
     let x = now (a .bytes) in
     let end : l .i ≡ length x = omega arith in
-    put-is (hexOf x) (now (a .out)) (l .out) (2 * length x) (sym (length-hex Lower x)) (omega arith)
-    (l .inv .2 ∙ ap (spelt x (now (a .out))) end ∙ ap (λ (y : List ℕ). hexOf y ++ drop (2 * length x) (now (a .out))) (take-length x))
+    put-is (hexIn (a .case) x) (now (a .out)) (l .out) (2 * length x) (sym (length-hex (a .case) x)) (omega arith)
+    (l .inv .2 ∙ ap (spelt (a .case) x (now (a .out))) end ∙ ap (λ (y : List ℕ). hexIn (a .case) y ++ drop (2 * length x) (now (a .out))) (take-length x))
 
 pub put-bytes-spec : {M : Type 1} → statement M
 put-bytes-spec =

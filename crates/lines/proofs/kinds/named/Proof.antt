@@ -13,7 +13,7 @@ use Rattle.lines.proofs.kinds.named.Tie as tie
 
 returns : tie.Need-returns
 unfolding named
-returns c = rw (lt-leb (length (now (c .before .before .args .text))) 16 (c .if1 .taken))
+returns c = rw (lt-leb (length (now (c .before .before .args .text))) 32 (c .if1 .taken))
 
 slice-aggregate-copy : tie.Need-slice-aggregate-copy
 slice-aggregate-copy c = search needs
@@ -26,8 +26,8 @@ unfolding named
 returns-2 c =
     let x = now (c .before .before .before .before .before .args .text) in
     let copied = c .before .copy .ensures in
-    rw (le-leb (length x) 16 (c .before .before .before .if1 .left))
-    (λ j. record { bytes = (copied .1 ∙ (λ i. take-length x i ++ drop-zeros (length x) 16 i)) j; size = copied .0 j })
+    rw (le-leb (length x) 32 (c .before .before .before .if1 .left))
+    (λ j. record { bytes = (copied .1 ∙ (λ i. take-length x i ++ drop-zeros (length x) 32 i)) j; size = copied .0 j })
 
 pub named-spec : {M : Type 1} → statement M
 named-spec = tie.close (tie.spec returns slice-aggregate-copy copy-requires returns-2)

@@ -17,7 +17,7 @@ returns c = search needs
 returns-2 : tie.Need-returns-2
 returns-2 c =
     let a = c .before .before .args in
-    let long : length (map (λ (v : ℕ). v) (a .name .bytes)) ≡ 16 = search (c .before .before .good) in
+    let long : length (map (λ (v : ℕ). v) (a .name .bytes)) ≡ 32 = search (c .before .before .good) in
     sym (List·getD-eq-default (a .name .bytes) 0 (omega (arith, length-map (a .name .bytes) (λ (v : ℕ). v), long)))
 
 pub name-at-spec : {M : Type 1} → statement M

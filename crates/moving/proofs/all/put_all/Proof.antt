@@ -9,37 +9,44 @@ use lib.ListN.{length, take, drop, length-take, length-drop, length-append}
 use borrow.Author.Needs.{needs}
 use Rattle.digits.specs.Room.{laid, put}
 use Rattle.digits.proofs.Room.{put-fits, put-inside, put-count, behind, put-after}
-use Rattle.record.specs.declared.form.Form.{Form}
+use Rattle.moving.specs.declared.route.Route.{Route}
 use Rattle.moving.specs.Moves.{Whole, textIn}
+use Rattle.moving.specs.Laws.{Counts}
+use Rattle.moving.proofs.Routes.{wide}
+use Rattle.moving.proofs.Places.{whole-route}
 use Rattle.moving.proofs.Steps.{Left, left-all, left-none}
 use Rattle.moving.proofs.Turns.{Turned, turn-whole}
 use Rattle.moving.proofs.all.put_all.Statement.{statement}
 use Rattle.moving.proofs.all.put_all.Tie as tie
 
 -- what holds before a record is put
-record Placed (to : Form) (text before out : List ℕ) (at end : ℕ) : Type 0 where
-  count : ℕ
+record Placed (route : Route) (text before out : List ℕ) (at end number : ℕ) : Type 0 where
   earlier : List ℕ
   room : length earlier ≤ length before
-  left : Left to text at count earlier
+  left : Left route text at number earlier
   done : laid end out ≡ put earlier before
 
 abbrev Inv-loop : tie.InvT-loop
-Inv-loop to text out₀ at₀ end₀ out at end = Placed to text out₀ out at end
+Inv-loop route text out₀ at₀ end₀ number₀ out at end number = Placed route text out₀ out at end number
 
 abbrev μ-loop : tie.MeasureT-loop
-μ-loop to text out₀ at₀ end₀ out at end = length text - at
+μ-loop route text out₀ at₀ end₀ number₀ out at end number = length text - at
 
 loop-holds : tie.Need-loop-holds Inv-loop μ-loop
 loop-holds c =
-    let a = c .before .before .args in
+    let s = c .before .before in
+    let a = s .args in
     record {
-      count = 0;
       earlier = [];
       room = omega arith;
-      left = left-all (a .to) (now (a .text));
+      left = left-all (a .route) (now (a .text)) (wide (a .route) _ (omega (arith, s .good .1 .0 .0))) (whole-route (a .route) (now (a .text)) (s .pre .0));
       done = sym (put-fits [] (now (a .out)) (omega arith));
     }
+
+add-number : tie.Need-add-number Inv-loop μ-loop
+add-number c =
+    let b = c .before in
+    record { fits = omega (arith, b .loop .inv .left .few, c .loop-test .taken, b .before .before .before .good .1 .0 .0) }
 
 sub-move-record : tie.Need-sub-move-record Inv-loop μ-loop
 sub-move-record c = c .before .loop .inv .left .inside
@@ -66,6 +73,10 @@ move-record-requires c κs = search needs
 abbrev opening : tie.After-move-record Inv-loop μ-loop → tie.Start Inv-loop μ-loop
 opening c = c .before .before .before .before .before .before .before
 
+-- the numbers of the records can be had
+counts : (c : tie.After-move-record Inv-loop μ-loop) → let a = opening c .args in Counts (a .route) (length (now (a .text)))
+counts c = wide (opening c .args .route) _ (omega (arith, opening c .good .1 .0 .0))
+
 -- the rest of the place
 abbrev place : tie.After-move-record Inv-loop μ-loop → List ℕ
 place c = let l = c .before .before .before .before .loop in take (length (l .out) - l .end) (drop (l .end) (l .out))
@@ -87,12 +98,12 @@ place-size c =
 -- a record put into it
 moved : (c : tie.After-move-record Inv-loop μ-loop) → let a = opening c .args in
     let l = c .before .before .before .before .loop in
-    Turned (a .to) (now (a .text)) (l .at) (l .inv .count) (l .inv .earlier) (place c) (c .move-record .last .1 .1 .0) (c .move-record .result)
+    Turned (a .route) (now (a .text)) (l .at) (l .number) (l .inv .earlier) (place c) (c .move-record .last .1 .1 .1 .0) (c .move-record .result)
 moved c =
     let a = opening c .args in
     let t = c .before .before .before in
     let l = t .before .loop in
-    turn-whole (a .to) (now (a .text)) (l .at) (l .inv .count) (l .inv .earlier) (place c) _ _ (l .inv .left) (t .loop-test .taken)
+    turn-whole (a .route) (now (a .text)) (counts c) (whole-route (a .route) (now (a .text)) (opening c .pre .0)) (l .at) (l .number) (l .inv .earlier) (place c) _ _ (l .inv .left) (t .loop-test .taken)
     (c .move-record .ensures)
     (opening c .pre .0)
     (omega (arith, opening c .pre .1, place-size c))
@@ -101,14 +112,13 @@ moved c =
 one-more : (c : tie.After-move-record Inv-loop μ-loop) → let a = opening c .args in
     let l = c .before .before .before .before .loop in
     let m = c .move-record in
-    Placed (a .to) (now (a .text)) (now (a .out)) (behind (l .end) (l .out) (m .last .1 .1 .0)) (l .at + m .result .taken) (l .end + m .result .written)
+    Placed (a .route) (now (a .text)) (now (a .out)) (behind (l .end) (l .out) (m .last .1 .1 .1 .0)) (l .at + m .result .taken) (l .end + m .result .written) (l .number + 1)
 one-more c =
     let l = c .before .before .before .before .loop in
     let i = l .inv in
     let t = moved c in
     let room : length (i .earlier ++ t .next) ≤ length (now (opening c .args .out)) = omega (arith, length-append (i .earlier) (t .next), t .room, place-size c) in
     record {
-      count = i .count + 1;
       earlier = i .earlier ++ t .next;
       room = room;
       left = t .left-over;
@@ -137,7 +147,7 @@ returns : tie.Need-returns Inv-loop μ-loop
 returns c =
     let a = c .before .before .before .before .args in
     let l = c .before .loop in
-    let all = left-none (a .to) (now (a .text)) (l .at) (l .inv .count) (l .inv .earlier) (l .inv .left) (c .loop-test .left) in
+    let all = left-none (a .route) (now (a .text)) (wide (a .route) _ (omega (arith, c .before .before .before .before .good .1 .0 .0))) (l .at) (l .number) (l .inv .earlier) (l .inv .left) (c .loop-test .left) in
     put-count _ _ _ _ (l .inv .done) (l .inv .room) .1 ∙ ap (λ (w : Whole). textIn w ++ drop (length (textIn w)) (now (a .out))) (sym all)
 
 pub put-all-spec : {M : Type 1} → statement M
@@ -147,6 +157,7 @@ put-all-spec =
     Inv-loop
     μ-loop
     loop-holds
+    add-number
     sub-move-record
     part-move-record-start
     part-move-record-end

@@ -12,9 +12,10 @@ use lib.ListN.{length, getD, set, drop, length-append, length-drop, drop-of-leng
 use lib.Seq.{drop-cons, drop-length, set-append-seam}
 use borrow.Author.Needs.{needs}
 use borrow.Author.Tests.{le-leb, lt-leb}
+use Rattle.digits.specs.declared.hex.Case.{Case}
 use Rattle.digits.specs.declared.hex.Pair.{Pair}
 use Rattle.digits.specs.declared.hex.Pair.the-variants.{Byte, BadFirst, BadSecond}
-use Rattle.digits.specs.Hex.{digitOf, pairOf, andThen, fromHex}
+use Rattle.digits.specs.Hex.{digitIn, pairOf, andThen, fromHexIn}
 use Rattle.permutation.specs.Strings.{zeros}
 use Rattle.record.specs.Form.{fieldOf}
 use Rattle.record.specs.Calls.{fitted}
@@ -27,20 +28,20 @@ behind x (some y) = some (x ++ y)
 behind x none = none
 
 -- what holds before the digits at a place are read
-record Left (text bytes : List ℕ) (size at : ℕ) : Type 0 where
+record Left (case : Case) (text bytes : List ℕ) (size at : ℕ) : Type 0 where
   done : List ℕ
   sized : length done ≡ size
   small : size ≤ 256
   twice : at ≡ 2 * size
   inside : at ≤ length text
   holds : bytes ≡ done ++ zeros (256 - size)
-  rest : fromHex text ≡ behind done (fromHex (drop at text))
+  rest : fromHexIn case text ≡ behind done (fromHexIn case (drop at text))
 
 -- 256 bytes, and digits of more
-too-many : (done text : List ℕ) → length done ≡ 256 → 0 < length text → fieldOf [] ≡ fitted (behind done (fromHex text))
-too-many done [] h k = absurd (omega arith)
-too-many done (one ∷ []) h k = refl
-too-many done (high ∷ low ∷ text) h k = go (pairOf (digitOf high) (digitOf low)) (fromHex text)
+too-many : (case : Case) (done text : List ℕ) → length done ≡ 256 → 0 < length text → fieldOf [] ≡ fitted (behind done (fromHexIn case text))
+too-many case done [] h k = absurd (omega arith)
+too-many case done (one ∷ []) h k = refl
+too-many case done (high ∷ low ∷ text) h k = go (pairOf (digitIn case high) (digitIn case low)) (fromHexIn case text)
   where
     go : (p : Pair) (r : Option (List ℕ)) → fieldOf [] ≡ fitted (behind done (andThen p r))
     go (Byte b) (some y) = rw (lt-leb (length (done ++ b ∷ y)) 256 (omega (arith, length-append done (b ∷ y))))
@@ -49,13 +50,13 @@ too-many done (high ∷ low ∷ text) h k = go (pairOf (digitOf high) (digitOf l
     go BadSecond r = refl
 
 -- a digit alone
-alone : (text : List ℕ) (at : ℕ) → at < length text → length text - at ≡ 1 → fromHex (drop at text) ≡ none
-alone text at h e = rw (drop-cons text at 0 h, drop-of-length-le text {i = suc at} (omega arith))
+alone : (case : Case) (text : List ℕ) (at : ℕ) → at < length text → length text - at ≡ 1 → fromHexIn case (drop at text) ≡ none
+alone case text at h e = rw (drop-cons text at 0 h, drop-of-length-le text {i = suc at} (omega arith))
 
 -- two digits, and the rest
-two : (text : List ℕ) (at : ℕ) → at + 1 < length text
-    → fromHex (drop at text) ≡ andThen (pairOf (digitOf (getD text at 0)) (digitOf (getD text (at + 1) 0))) (fromHex (drop (at + 2) text))
-two text at h =
+two : (case : Case) (text : List ℕ) (at : ℕ) → at + 1 < length text
+    → fromHexIn case (drop at text) ≡ andThen (pairOf (digitIn case (getD text at 0)) (digitIn case (getD text (at + 1) 0))) (fromHexIn case (drop (at + 2) text))
+two case text at h =
     let e : at + 2 ≡ suc (suc at) = omega arith in
     rw (e, add-one at, drop-cons text at 0 (omega arith), drop-cons text (suc at) 0 (omega arith))
 
@@ -74,9 +75,9 @@ stored done size b e h =
     ∙ sym (append-assoc done (b ∷ []) (zeros (256 - (size + 1))))
 
 -- a pair read
-one-more : (text bytes : List ℕ) (size at b : ℕ) → at + 1 < length text → size < 256
-    → pairOf (digitOf (getD text at 0)) (digitOf (getD text (at + 1) 0)) ≡ Byte b → Left text bytes size at → Left text (set bytes size b) (size + 1) (at + 2)
-one-more text bytes size at b h k e left = record {
+one-more : (case : Case) (text bytes : List ℕ) (size at b : ℕ) → at + 1 < length text → size < 256
+    → pairOf (digitIn case (getD text at 0)) (digitIn case (getD text (at + 1) 0)) ≡ Byte b → Left case text bytes size at → Left case text (set bytes size b) (size + 1) (at + 2)
+one-more case text bytes size at b h k e left = record {
   done = left .done ++ b ∷ [];
   sized = length-append (left .done) (b ∷ []) ∙ omega (arith, left .sized);
   small = omega arith;
@@ -85,19 +86,23 @@ one-more text bytes size at b h k e left = record {
   holds = ap (λ (y : List ℕ). set y size b) (left .holds) ∙ stored (left .done) size b (left .sized) k;
   rest =
       left .rest
-      ∙ ap (behind (left .done)) (two text at h ∙ ap (λ (p : Pair). andThen p (fromHex (drop (at + 2) text))) e)
-      ∙ more (left .done) b (fromHex (drop (at + 2) text));
+      ∙ ap (behind (left .done)) (two case text at h ∙ ap (λ (p : Pair). andThen p (fromHexIn case (drop (at + 2) text))) e)
+      ∙ more (left .done) b (fromHexIn case (drop (at + 2) text));
 }
 
 abbrev Inv-loop : tie.InvT-loop
-Inv-loop text bytes₀ size₀ at₀ bytes size at = Left text bytes size at
+Inv-loop case text bytes₀ size₀ at₀ bytes size at = Left case text bytes size at
 
 abbrev μ-loop : tie.MeasureT-loop
-μ-loop text bytes₀ size₀ at₀ bytes size at = length text - at
+μ-loop case text bytes₀ size₀ at₀ bytes size at = length text - at
 
 -- the text, seen from a turn
 abbrev content : tie.At-loop Inv-loop μ-loop → List ℕ
 content c = now (c .before .before .args .text)
+
+-- the case, too
+abbrev spelled : tie.At-loop Inv-loop μ-loop → Case
+spelled c = c .before .before .args .case
 
 -- a turn, seen from where two digits are left
 abbrev turn : tie.Else2 Inv-loop μ-loop → tie.At-loop Inv-loop μ-loop
@@ -112,7 +117,7 @@ abbrev reading : tie.After-known-told Inv-loop μ-loop → tie.After-read-pair I
 reading c = c .before .before .before
 
 loop-holds : tie.Need-loop-holds Inv-loop μ-loop
-loop-holds c = record { done = []; sized = refl; small = omega arith; twice = refl; inside = omega arith; holds = refl; rest = start (fromHex (now (c .before .args .text))) }
+loop-holds c = record { done = []; sized = refl; small = omega arith; twice = refl; inside = omega arith; holds = refl; rest = start (fromHexIn (c .before .args .case) (now (c .before .args .text))) }
   where
     start : (r : Option (List ℕ)) → r ≡ behind [] r
     start (some y) = refl
@@ -126,7 +131,7 @@ returns c =
     let t = c .before .before .before in
     let l = t .loop in
     c .no-field .ensures
-    ∙ too-many (l .inv .done) (drop (l .at) (content t)) (l .inv .sized ∙ c .before .if1 .taken) (omega (arith, length-drop (l .at) (content t)))
+    ∙ too-many (spelled t) (l .inv .done) (drop (l .at) (content t)) (l .inv .sized ∙ c .before .if1 .taken) (omega (arith, length-drop (l .at) (content t)))
     ∙ ap fitted (sym (l .inv .rest))
 
 sub-if2 : tie.Need-sub-if2 Inv-loop μ-loop
@@ -141,7 +146,7 @@ returns-2 c =
     let l = i .before .loop in
     c .no-field2 .ensures
     ∙ ap fitted
-    (sym (l .inv .rest ∙ ap (behind (l .inv .done)) (alone (content (i .before)) (l .at) (i .loop-test .taken) (c .before .if2 .taken))))
+    (sym (l .inv .rest ∙ ap (behind (l .inv .done)) (alone (spelled (i .before)) (content (i .before)) (l .at) (i .loop-test .taken) (c .before .if2 .taken))))
 
 shared-slice-read-read-pair : tie.Need-shared-slice-read-read-pair Inv-loop μ-loop
 shared-slice-read-read-pair c = search needs
@@ -181,10 +186,10 @@ returns-3 c =
     let t = turn (left-two e) in
     let l = t .loop in
     let text = content t in
-    let other : (b : ℕ) → pairOf (digitOf (getD text (l .at) 0)) (digitOf (getD text (l .at + 1) 0)) ≡ Byte b → ⊥ =
+    let other : (b : ℕ) → pairOf (digitIn (spelled t) (getD text (l .at) 0)) (digitIn (spelled t) (getD text (l .at + 1) 0)) ≡ Byte b → ⊥ =
     λ b q. ⊎-elim (λ k. omega arith) (λ k. omega arith) (rw (e .read-pair .ensures ∙ q) at (c .before .match .keys2)) in
     c .no-field3 .ensures
-    ∙ ap fitted (sym (l .inv .rest ∙ ap (behind (l .inv .done)) (two text (l .at) (pair-left (left-two e)) ∙ no-byte _ (fromHex (drop (l .at + 2) text)) other)))
+    ∙ ap fitted (sym (l .inv .rest ∙ ap (behind (l .inv .done)) (two (spelled t) text (l .at) (pair-left (left-two e)) ∙ no-byte _ (fromHexIn (spelled t) (drop (l .at + 2) text)) other)))
 
 array-write-bytes : tie.Need-array-write-bytes Inv-loop μ-loop
 array-write-bytes c = room-left (left-two (reading c))
@@ -201,7 +206,7 @@ loop-less c = omega (arith, pair-left (left-two (reading c)))
 loop-again : tie.Need-loop-again Inv-loop μ-loop
 loop-again c =
     let e = left-two (reading c) in
-    one-more _ _ _ _ _ (pair-left e) (room-left e) (sym (reading c .read-pair .ensures) ∙ c .before .pair .given .1) (turn e .loop .inv)
+    one-more _ _ _ _ _ _ (pair-left e) (room-left e) (sym (reading c .read-pair .ensures) ∙ c .before .pair .given .1) (turn e .loop .inv)
 
 returns-4 : tie.Need-returns-4 Inv-loop μ-loop
 unfolding fieldOf
@@ -209,9 +214,9 @@ returns-4 c =
     let l = c .before .loop in
     let text = content (c .before) in
     let end : l .at ≡ length text = omega (arith, l .inv .inside) in
-    let all : fromHex text ≡ some (l .inv .done) =
-    l .inv .rest ∙ ap (λ (i : ℕ). behind (l .inv .done) (fromHex (drop i text))) end
-    ∙ ap (λ (y : List ℕ). behind (l .inv .done) (fromHex y)) (drop-length text)
+    let all : fromHexIn (spelled (c .before)) text ≡ some (l .inv .done) =
+    l .inv .rest ∙ ap (λ (i : ℕ). behind (l .inv .done) (fromHexIn (spelled (c .before)) (drop i text))) end
+    ∙ ap (λ (y : List ℕ). behind (l .inv .done) (fromHexIn (spelled (c .before)) y)) (drop-length text)
     ∙ ap some (append-nil (l .inv .done)) in
     let size = l .inv .sized in
     let fits = le-leb (length (l .inv .done)) 256 (omega (arith, size, l .inv .small)) in

@@ -19,8 +19,8 @@ enum-told-2 c = search needs
 with-number-requires : tie.Need-with-number-requires
 with-number-requires c κs = search needs
 
-enum-told-3 : tie.Need-enum-told-3
-enum-told-3 c = search needs
+enum-known-value : tie.Need-enum-known-value
+enum-known-value c = search needs
 
 read-field-requires : tie.Need-read-field-requires
 read-field-requires c κs = search needs
@@ -40,8 +40,8 @@ returns-3 : tie.Need-returns-3
 unfolding withValue
 returns-3 c =
     let f = c .before in
-    let a = f .before .before .before .before .before .args in
-    rw (sym (f .before .before .before .value-of .ensures) ∙ f .before .enum-told3 .given .1)
+    let a = f .before .before .before .before .before .before .args in
+    rw (sym (f .before .before .before .before .value-of .ensures) ∙ f .before .before .value .given .1)
     (c .with-field .ensures ∙ ap (λ (g : Field). withField (a .part) g (a .entry)) (f .read-field .ensures))
 
 pub with-value-spec : {M : Type 1} → statement M
@@ -52,7 +52,7 @@ with-value-spec =
     enum-told
     enum-told-2
     with-number-requires
-    enum-told-3
+    enum-known-value
     read-field-requires
     with-field-requires
     returns

@@ -5,7 +5,7 @@ use native.Mathlib.Omega.{arith}
 use lib.ListN.{length}
 use borrow.Author.Needs.{needs}
 use Rattle.record.specs.Text.{name, valueText}
-use Rattle.record.proofs.Names.{name-sizes, name-of-named}
+use Rattle.record.proofs.Names.{name-sizes, held-name}
 use Rattle.record.proofs.Lines.{line-length}
 use Rattle.record.proofs.Bounds.{value-most}
 use Rattle.record.proofs.writing.line_length.Statement.{statement}
@@ -25,7 +25,7 @@ parts c =
     let n = c .before .name-of in
     let s = c .before .before in
     let part = s .args .part in (
-      name-of-named part (n .result) (n .ensures) .0,
+      held-name part (n .result) (n .ensures) .size-is,
       name-sizes part .1,
       c .value-length .ensures,
       value-most part (s .args .entry) (s .pre),

@@ -9,7 +9,7 @@ use borrow.Author.Needs.{needs}
 use Rattle.digits.specs.Room.{lineOf, put}
 use Rattle.digits.proofs.Room.{put-inside, put-count}
 use Rattle.record.specs.Text.{valueText, lineText}
-use Rattle.record.proofs.Names.{name-in-places, name-of-named}
+use Rattle.record.proofs.Names.{held-name}
 use Rattle.record.proofs.Bounds.{value-most}
 use Rattle.record.proofs.writing.put_line.Statement.{statement}
 use Rattle.record.proofs.writing.put_line.Tie as tie
@@ -36,11 +36,11 @@ put-value-requires : tie.Need-put-value-requires
 put-value-requires c κs = search needs
 
 array-share-prefix-bytes : tie.Need-array-share-prefix-bytes
-array-share-prefix-bytes c = name-in-places _ _ (named (c .before) .name-of .ensures)
+array-share-prefix-bytes c = held-name _ _ (named (c .before) .name-of .ensures) .inside
 
 slice-aggregate-put-line : tie.Need-slice-aggregate-put-line
 slice-aggregate-put-line c =
-    let n = named (c .before .before) .name-of in sym (length-take-le (n .result .size) (n .result .bytes) (name-in-places _ _ (n .ensures)))
+    let n = named (c .before .before) .name-of in sym (length-take-le (n .result .size) (n .result .bytes) (held-name _ _ (n .ensures) .inside))
 
 array-share-prefix-value : tie.Need-array-share-prefix-value
 array-share-prefix-value c = put-inside _ _ _ _ (c .before .before .put-value .ensures) .0
@@ -70,7 +70,7 @@ returns c =
     let n = named (valued p) in
     let a = entry n .args in
     p .put-line .ensures
-    ∙ ap₂ (λ (x y : List ℕ). put (lineOf x y) (now (a .out))) (name-of-named (a .part) (n .name-of .result) (n .name-of .ensures) .1) (value-put (valued p))
+    ∙ ap₂ (λ (x y : List ℕ). put (lineOf x y) (now (a .out))) (held-name (a .part) (n .name-of .result) (n .name-of .ensures) .text-is) (value-put (valued p))
 
 pub put-line-spec : {M : Type 1} → statement M
 put-line-spec =

@@ -7,7 +7,7 @@ use denote.Ref.{now}
 use lib.ListN.{length}
 use lib.Seq.{length-take-le}
 use borrow.Author.Needs.{needs}
-use Rattle.digits.specs.Hex.{hexOf}
+use Rattle.digits.specs.Hex.{hexIn}
 use Rattle.digits.specs.Numbers.{numeral}
 use Rattle.digits.specs.Room.{put}
 use Rattle.digits.proofs.Room.{put-fits}
@@ -34,8 +34,8 @@ number-at-requires c κs = search needs
 put-number-requires : tie.Need-put-number-requires
 put-number-requires c κs = search needs
 
-enum-told-3 : tie.Need-enum-told-3
-enum-told-3 c = search needs
+enum-known-value : tie.Need-enum-known-value
+enum-known-value c = search needs
 
 field-at-requires : tie.Need-field-at-requires
 field-at-requires c κs = search needs
@@ -47,8 +47,8 @@ entry c = c .before .before
 -- the field of a part of bytes has them in its places
 inside : (c : tie.After-field-at) → c .field-at .result .size ≤ length (c .field-at .result .bytes)
 inside c =
-    let s = entry (c .before .before .before) in
-    let kind = sym (c .before .before .before .value-of .ensures) ∙ c .before .enum-told3 .given .1 in
+    let s = entry (c .before .before .before .before) in
+    let kind = sym (c .before .before .before .before .value-of .ensures) ∙ c .before .before .value .given .1 in
     let in-form = ap isField (c .field-at .ensures .0) ∙ bytes-field (s .args .part) (s .args .entry) _ _ _ kind (s .pre) in
     omega (arith, held-length (c .field-at .result) in-form (c .field-at .ensures .1) .1, c .field-at .ensures .1)
 
@@ -85,15 +85,15 @@ returns-2 c =
     c .before .before .put-number .ensures ∙ ap (λ (x : List ℕ). put x (now (entry (n .before .before .before) .args .out))) (number-text n)
 
 -- the digits of a field are the part's
-field-text : (c : tie.After-field-at) → let a = entry (c .before .before .before) .args in hexOf (held (c .field-at .result)) ≡ valueText (a .part) (a .entry)
+field-text : (c : tie.After-field-at) → let a = entry (c .before .before .before .before) .args in hexIn (c .before .before .value .given .0 .1 .1 .0) (held (c .field-at .result)) ≡ valueText (a .part) (a .entry)
 unfolding valueText
 field-text c =
-    rw (sym (c .before .before .before .value-of .ensures) ∙ c .before .enum-told3 .given .1) (ap (λ (f : Field). hexOf (held f)) (c .field-at .ensures .0))
+    rw (sym (c .before .before .before .before .value-of .ensures) ∙ c .before .before .value .given .1) (ap (λ (f : Field). hexIn (c .before .before .value .given .0 .1 .1 .0) (held f)) (c .field-at .ensures .0))
 
 returns-3 : tie.Need-returns-3
 returns-3 c =
     let f = c .before .before .before .before .before .before in
-    c .before .before .put-bytes .ensures ∙ ap (λ (x : List ℕ). put x (now (entry (f .before .before .before) .args .out))) (field-text f)
+    c .before .before .put-bytes .ensures ∙ ap (λ (x : List ℕ). put x (now (entry (f .before .before .before .before) .args .out))) (field-text f)
 
 pub put-value-spec : {M : Type 1} → statement M
 put-value-spec =
@@ -104,7 +104,7 @@ put-value-spec =
     enum-told-2
     number-at-requires
     put-number-requires
-    enum-told-3
+    enum-known-value
     field-at-requires
     array-share-prefix-bytes
     slice-aggregate-put-bytes

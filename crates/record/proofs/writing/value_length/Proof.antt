@@ -4,9 +4,9 @@ use Prim.Native.Nat.{_*_, _≤_}
 use native.Mathlib.Omega.{arith}
 use lib.ListN.{length}
 use borrow.Author.Needs.{needs}
-use Rattle.digits.specs.Hex.{hexOf}
+use Rattle.digits.specs.Hex.{hexIn}
 use Rattle.digits.specs.Numbers.{places}
-use Rattle.digits.specs.declared.hex.Case.the-variants.{Lower}
+use Rattle.digits.specs.declared.hex.Case.{Case}
 use Rattle.digits.proofs.Spelling.{length-hex}
 use Rattle.digits.proofs.Numerals.{length-numeral}
 use Rattle.record.specs.declared.field.Field.{Field}
@@ -40,7 +40,7 @@ field-at-requires c κs = search needs
 
 -- the field of a part of bytes holds as many as it says, and at most 256
 sized : (c : tie.After-field-at) → let s = c .before .before .before .before in
-    (2 * c .field-at .result .size ≡ length (hexOf (held (fieldAt (s .args .part) (s .args .entry))))) × (c .field-at .result .size ≤ 256)
+    ((case : Case) → 2 * c .field-at .result .size ≡ length (hexIn case (held (fieldAt (s .args .part) (s .args .entry))))) × (c .field-at .result .size ≤ 256)
 sized c =
     let s = c .before .before .before .before in
     let f = c .field-at .result in
@@ -48,7 +48,7 @@ sized c =
     let kind = sym (c .before .before .before .value-of .ensures) ∙ c .before .enum-told3 .given .1 in
     let in-form = ap isField same ∙ bytes-field (s .args .part) (s .args .entry) _ _ _ kind (s .pre) in
     let size = held-length f in-form (c .field-at .ensures .1) in
-    (omega (arith, size .0, length-hex Lower (held f)) ∙ ap (λ (g : Field). length (hexOf (held g))) same, size .1)
+    (λ case. omega (arith, size .0, length-hex case (held f)) ∙ ap (λ (g : Field). length (hexIn case (held g))) same, size .1)
 
 mul-result : tie.Need-mul-result
 mul-result c = record { fits = omega (arith, sized (c .before) .1) }
@@ -68,7 +68,7 @@ returns-3 : tie.Need-returns-3
 unfolding valueText
 returns-3 c =
     let f = c .before in
-    rw (sym (f .before .before .before .value-of .ensures) ∙ f .before .enum-told3 .given .1) (sized f .0)
+    rw (sym (f .before .before .before .value-of .ensures) ∙ f .before .enum-told3 .given .1) (sized f .0 _)
 
 pub value-length-spec : {M : Type 1} → statement M
 value-length-spec =

@@ -1,4 +1,4 @@
--- `message::message_rounds` meets its contract.
+-- `sets::message_rounds` meets its contract.
 use mathlib.Core.Path.{_≡_, ap}
 use Prim.Native.Nat.{ℕ, _+_, _-_, _*_, _/_, _≤_}
 use native.Mathlib.Nat.{div-le-self, mul-le-mul-right}
@@ -6,9 +6,9 @@ use native.Mathlib.Omega.{arith}
 use borrow.Author.Needs.{needs}
 use Rattle.permutation.specs.Runs.{roundsOf, constantsOf, constants}
 use Rattle.ascon.specs.Rounds.{textBlocks, messageRounds}
 use Rattle.sets.proofs.Rows.{row-sizes}
-use Rattle.message.proofs.message_rounds.Statement.{statement}
-use Rattle.message.proofs.message_rounds.Tie as tie
+use Rattle.sets.proofs.message_rounds.Statement.{statement}
+use Rattle.sets.proofs.message_rounds.Tie as tie
 
 ad-blocks-requires : tie.Need-ad-blocks-requires
 ad-blocks-requires c κs = search needs
@@ -27,11 +27,11 @@ rounds-between-requires c κs = search needs
 
 -- the rounds between are few
 few : (c : tie.After-rounds-between) → let a = c .before .before .before .args in
-    c .rounds-between .result * (c .before .before .ad-blocks .result + a .text / c .before .block-length .result) ≤ 8_912_904
+    c .rounds-between .result * (c .before .before .ad-blocks .result + a .text / c .before .block-length .result) ≤ 68_719_476_728
 few c =
     let a = c .before .before .before .args in
     let blocks : ℕ = c .before .before .ad-blocks .result + a .text / c .before .block-length .result in
-    let bound : blocks ≤ 1_114_113 = omega (arith, div-le-self (a .text) (c .before .block-length .result)) in
+    let bound : blocks ≤ 8_589_934_591 = omega (arith, div-le-self (a .text) (c .before .block-length .result)) in
     let most : c .rounds-between .result * blocks ≤ 8 * blocks =
     mul-le-mul-right blocks (rw (c .rounds-between .ensures) (row-sizes (a .set) .rounds)) in
     omega arith

@@ -1,12 +1,12 @@
--- `message::ad_blocks` meets its contract.
+-- `sets::ad_blocks` meets its contract.
 use native.Mathlib.Nat.{div-le-self}
 use native.Mathlib.Omega.{arith}
 use borrow.Author.Needs.{needs}
 use borrow.Author.Tests.{eq-eqb, ne-eqb}
 use Rattle.ascon.specs.Rounds.{adBlocks}
 use Rattle.sets.proofs.Rows.{row-sizes}
-use Rattle.message.proofs.ad_blocks.Statement.{statement}
-use Rattle.message.proofs.ad_blocks.Tie as tie
+use Rattle.sets.proofs.ad_blocks.Statement.{statement}
+use Rattle.sets.proofs.ad_blocks.Tie as tie
 
 returns : tie.Need-returns
 unfolding adBlocks
