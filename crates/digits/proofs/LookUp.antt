@@ -11,7 +11,7 @@ use Rattle.digits.specs.declared.hex.Case.the-variants.{Lower, Upper}
 use Rattle.digits.specs.declared.hex.Digit.{Digit}
 use Rattle.digits.specs.declared.hex.Digit.the-variants.{Value, NoDigit}
 use Rattle.digits.specs.Hex.{digitIn, isValue}
-use Rattle.digits.specs.LookUp.{noDigits, digitRows, digitRow, entryOf, noneBelow}
+use Rattle.digits.specs.LookUp.{noDigits, digitRows, digitRow, entryOf, said, noneBelow}
 
 -- ---- rows
 
@@ -25,11 +25,6 @@ pub behind : (row : ℕ) → noneBelow 31 row → noDigits ≡ digitRow row
 behind row h = sym (List·getD-eq-default digitRows noDigits {n = row} (omega (arith, past 31 row h)))
 
 -- ---- entries
-
--- what an entry says of a letter's case: a value, or that it is no digit
-abbrev said : Case → ℕ → Digit
-said Lower e = cond (ltb e 16) (Value e) NoDigit
-said Upper e = cond (ltb e 10) (Value e) (cond (eqb (e / 16) 1) (Value (e - 16)) NoDigit)
 
 abbrev same : Digit → Digit → Bool
 same (Value v) (Value w) = eqb v w

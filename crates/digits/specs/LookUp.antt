@@ -1,8 +1,14 @@
 -- The list that the code looks characters up in. Nobody has to believe it: `looked-up` proves that it says of each character what `digitIn` says, in both cases.
 use mathlib.Core.Path.{_≡_}
 use mathlib.Core.List.{List, [], _∷_}
-use Prim.Native.Nat.{ℕ, zero, suc, _*_, _/_, _%_, _^_}
+use mathlib.Core.Bool.{cond}
+use Prim.Native.Nat.{ℕ, zero, suc, _-_, _*_, _/_, _%_, _^_}
+use lib.Dec.{eqb, ltb}
 use lib.ListN.{getD}
+use Rattle.digits.specs.declared.hex.Case.{Case}
+use Rattle.digits.specs.declared.hex.Case.the-variants.{Lower, Upper}
+use Rattle.digits.specs.declared.hex.Digit.{Digit}
+use Rattle.digits.specs.declared.hex.Digit.the-variants.{Value, NoDigit}
 
 -- a row without a digit
 abbrev pub noDigits : ℕ
@@ -21,6 +27,11 @@ digitRow row = getD digitRows row noDigits
 -- the entry of a character: its byte in its row
 abbrev pub entryOf : ℕ → ℕ
 entryOf character = digitRow (character / 8) / 2 ^ (8 * (character % 8)) % 256
+
+-- what an entry is as a digit, in either case: a value, or no digit
+abbrev pub said : Case → ℕ → Digit
+said Lower e = cond (ltb e 16) (Value e) NoDigit
+said Upper e = cond (ltb e 10) (Value e) (cond (eqb (e / 16) 1) (Value (e - 16)) NoDigit)
 
 -- a number is none of those below n: what is known of it behind n arms of a `match`, in the form that the checker has it in
 abbrev pub noneBelow : ℕ → ℕ → Type 0

@@ -1,9 +1,8 @@
 // Hex digits, in lower or upper case: one, a pair, and bytes.
 ghost use mathlib.Core.Path.{_≡_};
 ghost use Prim.Native.Nat.{_<_};
-ghost use Rattle.digits.specs.declared.hex.Case.the-variants.{Upper};
 ghost use Rattle.digits.specs.Hex.{letterA, digitIn, digitOf, isValue, pairOf, hexDigitIn, hexIn};
-ghost use Rattle.digits.specs.LookUp.{digitRow, entryOf, noneBelow};
+ghost use Rattle.digits.specs.LookUp.{digitRow, entryOf, said, noneBelow};
 ghost use Rattle.digits.specs.Room.{laid, put};
 
 // What a character is as a digit.
@@ -107,28 +106,35 @@ pub fn is_digit(case: Case, character: u8) -> bool
     }
 }
 
-// The value of a digit, its letter in upper case.
-fn read_upper(character: u8) -> Digit
-    ensures { λ r. ⌜ r ≡ digitIn Upper character ⌝ }
+// What an entry is as a digit, its letter in the case asked for.
+fn digit_at(case: Case, entry: u8) -> Digit
+    ensures { λ r. ⌜ r ≡ said case entry ⌝ }
 {
-    let entry = entry_of(character);
-    if entry < 10 {
-        return Digit::Value(entry);
+    match case {
+        Case::Lower => {
+            if entry < 16 {
+                return Digit::Value(entry);
+            }
+            Digit::NoDigit
+        }
+        Case::Upper => {
+            if entry < 10 {
+                return Digit::Value(entry);
+            }
+            if entry / 16 == 1 {
+                return Digit::Value(entry - 16);
+            }
+            Digit::NoDigit
+        }
     }
-    if entry / 16 == 1 {
-        return Digit::Value(entry - 16);
-    }
-    Digit::NoDigit
 }
 
 // The value of a digit, its letter in the case asked for.
 fn digit_in(case: Case, character: u8) -> Digit
     ensures { λ r. ⌜ r ≡ digitIn case character ⌝ }
 {
-    match case {
-        Case::Lower => read_digit(character),
-        Case::Upper => read_upper(character),
-    }
+    let entry = entry_of(character);
+    digit_at(case, entry)
 }
 
 // The byte of two digits, the high one first; or which of them is at fault.
