@@ -2,12 +2,11 @@
 use mathlib.Core.Path.{_≡_, refl, sym, ap, _∙_}
 use mathlib.Core.Bool.{Bool, true, false, cond}
 use mathlib.Core.List.{List, [], _∷_, _++_}
-use Prim.Native.Nat.{ℕ, _+_, _≤_}
+use Prim.Native.Nat.{ℕ, _+_, _-_, _≤_}
 use native.Mathlib.Omega.{arith}
 use lib.Dec.{eqb}
-use lib.ListN.{length, take, drop, take-append-drop, length-take, length-drop}
-use lib.Seq.{length-take-le, take-append-add}
-use borrow.Author.Tests.{eqb-true}
+use lib.ListN.{length, take, drop, take-append-drop, length-append, length-take, length-drop}
+use lib.Seq.{length-take-le, take-at, take-append-add}
 use Rattle.turns.specs.Run as run
 use Rattle.turns.specs.Run.{Reply}
 use Rattle.bench.specs.declared.progress.Heard.{Heard}
@@ -30,6 +29,29 @@ take-more : (m n : ℕ) (x : List ℕ) → m ≤ length x → take (m + n) x ≡
 take-more m n x h =
     let size : length (take m x) ≡ m = length-take-le m x h in
     ap (λ (k : ℕ). take (k + n) x) (sym size) ∙ ap (take (length (take m x) + n)) (sym (take-append-drop m x)) ∙ take-append-add (take m x) (drop m x) n
+
+-- bytes read into a place behind its first ones: these stay, and so does the length
+pub record Kept (before after : List ℕ) (left : ℕ) : Type 0 where
+  pub front : take left after ≡ take left before
+  pub same : length after ≡ length before
+
+pub kept-front : (before brought : List ℕ) (left : ℕ) → left ≤ length before → length brought ≡ length (take (length before - left) (drop left before))
+    → Kept before (take left before ++ (brought ++ drop (length before - left) (drop left before))) left
+kept-front before brought left h e =
+    let rest = drop (length before - left) (drop left before) in
+    record {
+      front = take-at (take left before) (brought ++ rest) left (length-take-le left before h);
+      same = omega (
+        arith,
+        length-append (take left before) (brought ++ rest),
+        length-append brought rest,
+        length-take-le left before h,
+        length-drop left before,
+        length-drop (length before - left) (drop left before),
+        length-take (length before - left) (drop left before),
+        e,
+      );
+    }
 
 -- what a read moved stands behind the bytes before it, which stay: it is an answer that delivered them
 pub record Answer (before after : List ℕ) (filled : ℕ) (heard : Heard) : Type 0 where

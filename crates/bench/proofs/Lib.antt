@@ -5,5 +5,6 @@ pub mod Views
 pub mod Looks
 pub mod Answers
 pub mod Rooms
+pub mod Replayed
 pub mod Words
 pub mod Wrong

@@ -24,7 +24,7 @@ use Rattle.bench.specs.Progress.{isSignal, heardOf, failing, ending, fro
 
 -- ---- parts of lists
 
-drop-take : (n k : ℕ) (l : List ℕ) → n ≤ k → drop n (take k l) ≡ take (k - n) (drop n l)
+pub drop-take : (n k : ℕ) (l : List ℕ) → n ≤ k → drop n (take k l) ≡ take (k - n) (drop n l)
 drop-take zero k l h = let same : k ≡ k - 0 = omega arith in ap (λ (m : ℕ). take m l) same
 drop-take (suc n) zero l h = absurd (omega arith)
 drop-take (suc n) (suc k) [] h = sym (take-nil (suc k - suc n))

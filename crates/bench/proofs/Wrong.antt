@@ -16,6 +16,7 @@ use Rattle.bench.proofs.whole.after_read.Reads as read-whole
 use Rattle.bench.proofs.whole.after_write.Reads as write-whole
 use Rattle.bench.proofs.decimal.read.Reads as read-decimal
 use Rattle.bench.proofs.task_of.Reads as task-of
+use Rattle.bench.proofs.replays.entry_of.Reads as entry-of
 
 -- a list, lent from some place
 abbrev lent : List ℕ → RefT (List ℕ)
@@ -29,6 +30,7 @@ pub ruled-out : (one two : Lft) → RuledOut (λ count error r. hear.Learnt tt (
     (λ from heard r. write-whole.Learnt tt (from, (heard, tt)) r (from, (heard, tt)))
     (λ text r. read-decimal.Learnt (one, tt) (lent text, tt) r (lent text, tt))
     (λ words word set r. task-of.Learnt (one, (two, tt)) (words, (lent word, (lent set, tt))) r (words, (lent word, (lent set, tt))))
+    (λ agreed verdict r. entry-of.Learnt tt (agreed, (verdict, tt)) r (agreed, (verdict, tt)))
 ruled-out one two =
     record {
       signal = λ allowed. let z : _≡_ {A = ℕ} 0 1 = cc allowed in omega arith;
@@ -53,4 +55,9 @@ ruled-out one two =
       task-other = λ route allowed. let z : _≡_ {A = ℕ} 0 1 = cc allowed in omega arith;
       task-unknown = λ allowed. let z : _≡_ {A = ℕ} 0 1 = cc allowed in omega arith;
       task-judge = λ allowed. let z : _≡_ {A = ℕ} 0 1 = cc allowed in omega arith;
+      task-replay = λ allowed. let z : _≡_ {A = ℕ} 0 1 = cc allowed in omega arith;
+      task-replay-judge = λ allowed. let z : _≡_ {A = ℕ} 0 1 = cc allowed in omega arith;
+      task-replay-more = λ allowed. let z : _≡_ {A = ℕ} 0 1 = cc allowed in omega arith;
+      entry-zero = λ allowed. let z : _≡_ {A = ℕ} 0 1 = allowed in omega arith;
+      entry-agreed = λ allowed. let z : _≡_ {A = ℕ} 3 2 = allowed in omega arith;
     }

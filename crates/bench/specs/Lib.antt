@@ -4,5 +4,6 @@ pub mod Progress
 pub mod Whole
 pub mod Moves
 pub mod Decimal
+pub mod Replays
 pub mod Tasks
 pub mod Wrong

@@ -10,12 +10,12 @@ use Rattle.bench.specs.declared.decimal.Decimal.{Decimal}
 use Rattle.bench.specs.declared.decimal.Decimal.the-variants.{Number, NoNumber}
 use Rattle.bench.specs.Decimal.{decimalOf}
 use Rattle.bench.specs.declared.Task.{Task}
-use Rattle.bench.specs.declared.Task.the-variants.{Judge, Move, Unknown}
+use Rattle.bench.specs.declared.Task.the-variants.{Judge, Move, Replay, Unknown}
 
 -- one word
 abbrev pub wordTask : List ℕ → Task
 wordTask word =
-    cond (same word (ascii "forward")) (Move Forward) (cond (same word (ascii "back")) (Move Back) (cond (same word (ascii "export")) (Move Export) Unknown))
+    cond (same word (ascii "forward")) (Move Forward) (cond (same word (ascii "back")) (Move Back) (cond (same word (ascii "export")) (Move Export) (cond (same word (ascii "replay")) Replay Unknown)))
 
 -- the moving of a published test file of a set, if a decimal names one
 abbrev pub importOf : Decimal → Task

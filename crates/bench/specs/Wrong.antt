@@ -7,6 +7,8 @@ use lib.IntN.{ℤ, pos, negsuc}
 use Rattle.digits.specs.Ascii.{ascii}
 use Rattle.moving.specs.declared.route.Route.{Route}
 use Rattle.moving.specs.declared.route.Route.the-variants.{Import, Export}
+use Rattle.replay.specs.declared.window.Verdict as replay
+use Rattle.replay.specs.declared.window.Verdict.the-variants.{Agrees, Answer}
 use Rattle.report.specs.declared.Verdict.{Verdict}
 use Rattle.report.specs.declared.Verdict.the-variants.{Tag, Unread}
 use Rattle.turns.specs.declared.Stage.the-variants.{Close}
@@ -22,15 +24,16 @@ use Rattle.bench.specs.declared.whole.Output.the-variants as output
 use Rattle.bench.specs.declared.decimal.Decimal.{Decimal}
 use Rattle.bench.specs.declared.decimal.Decimal.the-variants.{Number, NoNumber}
 use Rattle.bench.specs.declared.Task.{Task}
-use Rattle.bench.specs.declared.Task.the-variants.{Judge, Move, Unknown}
+use Rattle.bench.specs.declared.Task.the-variants.{Judge, Move, Replay, Unknown}
 use Rattle.bench.specs.Progress.{fresh}
 
 -- of the results that contracts allow: of hearing a raw answer, of an answer to a read, of counting a verdict; where all of the input is read first, of an answer to a
--- read and to a write; of reading a decimal, and of the program's words
+-- read and to a write; of reading a decimal, and of the program's words; of the number of a log's entry
 pub record RuledOut
     (hears : ℤ → ℤ → Heard → Type 0) (reads : Progress → Heard → Progress → Type 0) (counts : Tally → Verdict → Tally → Type 0)
     (inputs : ℕ → Heard → Input → Type 0) (outputs : ℕ → Heard → Output → Type 0)
     (decimals : List ℕ → Decimal → Type 0) (tasks : ℕ → List ℕ → List ℕ → Task → Type 0)
+    (numbers : ℕ → replay.Verdict → ℕ → Type 0)
     : Type 0 where
   -- a call that failed with another error than a signal's is not tried again
   pub signal : hears (negsuc 0) (pos 5) Again → ⊥
@@ -69,3 +72,10 @@ pub record RuledOut
   pub task-unknown : tasks 3 (ascii "import") (ascii "5") Unknown → ⊥
   -- a word that is not known is not judging
   pub task-judge : tasks 2 (ascii "imports") [] Judge → ⊥
+  -- replaying is no other task, and takes no word behind it
+  pub task-replay : tasks 2 (ascii "replay") [] Unknown → ⊥
+  pub task-replay-judge : tasks 2 (ascii "replay") [] Judge → ⊥
+  pub task-replay-more : tasks 3 (ascii "replay") (ascii "1") Replay → ⊥
+  -- the entries of a log are not counted from 0; where all agree, there is none more
+  pub entry-zero : numbers 0 Answer 0 → ⊥
+  pub entry-agreed : numbers 2 Agrees 3 → ⊥

@@ -1,10 +1,11 @@
 // The bench. Without a word: judges the records that stand one after another on standard input, writes three lines on each to standard output, and at its proper end says on
 // standard error where the unread record broke, if there is one, and how many it judged, and how. What fails is said there in its place; a record that a failed read
 // cut off gets no report. With the word `forward`, `back` or `export`, or with `import` and a set: moves all records from one kind of text to another, and writes all of
-// them to standard output, or nothing.
+// them to standard output, or nothing. With the word `replay`: replays the log of a chip's calls, and writes its verdict in three lines.
 mod decimal;
 mod moves;
 mod progress;
+mod replays;
 mod tally;
 mod whole;
 
@@ -208,6 +209,7 @@ fn explain(stage: Stage) {
 pub enum Task {
     Judge,
     Move(Route),
+    Replay,
     Unknown,
 }
 
@@ -223,6 +225,9 @@ fn word_task(word: &[u8]) -> Task
     }
     if check::same(word, b"export") {
         return Task::Move(Route::Export);
+    }
+    if check::same(word, b"replay") {
+        return Task::Replay;
     }
     Task::Unknown
 }
@@ -274,6 +279,7 @@ fn main() {
     match task_of(os::arg_count(), &word[..word_size], &set[..set_size]) {
         Task::Judge => judge_all(),
         Task::Move(route) => moves::carry(route),
+        Task::Replay => replays::replay(),
         Task::Unknown => {
             io::write_all(libc::STDERR_FILENO, b"bench: unknown task\n");
         }

@@ -63,16 +63,22 @@ fn put_end(at: usize, tally: Tally, out: &mut [u8]) -> usize
     put_piece(four, b" unread\n", out)
 }
 
-// Puts the line that says where the unread record broke at the beginning of a place that has room for it, and gives where it ends.
-fn put_fault(tally: Tally, out: &mut [u8]) -> usize
-    requires { ⌜ recordsOf tally ≤ largest ⌝ }
+// Puts the line that says where a record or an entry broke, by this word for it, at the beginning of a place that has room for it, and gives where it ends.
+pub(crate) fn put_fault(
+    word: &[u8],
+    number: u64,
+    line: usize,
+    column: usize,
+    out: &mut [u8],
+) -> usize
+    requires { ⌜ length (now word) ≤ 32 ⌝ }
     requires { ⌜ 128 ≤ length (now out) ⌝ }
-    ensures { λ r. ⌜ Follows 0 (faultLine (recordsOf tally) (tally .line) (tally .column)) r (now (out .entry)) (now (out .exit)) ⌝ }
+    ensures { λ r. ⌜ Follows 0 (faultLine (now (word .entry)) number line column) r (now (out .entry)) (now (out .exit)) ⌝ }
     ensures { λ r. ⌜ r ≤ 128 ⌝ }
 {
-    let one = put_numbered(0, b"bench: record ", records(tally), out);
-    let two = put_numbered(one, b": line ", tally.line as u64, out);
-    let three = put_numbered(two, b", column ", tally.column as u64, out);
+    let one = put_numbered(0, word, number, out);
+    let two = put_numbered(one, b": line ", line as u64, out);
+    let three = put_numbered(two, b", column ", column as u64, out);
     put_piece(three, b"\n", out)
 }
 
@@ -85,6 +91,12 @@ pub(crate) fn put_last(tally: Tally, out: &mut [u8]) -> usize
     if tally.unread == 0 {
         return put_end(0, tally, out);
     }
-    let at = put_fault(tally, out);
+    let at = put_fault(
+        b"bench: record ",
+        records(tally),
+        tally.line,
+        tally.column,
+        out,
+    );
     put_end(at, tally, out)
 }

@@ -1,13 +1,12 @@
 -- Seven right lines are the entry of a record.
-use mathlib.Core.Path.{_≡_, refl, sym, ap, ap₂, _∙_}
-use mathlib.Core.Bool.{Bool, true, false, cond, _&&_}
+use mathlib.Core.Path.{_≡_, refl, sym, ap, _∙_}
+use mathlib.Core.Bool.{Bool, true, false, cond}
 use mathlib.Core.List.{List, [], _++_}
-use Prim.Native.Nat.{ℕ, suc, _+_, _-_, _*_, _/_, _≤_}
+use Prim.Native.Nat.{ℕ, _+_, _-_, _*_, _/_, _≤_}
 use native.Mathlib.Nat.{div-le-self, mul-le-mul-right}
 use native.Mathlib.Omega.{arith}
-use lib.Dec.{eqb, leb}
+use lib.Dec.{eqb}
 use lib.ListN.{length, take, drop, take-append-drop, length-take, length-drop}
-use lib.Pow.{areBytes}
 use borrow.Author.Tests.{le-leb}
 use Rattle.permutation.specs.Runs.{roundsOf, constantsOf, constants}
 use Rattle.ascon.specs.Sets.{isSet, rowOf}
@@ -18,22 +17,20 @@ use Rattle.digits.specs.Hex.{hexIn}
 use Rattle.digits.specs.Room.{lineOf}
 use Rattle.lines.specs.declared.kinds.Value.the-variants.{Fixed, Bytes}
 use Rattle.lines.specs.Right.{Spells, Right}
+use Rattle.lines.specs.Texts.{textFrom}
+use Rattle.lines.proofs.Texts.{rows-lines}
+use Rattle.lines.proofs.Values.{BytesLine, bytes-line}
 use Rattle.record.specs.declared.form.Form.the-variants.{One}
 use Rattle.record.specs.declared.form.Record.{Record}
-use Rattle.record.specs.Form.{fieldOf, held, isField, valueKind, keeps, broken}
+use Rattle.record.specs.Form.{fieldOf, held, valueKind, keeps, broken}
 use Rattle.record.specs.Laws.{Typed}
 use Rattle.record.proofs.Fields.{bytes-take, bytes-drop, whole-field, held-field}
-use Rattle.record.proofs.Lines.{field-is}
+use Rattle.record.proofs.Lines.{field-allowed}
 use Rattle.entry.specs.Form as form
-use Rattle.entry.specs.Form.{largestNumber, name, kindAt, bytesAt, lineText, textFrom, entryText}
+use Rattle.entry.specs.Form.{largestNumber, name, kindAt, bytesAt, lineText}
+use Rattle.entry.specs.Calls.{begun, given}
 use Rattle.entry.specs.Laws.{Portable}
-use Rattle.entry.proofs.Table.{EntryRows, name-is}
-use Rattle.entry.proofs.Forward.{text-snoc}
-
--- a field of so many bytes is what a part may hold
-field-allowed : (x : List ℕ) (least most : ℕ) → length x ≤ 256 → least ≤ length x → length x ≤ most
-    → (isField (fieldOf x) && (leb least (fieldOf x .size) && leb (fieldOf x .size) most)) ≡ true
-field-allowed x least most h l m = let f = field-is x h in rw (f .0, f .1, le-leb least (length x) l, le-leb (length x) most m)
+use Rattle.entry.proofs.Table.{rightAt, EntryRows, name-is}
 
 -- at most 256 bytes of data have few blocks
 few-blocks : (r n : ℕ) → n ≤ 256 → adBlocks r n ≤ 257
@@ -58,31 +55,19 @@ module _ (set number : ℕ) (known : isSet set ≡ true) (h : number ≤ largest
   -- ---- a line
 
   -- a line of bytes, at least and at most so many
-  record BytesLine (line least most : ℕ) (x : List ℕ) : Type 0 where
-    bytes : List ℕ
-    are : areBytes bytes ≡ true
-    at-least : least ≤ length bytes
-    at-most : length bytes ≤ most
-    whole : x ≡ lineOf (name number line) (hexIn Upper bytes)
+  abbrev LineOf : ℕ → ℕ → ℕ → List ℕ → Type 0
+  LineOf line least most x = BytesLine (name number line) least most Upper x
 
   -- a right line of bytes is one
-  bytes-line : (line least most : ℕ) (x : List ℕ) (says : ℕ) → form.valueKind (rowOf set .key) line ≡ Bytes least most Upper → Right (kindAt set number line) x says
-      → BytesLine line least most x
+  line-bytes : (line least most : ℕ) (x : List ℕ) (says : ℕ) → form.valueKind (rowOf set .key) line ≡ Bytes least most Upper → Right (kindAt set number line) x says
+      → LineOf line least most x
   unfolding kindAt
-  bytes-line line least most x says e right =
-      let s : Spells (Bytes least most Upper) says (right .value) = rw e at (right .spelled) in
-      record {
-        bytes = s .1;
-        are = s .2;
-        at-least = s .3;
-        at-most = s .4;
-        whole = right .whole ∙ (λ j. lineOf (name-is number h set line j) (s .5 j));
-      }
+  line-bytes line least most x says e right = bytes-line (kindAt set number line) (name number line) least most Upper (name-is number h set line) e right
 
   -- it is the line of a record that has its bytes there
-  line-of : {line least most : ℕ} {x : List ℕ} (l : BytesLine line least most x) (r : Record) → bytesAt line r ≡ l .bytes → x ≡ lineText number line r
+  line-of : (line : ℕ) {least most : ℕ} {x : List ℕ} (l : LineOf line least most x) (r : Record) → bytesAt line r ≡ l .bytes → x ≡ lineText number line r
   unfolding lineText
-  line-of {line} l r e = l .whole ∙ ap (λ (b : List ℕ). lineOf (name number line) (hexIn Upper b)) (sym e)
+  line-of line l r e = l .whole ∙ ap (λ (b : List ℕ). lineOf (name number line) (hexIn Upper b)) (sym e)
 
   -- a right line of nothing but its name
   name-line : (line : ℕ) (x : List ℕ) (says : ℕ) → form.valueKind (rowOf set .key) line ≡ Fixed 0 → Right (kindAt set number line) x says
@@ -94,8 +79,8 @@ module _ (set number : ℕ) (known : isSet set ≡ true) (h : number ≤ largest
 
   -- ---- the record of the lines Key, Nonce, PT, AD and CT
 
-  module _ {x2 x3 x4 x5 x6 : List ℕ} (key : BytesLine 2 (rowOf set .key) (rowOf set .key) x2) (nonce : BytesLine 3 (rowOf set .key) (rowOf set .key) x3)
-      (text : BytesLine 4 0 256 x4) (ad : BytesLine 5 0 256 x5) (ct : BytesLine 6 (rowOf set .key) (rowOf set .key + 256) x6) where
+  module _ {x2 x3 x4 x5 x6 : List ℕ} (key : LineOf 2 (rowOf set .key) (rowOf set .key) x2) (nonce : LineOf 3 (rowOf set .key) (rowOf set .key) x3)
+      (text : LineOf 4 0 256 x4) (ad : LineOf 5 0 256 x5) (ct : LineOf 6 (rowOf set .key) (rowOf set .key + 256) x6) where
     -- the ciphertext
     abbrev cipher : List ℕ
     cipher = take (length (ct .bytes) - rowOf set .key) (ct .bytes)
@@ -138,12 +123,12 @@ module _ (set number : ℕ) (known : isSet set ≡ true) (h : number ≤ largest
         let most = row-sizes set .key in
         rw (
           known,
-          field-allowed (key .bytes) (rowOf set .key) (rowOf set .key) (omega arith) (omega arith) (omega arith),
-          field-allowed (nonce .bytes) (rowOf set .key) (rowOf set .key) (omega arith) (omega arith) (omega arith),
-          field-allowed (ad .bytes) 0 256 (omega arith) (omega arith) (omega arith),
-          field-allowed (text .bytes) 0 256 (omega arith) (omega arith) (omega arith),
-          field-allowed cipher 0 256 cipher-few (omega arith) cipher-few,
-          field-allowed tag (rowOf set .key) (rowOf set .key) (omega (arith, tag-size)) (omega (arith, tag-size)) (omega (arith, tag-size)),
+          field-allowed (key .bytes) (rowOf set .key) (rowOf set .key) (omega arith) (key .at-least) (key .at-most),
+          field-allowed (nonce .bytes) (rowOf set .key) (rowOf set .key) (omega arith) (nonce .at-least) (nonce .at-most),
+          field-allowed (ad .bytes) 0 256 (omega arith) (ad .at-least) (ad .at-most),
+          field-allowed (text .bytes) 0 256 (omega arith) (text .at-least) (text .at-most),
+          field-allowed cipher 0 256 (omega arith) (omega arith) cipher-few,
+          field-allowed tag (rowOf set .key) (rowOf set .key) (omega arith) (omega (arith, tag-size)) (omega (arith, tag-size)),
           le-leb 0 rounds (omega arith),
           le-leb rounds 9_999_999 (few-rounds set (length (ad .bytes)) (length (text .bytes)) (ad .at-most) (text .at-most)),
         )
@@ -172,20 +157,9 @@ module _ (set number : ℕ) (known : isSet set ≡ true) (h : number ≤ largest
 
   -- ---- seven lines
 
-  -- one line more of a record's entry
-  one-more : (r : Record) (k : ℕ) (x : List ℕ) (e : Record) → (rows : EntryRows set number (suc k) x e) → rows .before ≡ textFrom number k 1 r
-      → rows .line ≡ lineText number (1 + k) r → x ≡ textFrom number (suc k) 1 r
-  one-more r k x e rows b l = rows .whole ∙ ap₂ (λ (y z : List ℕ). y ++ z) b l ∙ sym (text-snoc number k 1 (1 + k) r refl)
-
-  -- a text that is the entry of a record
-  pub record EntryOf (x : List ℕ) : Type 0 where
-    pub content : Record
-    pub portable : Portable set content
-    pub whole : x ≡ entryText number content
-
-  -- seven right lines are one
-  pub rows-entry : (x : List ℕ) (e : Record) → EntryRows set number 7 x e → EntryOf x
-  unfolding form.valueKind entryText lineText bytesAt
+  -- seven right lines are the entry of a record
+  pub rows-entry : (x : List ℕ) (e : Record) → EntryRows set number 7 x e → (r : Record) × Portable set r × (x ≡ textFrom (lineText number) 7 1 r)
+  unfolding form.valueKind lineText bytesAt
   rows-entry x e r7 =
       let r6 = r7 .rows in
       let r5 = r6 .rows in
@@ -193,20 +167,17 @@ module _ (set number : ℕ) (known : isSet set ≡ true) (h : number ≤ largest
       let r3 = r4 .rows in
       let r2 = r3 .rows in
       let r1 = r2 .rows in
-      let key = bytes-line 2 (rowOf set .key) (rowOf set .key) (r2 .line) (r2 .says) refl (r2 .right) in
-      let nonce = bytes-line 3 (rowOf set .key) (rowOf set .key) (r3 .line) (r3 .says) refl (r3 .right) in
-      let text = bytes-line 4 0 256 (r4 .line) (r4 .says) refl (r4 .right) in
-      let ad = bytes-line 5 0 256 (r5 .line) (r5 .says) refl (r5 .right) in
-      let ct = bytes-line 6 (rowOf set .key) (rowOf set .key + 256) (r6 .line) (r6 .says) refl (r6 .right) in
-      let c : Record = recordOf key nonce text ad ct in
-      let t1 = one-more c 0 _ _ r1 (r1 .rows .0) (name-line 1 (r1 .line) (r1 .says) refl (r1 .right)) in
-      let t2 = one-more c 1 _ _ r2 t1 (line-of key c (held-field (key .bytes))) in
-      let t3 = one-more c 2 _ _ r3 t2 (line-of nonce c (held-field (nonce .bytes))) in
-      let t4 = one-more c 3 _ _ r4 t3 (line-of text c (held-field (text .bytes))) in
-      let t5 = one-more c 4 _ _ r5 t4 (line-of ad c (held-field (ad .bytes))) in
-      let t6 = one-more c 5 _ _ r6 t5 (line-of ct c (cipher-tag key nonce text ad ct)) in
-      record {
-        content = c;
-        portable = lines-listed key nonce text ad ct;
-        whole = one-more c 6 x e r7 t6 (name-line 7 (r7 .line) (r7 .says) refl (r7 .right));
-      }
+      let key = line-bytes 2 (rowOf set .key) (rowOf set .key) (r2 .line) (r2 .says) refl (r2 .right) in
+      let nonce = line-bytes 3 (rowOf set .key) (rowOf set .key) (r3 .line) (r3 .says) refl (r3 .right) in
+      let text = line-bytes 4 0 256 (r4 .line) (r4 .says) refl (r4 .right) in
+      let ad = line-bytes 5 0 256 (r5 .line) (r5 .says) refl (r5 .right) in
+      let ct = line-bytes 6 (rowOf set .key) (rowOf set .key + 256) (r6 .line) (r6 .says) refl (r6 .right) in
+      let r : Record = recordOf key nonce text ad ct in
+      let one-more = rows-lines (rightAt set number) (given set number) (begun set) (lineText number) r in
+      let t1 = one-more 0 _ _ r1 (r1 .rows .0) (name-line 1 (r1 .line) (r1 .says) refl (r1 .right)) in
+      let t2 = one-more 1 _ _ r2 t1 (line-of 2 key r (held-field (key .bytes))) in
+      let t3 = one-more 2 _ _ r3 t2 (line-of 3 nonce r (held-field (nonce .bytes))) in
+      let t4 = one-more 3 _ _ r4 t3 (line-of 4 text r (held-field (text .bytes))) in
+      let t5 = one-more 4 _ _ r5 t4 (line-of 5 ad r (held-field (ad .bytes))) in
+      let t6 = one-more 5 _ _ r6 t5 (line-of 6 ct r (cipher-tag key nonce text ad ct)) in
+      (r, lines-listed key nonce text ad ct, one-more 6 x e r7 t6 (name-line 7 (r7 .line) (r7 .says) refl (r7 .right)))

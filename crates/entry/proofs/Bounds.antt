@@ -5,7 +5,7 @@ use mathlib.Core.List.{List, [], _∷_, _++_, append-nil}
 use Prim.Native.Nat.{ℕ, zero, suc, _+_, _-_, _*_, _≤_}
 use native.Mathlib.Omega.{arith}
 use lib.Dec.{eqb}
-use lib.ListN.{length, getD, length-append, length-take}
+use lib.ListN.{length, getD, length-append}
 use borrow.Author.Tests.{eqb-true, eqb-false}
 use Rattle.ascon.specs.Sets.{rowOf}
 use Rattle.sets.proofs.Rows.{row-sizes}
@@ -19,6 +19,7 @@ use Rattle.record.specs.declared.field.Field.{Field}
 use Rattle.record.specs.declared.form.Form.the-variants.{One}
 use Rattle.record.specs.declared.form.Record.{Record}
 use Rattle.record.specs.Form.{fieldOf, held, broken}
+use Rattle.record.proofs.Bounds.{field-digits}
 use Rattle.record.proofs.InForm.{InForm, in-form}
 use Rattle.entry.specs.Form.{largestNumber, name, bytesAt, lineText, entryText}
 use Rattle.entry.proofs.Table.{name-few}
@@ -61,10 +62,6 @@ line-length : (number line : ℕ) (r : Record) → length (lineText number line 
 unfolding lineText
 line-length number line r = length-line (name number line) (hexIn Upper (bytesAt line r))
 
--- a field has at most two digits for each byte that it says
-field-digits : (f : Field) → length (hexIn Upper (held f)) ≤ 2 * f .size
-field-digits f = omega (arith, length-hex Upper (held f), length-take (f .size) (f .bytes))
-
 module _ (r : Record) (e : broken One r ≡ 0) where
   -- the first field of a line says at most 256 bytes
   pub first-few : (line : ℕ) → firstAt line r .size ≤ 256
@@ -105,8 +102,8 @@ module _ (r : Record) (e : broken One r ≡ 0) where
         arith,
         two,
         length-append (hexIn Upper (held first)) (hexIn Upper (held second)),
-        field-digits first,
-        field-digits second,
+        field-digits Upper first,
+        field-digits Upper second,
         first-few line,
         second-few line,
       )
@@ -118,10 +115,10 @@ entry-most number h r e =
     let sizes = in-form One r e in
     let key = row-sizes (r .set) .key in
     let count : length (lineText number 1 r) ≤ 29 = omega (arith, line-length number 1 r, name-few number h 1) in
-    let keys : length (lineText number 2 r) ≤ 39 = omega (arith, line-length number 2 r, field-digits (r .key), sizes .key, key) in
-    let nonce : length (lineText number 3 r) ≤ 41 = omega (arith, line-length number 3 r, field-digits (r .nonce), sizes .nonce, key) in
-    let text : length (lineText number 4 r) ≤ 518 = omega (arith, line-length number 4 r, field-digits (r .text), sizes .text) in
-    let ad : length (lineText number 5 r) ≤ 518 = omega (arith, line-length number 5 r, field-digits (r .ad), sizes .ad) in
+    let keys : length (lineText number 2 r) ≤ 39 = omega (arith, line-length number 2 r, field-digits Upper (r .key), sizes .key, key) in
+    let nonce : length (lineText number 3 r) ≤ 41 = omega (arith, line-length number 3 r, field-digits Upper (r .nonce), sizes .nonce, key) in
+    let text : length (lineText number 4 r) ≤ 518 = omega (arith, line-length number 4 r, field-digits Upper (r .text), sizes .text) in
+    let ad : length (lineText number 5 r) ≤ 518 = omega (arith, line-length number 5 r, field-digits Upper (r .ad), sizes .ad) in
     let cipher : length (lineText number 6 r) ≤ 550 = omega (arith, line-length number 6 r, digits-few r e 6) in
     let none : length (lineText number 7 r) ≤ 1 = omega (arith, line-length number 7 r) in
     simp length-append (omega arith)

@@ -1,9 +1,9 @@
 -- The entry of a record is read as this record.
-use mathlib.Core.Path.{_≡_, refl, sym, ap, _∙_}
+use mathlib.Core.Path.{_≡_, refl, sym, ap, _∙_, subst}
 use mathlib.Core.Bool.{true}
 use mathlib.Core.Logic.{inr}
-use mathlib.Core.List.{List, _++_, append-nil, append-assoc}
-use Prim.Native.Nat.{ℕ, zero, suc, _+_, _-_, _*_, _≤_}
+use mathlib.Core.List.{List, _++_}
+use Prim.Native.Nat.{ℕ, zero, suc, _+_, _-_, _*_, _≤_, _<_}
 use native.Mathlib.Omega.{arith}
 use lib.Dec.{eqb}
 use lib.ListN.{length, take, drop, length-append}
@@ -17,6 +17,8 @@ use Rattle.digits.specs.Room.{lineOf}
 use Rattle.digits.proofs.Spelling.{and-both, length-hex, hex-append}
 use Rattle.lines.specs.declared.kinds.Value.the-variants.{Bytes}
 use Rattle.lines.specs.Right.{Spells, Right}
+use Rattle.lines.specs.Texts.{textFrom}
+use Rattle.lines.proofs.Texts.{Next, lines-rows}
 use Rattle.lines.proofs.Values.{value-in}
 use Rattle.record.specs.declared.form.Form.the-variants.{One}
 use Rattle.record.specs.declared.form.Record.{Record}
@@ -26,9 +28,9 @@ use Rattle.record.proofs.Fields.{bytes-append, bytes-take, held-most, held-leng
 use Rattle.record.proofs.Lines.{field-spells, field-read}
 use Rattle.record.proofs.InForm.{Shared, shared-keeps, in-form}
 use Rattle.entry.specs.Form as form
-use Rattle.entry.specs.Form.{largestNumber, kindAt, bytesAt, lineText, textFrom}
+use Rattle.entry.specs.Form.{largestNumber, kindAt, bytesAt, lineText}
 use Rattle.entry.specs.Calls.{fieldIn, withLine, begun, rounded, given}
-use Rattle.entry.proofs.Table.{EntryRows, name-is, fit-kind}
+use Rattle.entry.proofs.Table.{rightAt, EntryRows, name-is, fit-kind}
 
 -- what holds of the lines 1 to 7, one by one, holds of each
 each-line : (P : ℕ → Type 0) → P 1 → P 2 → P 3 → P 4 → P 5 → P 6 → P 7 → (line : ℕ) → 1 ≤ line → line ≤ 7 → P line
@@ -42,25 +44,10 @@ each-line P a b c d e f g (suc (suc (suc (suc (suc (suc zero)))))) l m = f
 each-line P a b c d e f g (suc (suc (suc (suc (suc (suc (suc zero))))))) l m = g
 each-line P a b c d e f g (suc (suc (suc (suc (suc (suc (suc (suc n)))))))) l m = absurd (omega arith)
 
--- more lines stand behind the others
-pub text-append : (number k more line n : ℕ) (r : Record) → line + k ≡ n → textFrom number (k + more) line r ≡ textFrom number k line r ++ textFrom number more n r
-text-append number zero more line n r e =
-    let p : line ≡ n = omega arith in
-    let none : 0 + more ≡ more = omega arith in
-    rw (none, p)
-text-append number (suc k) more line n r e =
-    let next : suc k + more ≡ suc (k + more) = omega arith in
-    rw next
-    (ap (λ (t : List ℕ). lineText number line r ++ t) (text-append number k more (line + 1) n r (omega arith))
-    ∙ sym (append-assoc (lineText number line r) (textFrom number k (line + 1) r) (textFrom number more n r)))
-
--- one line more does
-pub text-snoc : (number k line n : ℕ) (r : Record) → line + k ≡ n → textFrom number (suc k) line r ≡ textFrom number k line r ++ lineText number n r
-text-snoc number k line n r e =
-    let one : suc k ≡ k + 1 = omega arith in
-    ap (λ (m : ℕ). textFrom number m line r) one
-    ∙ text-append number k 1 line n r e
-    ∙ ap (λ (t : List ℕ). textFrom number k line r ++ t) (append-nil (lineText number n r))
+-- the record of the set with the first k lines of an entry
+abbrev pub filled : Record → ℕ → Record
+filled r zero = begun (r .set)
+filled r (suc k) = withLine (1 + k) (filled r k) (hexIn Upper (bytesAt (1 + k) r))
 
 module _ (r : Record) (s : Spellable One r) where
   -- each part keeps its rule
@@ -105,11 +92,6 @@ module _ (r : Record) (s : Spellable One r) where
       cipher-tag
       (refl, refl)
 
-  -- the record of the set with the first k lines of the entry
-  abbrev pub filled : ℕ → Record
-  filled zero = begun (r .set)
-  filled (suc k) = withLine (1 + k) (filled k) (hexIn Upper (bytesAt (1 + k) r))
-
   -- the ciphertext's digits are those before the tag's
   cut : length (hexIn Upper (held (r .cipher) ++ held (r .tag))) - 2 * rowOf (r .set) .key ≡ length (hexIn Upper (held (r .cipher)))
   cut =
@@ -118,7 +100,7 @@ module _ (r : Record) (s : Spellable One r) where
       omega (arith, length-hex Upper (c ++ t), length-hex Upper c, length-append c t, tag-size)
 
   -- all lines give the record, but for its rounds
-  pub filled-all : rounded (filled 7) ≡ rounded r
+  pub filled-all : rounded (filled r 7) ≡ rounded r
   unfolding keeps valueKind withLine begun rounded bytesAt
   filled-all =
       let parts = hex-append Upper (held (r .cipher)) (held (r .tag)) in
@@ -158,20 +140,17 @@ module _ (r : Record) (s : Spellable One r) where
         whole = ap (λ (x : List ℕ). lineOf x (hexIn Upper (bytesAt line r))) (sym (name-is number h (r .set) line));
       }
 
-  -- the first k lines of the entry are right, and give the record so far
-  pub rows-text : (number : ℕ) → number ≤ largestNumber → (k : ℕ) → k ≤ 7 → EntryRows (r .set) number k (textFrom number k 1 r) (filled k)
+  -- behind the first k lines the next is right, and they give the record with it
+  next : (number : ℕ) → number ≤ largestNumber → (k : ℕ) → k < 7
+      → Next (rightAt (r .set) number) (given (r .set) number) (begun (r .set)) (lineText number) r (filled r) k
   unfolding given line-right
-  rows-text number h zero m = (refl, refl)
-  rows-text number h (suc k) m =
-      let kind = kindAt (r .set) number (1 + k) in
+  next number h k few =
       let right = line-right number h (1 + k) (omega arith) (omega arith) in
-      record {
-        before = textFrom number k 1 r;
-        gave = filled k;
-        rows = rows-text number h k (omega arith);
-        line = lineText number (1 + k) r;
-        says = 0;
-        right = right;
-        whole = text-snoc number k 1 (1 + k) r refl;
-        gives = ap (withLine (1 + k) (filled k)) (sym (value-in kind (lineText number (1 + k) r) 0 (fit-kind number h (r .set) (1 + k)) right));
-      }
+      let value = value-in (kindAt (r .set) number (1 + k)) (lineText number (1 + k) r) 0 (fit-kind number h (r .set) (1 + k)) right in
+      record { says = 0; right = right; gives = ap (withLine (1 + k) (filled r k)) (sym value) }
+
+  -- the first k lines of the entry are right in the record's set, and give the record so far
+  pub rows-text : (set number : ℕ) → r .set ≡ set → number ≤ largestNumber → (k : ℕ) → k ≤ 7 → EntryRows set number k (textFrom (lineText number) k 1 r) (filled r k)
+  rows-text set number e h k m =
+      subst (λ (n : ℕ). EntryRows n number k (textFrom (lineText number) k 1 r) (filled r k)) e
+      (lines-rows (rightAt (r .set) number) (given (r .set) number) (begun (r .set)) (lineText number) r 7 (filled r) refl (next number h) k m)

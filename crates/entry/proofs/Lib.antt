@@ -3,5 +3,4 @@ pub mod Table
 pub mod Bounds
 pub mod Forward
 pub mod Backward
-pub mod Right
 pub mod Laws

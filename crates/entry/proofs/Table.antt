@@ -15,11 +15,11 @@ use Rattle.digits.proofs.Numerals.{places-least, length-numeral}
 use Rattle.digits.proofs.Spelling.{and-both}
 use Rattle.lines.specs.declared.kinds.Value.the-variants.{Fixed, Bytes}
 use Rattle.lines.specs.declared.walk.Found.{Found}
-use Rattle.lines.specs.Right.{nameOf, named, Right}
-use Rattle.lines.specs.Laws.{fits, plain, Fit, FoundIn}
+use Rattle.lines.specs.Right.{nameOf, Right, Lines}
+use Rattle.lines.specs.Laws.{fits, plain, Fit, FoundIn, OneFeed}
 use Rattle.lines.proofs.Rows.{Rows}
 use Rattle.lines.proofs.Laws.{reads-lines, some-line}
-use Rattle.lines.proofs.Names.{named-holds}
+use Rattle.lines.proofs.Names.{named-is, named-fit}
 use Rattle.record.specs.declared.form.Record.{Record}
 use Rattle.entry.specs.Form.{largestNumber, name, valueKind, kindAt}
 use Rattle.entry.specs.Calls.{begun, readAt, given}
@@ -86,7 +86,7 @@ module _ (number : ℕ) (h : number ≤ largestNumber) where
   -- the name of a line's kind is the line's
   pub name-is : (set line : ℕ) → nameOf (kindAt set number line) ≡ name number line
   unfolding kindAt
-  name-is set line = named-holds (name number line) (omega (arith, name-few line)) _ refl .text-is
+  name-is set line = named-is (name number line) (omega (arith, name-few line)) (valueKind (rowOf set .key) line)
 
   -- what a line may hold fits
   value-fits : (key line : ℕ) → fits (valueKind key line) ≡ true
@@ -107,8 +107,7 @@ module _ (number : ℕ) (h : number ≤ largestNumber) where
   pub fit-kind : (set line : ℕ) → Fit (kindAt set number line)
   unfolding kindAt
   fit-kind set line =
-      let held = named-holds (name number line) (omega (arith, name-few line)) _ refl in
-      record { named = held .inside; plainly = rw (held .text-is) (is-name line .plainly); valued = value-fits (rowOf set .key) line }
+      named-fit (name number line) (omega (arith, name-few line)) (valueKind (rowOf set .key) line) (is-name line .plainly) (value-fits (rowOf set .key) line)
 
   -- ---- readings
 
@@ -123,3 +122,7 @@ module _ (number : ℕ) (h : number ≤ largestNumber) where
   -- each line can be right
   pub some : (set line : ℕ) (r : Record) → (text : List ℕ) × (says : ℕ) × rightAt set number line r text says
   some set line r = some-line (kindAt set number line) (fit-kind set line)
+
+  -- right lines end with their one line feed
+  pub one-feed : (set line : ℕ) (r : Record) → OneFeed (Lines (rightAt set number line r))
+  one-feed set line r = reads-lines .one-feed (kindAt set number line) (fit-kind set line)

@@ -1,6 +1,6 @@
 -- The entry of a published test file, line by line: Count, Key, Nonce, PT, AD, CT, and an empty line.
 use mathlib.Core.List.{List, [], _∷_, _++_}
-use Prim.Native.Nat.{ℕ, zero, suc, _+_, _-_}
+use Prim.Native.Nat.{ℕ, _+_, _-_}
 use lib.ListN.{getD}
 use Rattle.ascon.specs.Sets.{rowOf}
 use Rattle.ascon.specs.Rounds.{messageRounds}
@@ -13,6 +13,7 @@ use Rattle.lines.specs.declared.kinds.Kind.{Kind}
 use Rattle.lines.specs.declared.kinds.Value.{Value}
 use Rattle.lines.specs.declared.kinds.Value.the-variants.{Fixed, Bytes}
 use Rattle.lines.specs.Right.{named}
+use Rattle.lines.specs.Texts.{textFrom}
 use Rattle.record.specs.declared.form.Record.{Record}
 use Rattle.record.specs.Form.{held}
 
@@ -46,14 +47,9 @@ bytesAt line r = getD ([] ∷ held (r .key) ∷ held (r .nonce) ∷ held (r .tex
 unfoldable pub lineText : ℕ → ℕ → Record → List ℕ
 lineText number line r = lineOf (name number line) (hexIn Upper (bytesAt line r))
 
--- `count` lines, from a line on, each straight after the one before
-abbrev pub textFrom : ℕ → ℕ → ℕ → Record → List ℕ
-textFrom number zero line r = []
-textFrom number (suc count) line r = lineText number line r ++ textFrom number count (line + 1) r
-
--- the entry of a record, by its number
+-- the entry of a record, by its number: seven lines, each straight after the one before
 unfoldable pub entryText : ℕ → Record → List ℕ
-entryText number r = textFrom number 7 1 r
+entryText number r = textFrom (lineText number) 7 1 r
 
 -- ---- the rounds
 

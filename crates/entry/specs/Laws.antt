@@ -3,16 +3,17 @@ use mathlib.Core.Bool.{true, false}
 use mathlib.Core.List.{List, _++_}
 use mathlib.Core.Logic.{_↔_, _⊎_}
 use mathlib.Core.Path.{_≡_}
-use Prim.Native.Nat.{ℕ, _+_, _-_, _≤_}
+use Prim.Native.Nat.{ℕ, _+_, _≤_}
 use lib.ListN.{length, take, drop}
 use Rattle.answers.specs.declared.Answer.the-variants.{Done, BrokenRecord}
 use Rattle.ascon.specs.Sets.{isSet}
-use Rattle.lines.specs.Column.{LeavesAt, lineAt}
+use Rattle.lines.specs.Column.{lineAt}
+use Rattle.lines.specs.Texts as texts
 use Rattle.record.specs.declared.form.Form.the-variants.{One}
 use Rattle.record.specs.declared.form.Record.{Record}
 use Rattle.record.specs.Calls.{refusedAt, readAs, writeLeaves}
 use Rattle.record.specs.Laws.{Typed, Spellable}
-use Rattle.entry.specs.Form.{largestNumber, textFrom, entryText, rightRounds}
+use Rattle.entry.specs.Form.{largestNumber, lineText, entryText, rightRounds}
 use Rattle.entry.specs.Calls.{rounded, unknown, readEntry, writeEntry}
 
 -- a record that an entry can stand for: in form 1, of the set, with the round count of the formula
@@ -22,28 +23,12 @@ pub record Portable (set : ℕ) (r : Record) : Type 0 where
   pub right-rounds : r .rounds ≡ rightRounds r
 
 -- a text begins with the entry of such a record
-pub record Begun (set number : ℕ) (text : List ℕ) : Type 0 where
-  pub content : Record
-  pub portable : Portable set content
-  pub rest : List ℕ
-  pub parts : text ≡ entryText number content ++ rest
+abbrev pub Begun : ℕ → ℕ → List ℕ → Type 0
+Begun set number text = texts.Begun (Portable set) (entryText number) text
 
--- a text is the first lines, `count` of them, of the entry of such a record
-pub record FirstLines (set number count : ℕ) (text : List ℕ) : Type 0 where
-  pub content : Record
-  pub portable : Portable set content
-  pub lines : textFrom number count 1 content ≡ text
-
--- a text is wrong at a line and column: the lines before it are the first lines of an entry, and behind them the text leaves the right lines at the column. A line is
--- right there where it and the lines before it are the first lines of some entry
-pub record WrongAt (set number : ℕ) (text : List ℕ) (line column : ℕ) : Type 0 where
-  pub first : 1 ≤ line
-  pub last : line ≤ 7
-  pub before : List ℕ
-  pub rest : List ℕ
-  pub parts : before ++ rest ≡ text
-  pub right : FirstLines set number (line - 1) before
-  pub wrong : LeavesAt (λ next. FirstLines set number line (before ++ next)) rest column
+-- a text is wrong at a line and column of the entry of such a record
+abbrev pub WrongAt : ℕ → ℕ → List ℕ → ℕ → ℕ → Type 0
+WrongAt set number text line column = texts.WrongAt (Portable set) (lineText number) 7 text line column
 
 -- the most bytes of an entry, whose number has 64 bits
 abbrev pub mostBytes : ℕ

@@ -1,6 +1,9 @@
 // The first difference of a wanted and a found text.
 ghost use mathlib.Core.Path.{_≡_};
-ghost use Rattle.judge.specs.Difference.{firstDifference, differenceOf, partOf, differencePart, comparisonOf, comparison};
+ghost use Prim.Native.Nat.{min};
+ghost use Rattle.record.specs.Form.{held};
+ghost use Rattle.judge.specs.Difference.{firstDifference, differ, differenceOf, partOf, differencePart, comparisonOf, comparison};
+use record::Field;
 
 // What is told of two texts.
 pub enum Difference {
@@ -62,5 +65,29 @@ pub fn compare<'a>(wanted: &[u8], found: &'a [u8]) -> Comparison<'a>
     Comparison {
         difference: first_difference(wanted, found),
         part: difference_tail(wanted, found),
+    }
+}
+
+// How many bytes a field holds: as many as it says, and no more than it has places.
+fn held_size(field: Field) -> usize
+    ensures { λ r. ⌜ r ≡ min (field .size) 256 ⌝ }
+{
+    if field.size < 256 {
+        return field.size;
+    }
+    256
+}
+
+// Whether the bytes that two fields hold differ.
+pub fn fields_differ(wanted: Field, found: Field) -> bool
+    ensures { λ r. ⌜ r ≡ differ (held wanted) (held found) ⌝ }
+{
+    let ours = wanted.bytes;
+    let n = held_size(wanted);
+    let theirs = found.bytes;
+    let m = held_size(found);
+    match first_difference(&ours[..n], &theirs[..m]) {
+        Difference::Same => false,
+        Difference::At(_) => true,
     }
 }

@@ -7,6 +7,7 @@ pub use difference::Comparison;
 pub use difference::Difference;
 pub use difference::compare;
 pub use difference::difference_tail;
+pub use difference::fields_differ;
 pub use difference::first_difference;
 pub use stepping::Step;
 pub use stepping::judge_window;

@@ -5,10 +5,8 @@ ghost use Prim.Native.Nat.{_≤_};
 ghost use Rattle.ascon.specs.Sets.{isSet, rowOf};
 ghost use Rattle.record.specs.declared.form.Form.the-variants.{One};
 ghost use Rattle.record.specs.Form.{held, broken};
-ghost use Rattle.judge.specs.Difference.{differ};
 ghost use Rattle.judge.specs.Verdicts.{verdictOn, oursOf, oursBy};
 use crate::difference;
-use crate::difference::Difference;
 use record::Field;
 use record::Form;
 use record::Record;
@@ -21,22 +19,6 @@ pub struct Ours {
     pub tag: Field,
 }
 
-// Whether the bytes that two fields hold differ.
-fn fields_differ(wanted: Field, found: Field) -> bool
-    requires { ⌜ wanted .size ≤ 256 ⌝ }
-    requires { ⌜ found .size ≤ 256 ⌝ }
-    ensures { λ r. ⌜ r ≡ differ (held wanted) (held found) ⌝ }
-{
-    let ours = wanted.bytes;
-    let n = wanted.size;
-    let theirs = found.bytes;
-    let m = found.size;
-    match difference::first_difference(&ours[..n], &theirs[..m]) {
-        Difference::Same => false,
-        Difference::At(_) => true,
-    }
-}
-
 // Our own sealing of a text, through the promise of whole messages.
 fn seal_fields(set: u64, key: Field, nonce: Field, ad: Field, text: Field) -> Ours
     requires { ⌜ isSet set ≡ true ⌝ }
@@ -45,8 +27,6 @@ fn seal_fields(set: u64, key: Field, nonce: Field, ad: Field, text: Field) -> Ou
     requires { ⌜ ad .size ≤ 256 ⌝ }
     requires { ⌜ text .size ≤ 256 ⌝ }
     ensures { λ r. ⌜ r ≡ oursBy set (held key) (held nonce) (held ad) (held text) ⌝ }
-    ensures { λ r. ⌜ r .cipher .size ≤ 256 ⌝ }
-    ensures { λ r. ⌜ r .tag .size ≤ 256 ⌝ }
 {
     let k = key.bytes;
     let n = nonce.bytes;
@@ -84,8 +64,6 @@ fn seal_fields(set: u64, key: Field, nonce: Field, ad: Field, text: Field) -> Ou
 fn seal_record(entry: Record) -> Ours
     requires { ⌜ broken One entry ≡ 0 ⌝ }
     ensures { λ r. ⌜ r ≡ oursOf entry ⌝ }
-    ensures { λ r. ⌜ r .cipher .size ≤ 256 ⌝ }
-    ensures { λ r. ⌜ r .tag .size ≤ 256 ⌝ }
 {
     let key = entry.key;
     let nonce = entry.nonce;
@@ -111,12 +89,12 @@ pub fn judge(entry: Record) -> Verdict
     }
     let wanted = ours.cipher;
     let found = entry.cipher;
-    if fields_differ(wanted, found) {
+    if difference::fields_differ(wanted, found) {
         return Verdict::Cipher;
     }
     let wanted = ours.tag;
     let found = entry.tag;
-    if fields_differ(wanted, found) {
+    if difference::fields_differ(wanted, found) {
         return Verdict::Tag;
     }
     Verdict::Equal

@@ -12,6 +12,7 @@ use Rattle.answers.specs.declared.Answer.the-variants.{Done, NoRoom}
 use Rattle.answers.specs.Numbers.{numberOf, isDone}
 use Rattle.answers.specs.Order.{first, _when_}
 use Rattle.record.specs.declared.form.Record.{Record}
+use Rattle.record.specs.Form.{held}
 use Rattle.record.specs.Calls.{readAny}
 use Rattle.report.specs.declared.Verdict.{Verdict}
 use Rattle.report.specs.declared.Verdict.the-variants.{Equal}
@@ -20,7 +21,7 @@ use Rattle.judge.specs.declared.stepping.Step.{Step}
 use Rattle.judge.specs.declared.stepping.Step.the-variants.{Judged, Stopped, Wait, End, Short}
 use Rattle.judge.specs.Verdicts.{differences, verdictOn}
 use Rattle.judge.specs.Steps.{verdictRead, isFinal, writtenBy, stepChoices, stepBy, stepCall}
-use Rattle.judge.proofs.Differences.{told-same, told-at}
+use Rattle.judge.proofs.Differences.{tells, told-same, told-at}
 use Rattle.judge.proofs.Laws.{judges}
 use Rattle.report.proofs as report
 use Rattle.judge.proofs as judge
@@ -35,6 +36,7 @@ pub is-ours : (m : Model) → Keeps m → m ≡ ours
 is-ours m k =
     λ j. record {
       difference = λ wanted found. k .difference (lent wanted) (lent found) (lifetimes 2) j;
+      differ = λ wanted found. k .differ wanted found tt j;
       judge = λ entry. k .judge entry tt j;
       report = λ number verdict out. k .report number verdict (lent out) (lifetimes 1) j;
       step = λ window over number out. k .step (lent window) over number (lent out) (lifetimes 2) j;
@@ -45,6 +47,7 @@ pub keeps : Keeps ours
 keeps =
     record {
       difference = λ wanted found κ. refl;
+      differ = λ wanted found κ. refl;
       judge = λ entry κ. refl;
       report = λ number verdict out κ. refl;
       step = λ window over number out κ. refl;
@@ -59,6 +62,7 @@ every-call =
       judge-difference-tail = answered (λ M. judge.difference_tail.Met.met) (λ κ a. tt) (λ κ a r e p. p);
       judge-compare = answered (λ M. judge.compare.Met.met) (λ κ a. tt) (λ κ a r e p. p);
       judge-compare-read = λ κs wanted found r e. refl;
+      judge-fields-differ = answered (λ M. judge.fields_differ.Met.met) (λ κ a. tt) (λ κ a r e p. p);
       judge-judge = answered (λ M. judge.judge.Met.met) (λ κ a. tt) (λ κ a r e p. p);
       judge-judge-window = answered (λ M. judge.judge_window.Met.met) (λ κ a. tt) (λ κ a r e p. p);
     }
@@ -119,6 +123,7 @@ listed =
       equal = judges .equal;
       same = told-same;
       at = told-at;
+      alike = λ wanted found. tells (held wanted) (held found) .same;
       report = λ number verdict out. report-said number verdict out .is;
       step = step-said;
     }

@@ -20,6 +20,8 @@ use Rattle.entry.proofs.Laws.{entries}
 use Rattle.moving.proofs.Laws.{moves}
 use Rattle.moving.proofs.Published.{published}
 use Rattle.judge.proofs.Laws.{judges}
+use Rattle.log.proofs.Laws.{reads-log}
+use Rattle.replay.proofs.Laws.{replays}
 use Rattle.turns.proofs.Runs.{whole-reports}
 use Rattle.letter.specs.Model.{Reported}
 use Rattle.letter.specs.Letter.{Letter}
@@ -57,6 +59,8 @@ letter =
       known-movings = moving-crate.known;
       known-records = record-crate.known;
       judging = judges;
+      log = reads-log;
+      replays = replays;
       program = whole-reports;
       worthless = worthless;
     }

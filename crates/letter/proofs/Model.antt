@@ -8,6 +8,7 @@ use Rattle.letter.proofs.Records as records
 use Rattle.letter.proofs.Entries as entries
 use Rattle.letter.proofs.Moving as moving
 use Rattle.letter.proofs.Judging as judging
+use Rattle.letter.proofs.Replays as replays
 
 -- ---- the calls
 
@@ -21,6 +22,7 @@ is-ours m k =
       entries = entries.is-ours (m .entries) (k .entries) j;
       moving = moving.is-ours (m .moving) (k .moving) j;
       judging = judging.is-ours (m .judging) (k .judging) j;
+      replays = replays.is-ours (m .replays) (k .replays) j;
     }
 
 -- what holds of ours holds of each model that keeps the contracts
@@ -29,21 +31,21 @@ of-kept Says s m k = subst Says (sym (is-ours m k)) s
 
 -- ours keeps them
 pub keeps : Keeps ours
-keeps = record { messages = messages.keeps; streams = streams.keeps; records = records.keeps; entries = entries.keeps; moving = moving.keeps; judging = judging.keeps }
+keeps = record { messages = messages.keeps; streams = streams.keeps; records = records.keeps; entries = entries.keeps; moving = moving.keeps; judging = judging.keeps; replays = replays.keeps }
 
 -- ---- what is said of them
 
 -- every public call is answered
 pub every-call : EveryCall
-every-call = record { engine = engine.every-call; messages = messages.every-call; streams = streams.every-call; records = records.every-call; entries = entries.every-call; moving = moving.every-call; judging = judging.every-call }
+every-call = record { engine = engine.every-call; messages = messages.every-call; streams = streams.every-call; records = records.every-call; entries = entries.every-call; moving = moving.every-call; judging = judging.every-call; replays = replays.every-call }
 
 -- each answer is listed
 pub listed : Listed ours
-listed = record { messages = messages.listed; streams = streams.listed; records = records.listed; entries = entries.listed; moving = moving.listed; judging = judging.listed }
+listed = record { messages = messages.listed; streams = streams.listed; records = records.listed; entries = entries.listed; moving = moving.listed; judging = judging.listed; replays = replays.listed }
 
 -- each refusal changes nothing
 pub unchanged : Unchanged ours
-unchanged = record { messages = messages.unchanged; streams = streams.unchanged; records = records.unchanged; entries = entries.unchanged; moving = moving.unchanged; judging = judging.unchanged }
+unchanged = record { messages = messages.unchanged; streams = streams.unchanged; records = records.unchanged; entries = entries.unchanged; moving = moving.unchanged; judging = judging.unchanged; replays = replays.unchanged }
 
 -- save one
 pub mismatch : Mismatch ours

@@ -1,6 +1,6 @@
 -- The first difference of two texts, the verdict on a record, its report and the step of the bench: all that is said of their calls.
 use mathlib.Core.Path.{_≡_, refl}
-use mathlib.Core.Bool.{Bool}
+use mathlib.Core.Bool.{Bool, false}
 use mathlib.Core.List.{List, _++_}
 use mathlib.Core.Logic.{_↔_, _⊎_}
 use Prim.Native.Nat.{ℕ}
@@ -11,8 +11,10 @@ use borrow.Fn.Claims.{AllOf}
 use borrow.Fn.Read.{all-models, no-know, r-top, r-last}
 use Rattle.answers.specs.declared.Answer.the-variants.{Done}
 use Rattle.answers.specs.Order.{first}
+use Rattle.record.specs.declared.field.Field.{Field}
 use Rattle.record.specs.declared.form.Record.{Record}
 use Rattle.record.specs.declared.reading.Reading.{Reading}
+use Rattle.record.specs.Form.{held}
 use Rattle.report.specs.declared.Verdict.{Verdict}
 use Rattle.report.specs.declared.Verdict.the-variants.{Equal}
 use Rattle.report.specs.Reports.{reportText, ReportLeaves, reportLeaves, reportFaults, reportCall}
@@ -20,7 +22,7 @@ use Rattle.judge.specs.declared.stepping.Step.the-variants.{Judged, Wait, End, 
 use Rattle.judge.specs.declared.difference.Comparison.{Comparison}
 use Rattle.judge.specs.declared.difference.Difference.{Difference}
 use Rattle.judge.specs.declared.difference.Difference.the-variants.{Same, At}
-use Rattle.judge.specs.Difference.{differenceOf, partOf, differencePart, comparisonOf, comparison}
+use Rattle.judge.specs.Difference.{differ, differenceOf, partOf, differencePart, comparisonOf, comparison}
 use Rattle.judge.specs.Laws.{Agrees, DiffersFirstAt}
 use Rattle.judge.specs.Verdicts.{verdictOn, differences}
 use Rattle.judge.specs.Steps.{verdictRead, StepLeaves, stepLeaves, stepChoices, stepCall}
@@ -33,17 +35,19 @@ use Rattle.letter.specs.Calls.{Answered, Lent, holding, Leaves, Gives, R
 -- what each answers, and what it leaves in a lent place, on any input
 pub record Model : Type 0 where
   pub difference : List ℕ → List ℕ → Difference
+  pub differ : Field → Field → Bool
   pub judge : Record → Verdict
   pub report : ℕ → Verdict → List ℕ → ReportLeaves
   pub step : List ℕ → Bool → ℕ → List ℕ → StepLeaves
 
 -- our own, by the definitions that the contracts cite
 abbrev pub ours : Model
-ours = record { difference = differenceOf; judge = verdictOn; report = reportCall; step = stepCall }
+ours = record { difference = differenceOf; differ = λ wanted found. differ (held wanted) (held found); judge = verdictOn; report = reportCall; step = stepCall }
 
 -- each gives what the contract of the code allows
 pub record Keeps (m : Model) : Type 0 where
   pub difference : (wanted found : Lent) → Gives judge-crate.first_difference.Reads.Learnt (wanted, (found, tt)) (m .difference (wanted .now) (found .now))
+  pub differ : (wanted found : Field) → Gives judge-crate.fields_differ.Reads.Learnt (wanted, (found, tt)) (m .differ wanted found)
   pub judge : (entry : Record) → Gives judge-crate.judge.Reads.Learnt (entry, tt) (m .judge entry)
   pub report : (number : ℕ) (verdict : Verdict) (out : Lent) → let leaves = m .report number verdict (out .now) in
       Leaves report-crate.report.Reads.Learnt (number, (verdict, (out, tt))) (leaves .outcome) (number, (verdict, (holding out (leaves .out), tt)))
@@ -75,6 +79,8 @@ pub record EveryCall : Type 2 where
   -- what is read off the contract of `compare` is its equation, no more and no less
   pub judge-compare-read : (κs : Lfts 2) (wanted found : Lent) (r : Comparison) (e : Lent × (Lent × Unit {0}))
       → compareLearnt κs (wanted, (found, tt)) r e ≡ (comparisonOf r ≡ comparison (wanted .now) found)
+  pub judge-fields-differ : Answered judge-crate.fields_differ.Statement.statement judge-crate.fields_differ.Reads.Asked judge-crate.fields_differ.Reads.Learnt
+      (λ r e. r) (λ (wanted, (found, _)). differ (held wanted) (held found))
   pub judge-judge : Answered judge-crate.judge.Statement.statement judge-crate.judge.Reads.Asked judge-crate.judge.Reads.Learnt (λ r e. r) (λ (entry, _). verdictOn entry)
   pub judge-judge-window : Answered judge-crate.judge_window.Statement.statement judge-crate.judge_window.Reads.Asked judge-crate.judge_window.Reads.Learnt
       (λ r (window, (over, (number, (out, _)))). stepLeaves r (out .now)) (λ (window, (over, (number, (out, _)))). stepCall (window .now) over number (out .now))
@@ -89,6 +95,8 @@ pub record Listed (read : List ℕ → Reading) (m : Model) : Type 0 where
   -- two texts are the same exactly where they are one list, and it is `At` a place exactly where they differ first there
   pub same : (wanted found : List ℕ) → (m .difference wanted found ≡ Same) ↔ (wanted ≡ found)
   pub at : (wanted found : List ℕ) (place : ℕ) → (m .difference wanted found ≡ At place) ↔ DiffersFirstAt wanted found place
+  -- two fields do not differ exactly where they hold the same bytes, as many and each the same
+  pub alike : (wanted found : Field) → (m .differ wanted found ≡ false) ↔ (held wanted ≡ held found)
   pub report : (number : ℕ) (verdict : Verdict) (out : List ℕ)
       → m .report number verdict out .outcome .answer ≡ first Done (reportFaults number verdict (length out))
   pub step : (window : List ℕ) (over : Bool) (number : ℕ) (out : List ℕ) → let reading = read window in

@@ -20,6 +20,8 @@ use Rattle.entry.specs.Laws.{Entries}
 use Rattle.moving.specs.declared.route.Route.{Route}
 use Rattle.moving.specs.Laws.{Moves, Published}
 use Rattle.judge.specs.Laws.{Judges}
+use Rattle.log.specs.Laws.{ReadsLog}
+use Rattle.replay.specs.Laws.{Replays}
 use Rattle.turns.specs.Laws.{WholeReports}
 use Rattle.letter.specs.Model.{Model, ours, Keeps, Reported}
 use Rattle.letter.specs.First.{First}
@@ -70,6 +72,11 @@ pub record Letter : Type 2 where
   pub known-records : record-crate.Known
   -- verdicts and reports: equal exactly where rounds, cipher and tag are ours, what the first difference of two texts is, and the report of an input, record by record
   pub judging : Judges
+  -- entries of a chip's log: what an entry in form reads as, the line and column at which a text is wrong, and what decides a reading
+  pub log : ReadsLog
+  -- replaying a log: all agree exactly where the log is the one that our own stream would write, an entry is named exactly where it is the first that is broken or
+  -- differs, and it does not matter in which windows the log comes
+  pub replays : Replays
   -- the bench's program: it says its end only where all of its report is written, and there if no call fails
   pub program : WholeReports
   -- what the demands shut out

@@ -7,6 +7,7 @@ pub mod Records
 pub mod Entries
 pub mod Moving
 pub mod Judging
+pub mod Replays
 pub mod Model
 pub mod First
 pub mod Second

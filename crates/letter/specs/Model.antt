@@ -8,6 +8,7 @@ use Rattle.letter.specs.Records as records
 use Rattle.letter.specs.Entries as entries
 use Rattle.letter.specs.Moving as moving
 use Rattle.letter.specs.Judging as judging
+use Rattle.letter.specs.Replays as replays
 
 -- ---- the calls
 
@@ -19,10 +20,11 @@ pub record Model : Type 0 where
   pub entries : entries.Model
   pub moving : moving.Model
   pub judging : judging.Model
+  pub replays : replays.Model
 
 -- our own
 abbrev pub ours : Model
-ours = record { messages = messages.ours; streams = histories.ours; records = records.ours; entries = entries.ours; moving = moving.ours; judging = judging.ours }
+ours = record { messages = messages.ours; streams = histories.ours; records = records.ours; entries = entries.ours; moving = moving.ours; judging = judging.ours; replays = replays.ours }
 
 -- each call gives what the contract of the code allows
 pub record Keeps (m : Model) : Type 0 where
@@ -32,6 +34,7 @@ pub record Keeps (m : Model) : Type 0 where
   pub entries : entries.Keeps (m .entries)
   pub moving : moving.Keeps (m .moving)
   pub judging : judging.Keeps (m .judging)
+  pub replays : replays.Keeps (m .replays)
 
 -- ---- what is said of them
 
@@ -44,6 +47,7 @@ pub record EveryCall : Type 2 where
   pub entries : entries.EveryCall
   pub moving : moving.EveryCall
   pub judging : judging.EveryCall
+  pub replays : replays.EveryCall
 
 -- each answer is the listed one
 pub record Listed (m : Model) : Type 0 where
@@ -53,6 +57,7 @@ pub record Listed (m : Model) : Type 0 where
   pub entries : entries.Listed (m .entries)
   pub moving : moving.Listed (readOn (m .records .read) (m .entries .read)) (m .moving)
   pub judging : judging.Listed (m .records .read-any) (m .judging)
+  pub replays : replays.Listed (m .replays)
 
 -- a refusal changes nothing
 pub record Unchanged (m : Model) : Type 0 where
@@ -62,6 +67,7 @@ pub record Unchanged (m : Model) : Type 0 where
   pub entries : entries.Unchanged (m .entries)
   pub moving : moving.Unchanged (m .moving)
   pub judging : judging.Unchanged (m .judging)
+  pub replays : replays.Unchanged (m .replays)
 
 -- save one: a tag mismatch
 pub record Mismatch (m : Model) : Type 0 where

@@ -7,6 +7,7 @@ pub mod Records
 pub mod Entries
 pub mod Moving
 pub mod Judging
+pub mod Replays
 use Rattle.letter.specs.Wrong.Engine as engine
 use Rattle.letter.specs.Wrong.Messages as messages
 use Rattle.letter.specs.Wrong.Streams as streams
@@ -14,6 +15,7 @@ use Rattle.letter.specs.Wrong.Records as records
 use Rattle.letter.specs.Wrong.Entries as entries
 use Rattle.letter.specs.Wrong.Moving as moving
 use Rattle.letter.specs.Wrong.Judging as judging
+use Rattle.letter.specs.Wrong.Replays as replays
 
 pub record Wrong : Type 0 where
   pub engine : engine.Wrong
@@ -23,3 +25,4 @@ pub record Wrong : Type 0 where
   pub entries : entries.Wrong
   pub moving : moving.Wrong
   pub judging : judging.Wrong
+  pub replays : replays.Wrong

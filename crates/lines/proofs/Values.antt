@@ -1,13 +1,18 @@
 -- The value of a line, and a line that was written: what the readers of records, test files and logs take from a line.
 use mathlib.Core.Path.{_≡_, refl, sym, ap, _∙_}
+use mathlib.Core.Bool.{true}
 use mathlib.Core.List.{List, [], _∷_, _++_}
 use Prim.Native.Nat.{ℕ, zero, suc, _+_, _-_, _≤_}
 use native.Mathlib.Omega.{arith}
 use lib.ListN.{length, take, drop, length-append}
 use lib.Seq.{drop-at, drop-drop, take-at, take-take, take-append-seam, length-take-le}
+use lib.Pow.{areBytes}
+use Rattle.digits.specs.declared.hex.Case.{Case}
+use Rattle.digits.specs.Hex.{hexIn}
 use Rattle.digits.specs.Room.{lineOf}
 use Rattle.digits.proofs.Room.{length-line}
 use Rattle.lines.specs.declared.kinds.Kind.{Kind}
+use Rattle.lines.specs.declared.kinds.Value.the-variants.{Bytes}
 use Rattle.lines.specs.declared.walk.Found.the-variants.{Line}
 use Rattle.lines.specs.Right.{Spells, nameOf, Right, valueIn}
 use Rattle.lines.specs.Steps.{readOf}
@@ -54,3 +59,20 @@ written-read kind value more says fit s =
     let line : List ℕ = lineOf (nameOf kind) value in
     reads-lines .only kind (line ++ more) (Line (length line) says) fit
     (omega (arith, length-append line more), rw (take-append-seam line more) (record { value = value; spelled = s; whole = refl }))
+
+-- ---- a line of bytes
+
+-- behind a name the digits of bytes, at least and at most so many
+pub record BytesLine (name : List ℕ) (least most : ℕ) (case : Case) (x : List ℕ) : Type 0 where
+  pub bytes : List ℕ
+  pub are : areBytes bytes ≡ true
+  pub at-least : least ≤ length bytes
+  pub at-most : length bytes ≤ most
+  pub whole : x ≡ lineOf name (hexIn case bytes)
+
+-- a right line of a kind of bytes is one
+pub bytes-line : (kind : Kind) (name : List ℕ) (least most : ℕ) (case : Case) → nameOf kind ≡ name → kind .value ≡ Bytes least most case → {x : List ℕ} {says : ℕ}
+    → Right kind x says → BytesLine name least most case x
+bytes-line kind name least most case n e {x} {says} right =
+    let s : Spells (Bytes least most case) says (right .value) = rw e at (right .spelled) in
+    record { bytes = s .1; are = s .2; at-least = s .3; at-most = s .4; whole = right .whole ∙ (λ j. lineOf (n j) (s .5 j)) }

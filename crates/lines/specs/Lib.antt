@@ -4,3 +4,4 @@ pub mod Right
 pub mod Steps
 pub mod Laws
 pub mod Tables
+pub mod Texts

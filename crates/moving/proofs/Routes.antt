@@ -6,7 +6,7 @@ use mathlib.Core.Logic.{_↔_, _⊎_}
 use Prim.Native.Nat.{ℕ, _≤_}
 use native.Mathlib.Omega.{arith}
 use lib.Dec.{eqb}
-use lib.ListN.{length, take, length-append}
+use lib.ListN.{length, take, length-take}
 use lib.Seq.{length-take-le}
 use borrow.Author.Tests.{eqb-true, not-false}
 use Rattle.answers.specs.declared.Answer.the-variants.{Done, UnknownSet, BrokenRecord}
@@ -22,7 +22,7 @@ use Rattle.record.proofs.Laws.{reads-and-writes, taken-inside}
 use Rattle.record.proofs.TwoForms.{two-forms}
 use Rattle.entry.specs.Form.{largestNumber, entryText}
 use Rattle.entry.specs.Calls.{unknown, readEntry}
-use Rattle.entry.proofs.Laws.{entries}
+use Rattle.entry.proofs.Laws.{entries, size-is}
 use Rattle.entry.proofs.Bounds.{entry-length}
 use Rattle.moving.specs.declared.route.Route.{Route}
 use Rattle.moving.specs.declared.route.Route.the-variants.{Forward, Back, Import, Export}
@@ -115,15 +115,12 @@ form-read form text d =
 entry-read : (set number : ℕ) → number ≤ largestNumber → (text : List ℕ) → readEntry set number text .answer ≡ Done
     → (1 ≤ readEntry set number text .taken) × (readEntry set number text .taken ≤ length text)
     × (length (entryText number (readEntry set number text .content)) ≡ readEntry set number text .taken)
-unfolding readAs
 entry-read set number c text d =
+    let r = readEntry set number text in
     let k = read-route (Import set) number text d in
-    let e = entries .reads set number k c in
-    let b = e .exactly text .0 d in
-    let is = ap (readEntry set number) (b .parts) ∙ e .text-read (b .content) (b .rest) (b .portable) in
-    let taken : readEntry set number text .taken ≡ length (entryText number (b .content)) = ap (λ (q : Reading). q .taken) is in
-    let size = ap length (b .parts) ∙ length-append (entryText number (b .content)) (b .rest) in
-    (omega (arith, entry-length number (b .content)), omega arith, ap (λ (q : Reading). length (entryText number (q .content))) is ∙ sym taken)
+    let size = size-is set number k c text d in
+    let all = ap length (entries .reads set number k c .spelled text d) in
+    (omega (arith, entry-length number (r .content)), omega (arith, length-take (r .taken) text), size)
 
 pub read-is : (route : Route) (number : ℕ) → Counts route number → (text : List ℕ) → readBy route number text .answer ≡ Done → Read route number text
 read-is Forward number c text d =

@@ -10,15 +10,16 @@ use lib.Seq.{drop-drop}
 use borrow.Author.Tests.{ltb-true, ltb-false}
 use Rattle.lines.specs.Tables.{whole}
 use Rattle.lines.proofs.Tables.{last-line}
+use Rattle.lines.proofs.Texts.{text-snoc}
 use Rattle.record.specs.declared.form.Form.{Form}
 use Rattle.record.specs.declared.form.Record.{Record}
 use Rattle.record.specs.Form.{partAt, linesIn, blank, keeps}
-use Rattle.record.specs.Text.{lineText, textFrom}
+use Rattle.record.specs.Text.{lineText, formLine, textFrom}
 use Rattle.record.specs.Calls.{readAt, given, linesOf}
 use Rattle.record.specs.Laws.{Typed}
 use Rattle.record.proofs.Places.{typed-blank}
 use Rattle.record.proofs.Lines.{Passed, line-passed}
-use Rattle.record.proofs.Chains.{text-snoc, text-alike, Sound}
+use Rattle.record.proofs.Chains.{text-alike, Sound}
 
 -- the first k lines of a text, of so many bytes, are those of the record that they were read into
 pub record Far (form : Form) (k : ℕ) (text : List ℕ) (size : ℕ) (r : Record) : Type 0 where
@@ -31,7 +32,7 @@ pub record Far (form : Form) (k : ℕ) (text : List ℕ) (size : ℕ) (r : Recor
 far-more : (form : Form) (k : ℕ) (text : List ℕ) (at size : ℕ) (r next : Record) → Far form k text at r → Passed form (1 + k) r (drop at text) size next → Far form (suc k) text (at + size) next
 far-more form k text at size r next f p =
     let old : textFrom form k 1 next ≡ textFrom form k 1 r = text-alike form k 1 next r (λ m a b. p .before m a (omega arith)) in
-    let new : textFrom form (suc k) 1 next ≡ textFrom form k 1 r ++ lineText (partAt form (1 + k)) next = text-snoc form k 1 (1 + k) next refl ∙ rw old in
+    let new : textFrom form (suc k) 1 next ≡ textFrom form k 1 r ++ lineText (partAt form (1 + k)) next = text-snoc (formLine form) k 1 (1 + k) next refl ∙ rw old in
     record {
       typed = p .typed (f .typed);
       rule = λ m a b. one m a b (ltb m (1 + k)) refl;

@@ -2,7 +2,7 @@
 use mathlib.Core.Path.{_≡_}
 use mathlib.Core.Bool.{Bool, true, _&&_}
 use mathlib.Core.List.{[], _∷_}
-use Prim.Native.Nat.{ℕ, zero, suc, _+_, _-_, _≤_}
+use Prim.Native.Nat.{ℕ, zero, suc, _+_, _-_, _*_, _≤_}
 use native.Mathlib.Omega.{arith}
 use lib.Dec.{leb, lit≤}
 use lib.ListN.{length, getD, length-append, length-take}
@@ -32,11 +32,15 @@ use Rattle.record.proofs.Chains.{Sound}
 field-hex-most : (case : Case) (f : Field) (t : Bool) → (isField f && t) ≡ true → length (hexIn case (held f)) ≤ 512
 field-hex-most case f t e = omega (arith, length-hex case (held f), held-most f (and-both (isField f) t e .0))
 
--- the digits of a field of the length of a set's key
-key-hex-most : (f : Field) (set : ℕ) (t : Bool) → (isField f && (t && leb (f .size) (rowOf set .key))) ≡ true → length (hexIn Lower (held f)) ≤ 32
-key-hex-most f set t e =
-    let k : f .size ≤ rowOf set .key = leb-true _ _ (and-both t _ (and-both (isField f) _ e .1) .1) in
-    omega (arith, length-hex Lower (held f), length-take (f .size) (f .bytes), row-sizes set .key)
+-- a field has at most two digits for each byte that it says
+pub field-digits : (case : Case) (f : Field) → length (hexIn case (held f)) ≤ 2 * f .size
+field-digits case f = omega (arith, length-hex case (held f), length-take (f .size) (f .bytes))
+
+-- so one of at most so many bytes has at most twice as many
+pub digits-most : (case : Case) (f : Field) (least most : ℕ) → (isField f && (leb least (f .size) && leb (f .size) most)) ≡ true → length (hexIn case (held f)) ≤ 2 * most
+digits-most case f least most e =
+    let b = and-both (isField f) _ e in
+    omega (arith, field-digits case f, leb-true (f .size) most (and-both (leb least (f .size)) _ (b .1) .1))
 
 -- no value that is allowed has more than 512 digits
 allowed-most : (value : Value) → small value ≡ true → (n : ℕ) (f : Field) → allows value n f ≡ true → length (spelledAs value n f) ≤ 512
@@ -63,12 +67,12 @@ line-most =
     (λ r k. omega (arith, line-length 1 r))
     (λ r k. omega (arith, line-length 2 r, length-numeral (r .set), places-least (r .set) 0 (omega (arith, one-digit (r .set) k))))
     (λ r k. omega (arith, line-length 3 r, length-numeral (r .chip), places-least (r .chip) 4 (omega (arith, leb-true (r .chip) 65_535 (and-both (leb 0 (r .chip)) _ k .1)))))
-    (λ r k. omega (arith, line-length 4 r, key-hex-most (r .key) (r .set) (leb (rowOf (r .set) .key) (r .key .size)) k))
-    (λ r k. omega (arith, line-length 5 r, key-hex-most (r .nonce) (r .set) (leb (rowOf (r .set) .key) (r .nonce .size)) k))
+    (λ r k. omega (arith, line-length 4 r, digits-most Lower (r .key) (rowOf (r .set) .key) (rowOf (r .set) .key) k, row-sizes (r .set) .key))
+    (λ r k. omega (arith, line-length 5 r, digits-most Lower (r .nonce) (rowOf (r .set) .key) (rowOf (r .set) .key) k, row-sizes (r .set) .key))
     (λ r k. omega (arith, line-length 6 r, field-hex-most Lower (r .ad) _ k))
     (λ r k. omega (arith, line-length 7 r, field-hex-most Lower (r .text) _ k))
     (λ r k. omega (arith, line-length 8 r, field-hex-most Lower (r .cipher) _ k))
-    (λ r k. omega (arith, line-length 9 r, key-hex-most (r .tag) (r .set) (leb (rowOf (r .set) .key) (r .tag .size)) k))
+    (λ r k. omega (arith, line-length 9 r, digits-most Lower (r .tag) (rowOf (r .set) .key) (rowOf (r .set) .key) k, row-sizes (r .set) .key))
     (λ r k. omega (arith, line-length 10 r, length-numeral (r .rounds), places-least (r .rounds) 6 (omega (arith, leb-true (r .rounds) 9_999_999 (and-both (leb 0 (r .rounds)) _ k .1)))))
 
 -- the most bytes that k lines of a form can have, from a line on

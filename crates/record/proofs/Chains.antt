@@ -1,7 +1,7 @@
 -- Lines of a form one after another: their text, and the first that breaks its rule.
-use mathlib.Core.Path.{_≡_, refl, sym, ap, _∙_}
+use mathlib.Core.Path.{_≡_, refl}
 use mathlib.Core.Bool.{Bool, true, false, cond}
-use mathlib.Core.List.{List, _++_, append-nil, append-assoc}
+use mathlib.Core.List.{List}
 use Prim.Native.Nat.{ℕ, zero, suc, _+_, _-_, _≤_, _<_}
 use native.Mathlib.Omega.{arith}
 use lib.Dec.{ltb}
@@ -14,13 +14,6 @@ use Rattle.record.specs.Text.{lineText, textFrom}
 use Rattle.record.proofs.Places.{Alike}
 
 module _ (form : Form) where
-  -- one line more stands behind the others
-  pub text-snoc : (k line n : ℕ) (r : Record) → line + k ≡ n → textFrom form (suc k) line r ≡ textFrom form k line r ++ lineText (partAt form n) r
-  text-snoc zero line n r e = let p : line ≡ n = omega arith in append-nil (lineText (partAt form line) r) ∙ rw p
-  text-snoc (suc k) line n r e =
-      ap (λ (t : List ℕ). lineText (partAt form line) r ++ t) (text-snoc k (line + 1) n r (omega arith))
-      ∙ sym (append-assoc (lineText (partAt form line) r) (textFrom form k (line + 1) r) (lineText (partAt form n) r))
-
   -- the lines from one on, up to the form's last
   abbrev pub textLeft : ℕ → Record → List ℕ
   textLeft line r = textFrom form (linesIn form + 1 - line) line r

@@ -10,17 +10,18 @@ use lib.Seq.{drop-append-seam, take-append-seam}
 use borrow.Author.Tests.{eqb-true, eqb-false, ne-eqb}
 use Rattle.lines.specs.Tables.{whole}
 use Rattle.lines.proofs.Tables.{read-more}
+use Rattle.lines.proofs.Texts.{text-snoc}
 use Rattle.record.specs.declared.form.Form.{Form}
 use Rattle.record.specs.declared.form.Form.the-variants.{One, Two}
 use Rattle.record.specs.declared.form.Record.{Record}
 use Rattle.record.specs.Form.{partAt, linesIn, withNumber, blank, valueKind, keeps}
-use Rattle.record.specs.Text.{lineText, textFrom}
+use Rattle.record.specs.Text.{lineText, formLine, textFrom}
 use Rattle.record.specs.Calls.{readAt, given, linesOf}
 use Rattle.record.specs.Laws.{Typed}
 use Rattle.record.proofs.Places.{part-is, typed-at}
 use Rattle.record.proofs.Rules.{copiedPart, rule-copied, set-copied}
 use Rattle.record.proofs.Lines.{saidAt, Spelled, line-spelled}
-use Rattle.record.proofs.Chains.{text-snoc, Sound}
+use Rattle.record.proofs.Chains.{Sound}
 
 -- the record of zeros with the first k lines of another
 abbrev pub copied : Form → ℕ → Record → Record
@@ -63,7 +64,7 @@ read-copied form (suc k) h r t e rest =
     let x : List ℕ = textFrom form k 1 r in
     let y : List ℕ = lineText part r in
     let s : Record = copied form k r in
-    let p : textFrom form (suc k) 1 r ≡ x ++ y = text-snoc form k 1 (1 + k) r refl in
+    let p : textFrom form (suc k) 1 r ≡ x ++ y = text-snoc (formLine form) k 1 (1 + k) r refl in
     let rule : keeps part r ≡ true = e (1 + k) (omega arith) (omega arith) in
     let l : Spelled form (1 + k) r s rest =
     line-spelled form (1 + k) (omega arith) (omega arith) r s (typed-at r t part (is .0) (is .1)) rule

@@ -133,10 +133,19 @@ line-spelled form line l m r s w k c rest =
 
 -- ---- what was read is written
 
--- a field of at most 256 bytes is in form, and has as many as they are
-pub field-is : (x : List ℕ) → length x ≤ 256 → (isField (fieldOf x) ≡ true) × (fieldOf x .size ≡ length x)
+-- the field of bytes, at least and at most so many, is in form, and has as many
+pub field-allowed : (x : List ℕ) (least most : ℕ) → most ≤ 256 → least ≤ length x → length x ≤ most
+    → (isField (fieldOf x) && (leb least (fieldOf x .size) && leb (fieldOf x .size) most)) ≡ true
 unfolding isField fieldOf
-field-is x h = (rw (le-leb (length x) 256 h, drop-append-seam x (zeros (256 - length x))) (same-refl (zeros (256 - length x))), refl)
+field-allowed x least most few l m =
+    let short : length x ≤ 256 = omega arith in
+    rw (
+      le-leb (length x) 256 short,
+      drop-append-seam x (zeros (256 - length x)),
+      same-refl (zeros (256 - length x)),
+      le-leb least (length x) l,
+      le-leb (length x) most m,
+    )
 
 -- digits that were read are the value of the record then: its part keeps its rule, and those before it stay
 pub record Follows (part : ℕ) (digits : List ℕ) (r s : Record) : Type 0 where
@@ -165,12 +174,11 @@ bytes-follow : (part : ℕ) → part ≤ 10 → (least most : ℕ) → most ≤ 
 bytes-follow part h least most few r says digits s spelled rule =
     let x : List ℕ = s .1 in
     let short : length x ≤ 256 = omega (arith, s .4) in
-    let f = field-is x short in
     let read : fitted (fromHexIn Lower digits) ≡ fieldOf x =
     ap (λ (y : List ℕ). fitted (fromHexIn Lower y)) (s .5) ∙ rw (bytes-hex Lower x (s .2), le-leb (length x) 256 short) in
     rw read (record {
       spelled = spelled (fieldOf x) ∙ ap (hexIn Lower) (held-field x) ∙ sym (s .5);
-      rule = rule (fieldOf x) ∙ rw (f .0, f .1, le-leb least (length x) (s .3), le-leb (length x) most (s .4));
+      rule = rule (fieldOf x) ∙ field-allowed x least most few (s .3) (s .4);
       typed = λ y. typed-field part (fieldOf x) r (whole-field x short (s .2)) y;
       before = λ i l j. field-before i l (omega arith) part (fieldOf x) r j;
     })

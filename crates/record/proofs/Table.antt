@@ -2,16 +2,18 @@
 use mathlib.Core.Path.{_≡_, refl}
 use mathlib.Core.List.{List}
 use Prim.Native.Nat.{ℕ}
+use native.Mathlib.Omega.{arith}
 use Rattle.lines.specs.declared.walk.Found.{Found}
 use Rattle.lines.specs.Right.{nameOf, Right}
 use Rattle.lines.specs.Laws.{Fit, FoundIn}
 use Rattle.lines.proofs.Laws.{reads-lines, some-line}
+use Rattle.lines.proofs.Names.{named-fit}
 use Rattle.record.specs.declared.form.Form.{Form}
 use Rattle.record.specs.declared.form.Record.{Record}
-use Rattle.record.specs.Form.{partAt}
+use Rattle.record.specs.Form.{partAt, valueKind}
 use Rattle.record.specs.Text.{name, kindOf}
 use Rattle.record.specs.Calls.{readAt}
-use Rattle.record.proofs.Names.{name-plain, held-name}
+use Rattle.record.proofs.Names.{name-sizes, name-plain, held-name}
 use Rattle.record.proofs.Rules.{kind-tests}
 
 -- the name of a part's kind is the part's
@@ -22,9 +24,7 @@ name-is part set = held-name part _ refl .text-is
 -- the kind of each part fits
 pub fit-kind : (part set : ℕ) → Fit (kindOf part set)
 unfolding kindOf
-fit-kind part set =
-    let held = held-name part _ refl in
-    record { named = held .inside; plainly = rw (held .text-is) (name-plain part); valued = kind-tests part set .0 }
+fit-kind part set = named-fit (name part) (omega (arith, name-sizes part .1)) (valueKind part set) (name-plain part) (kind-tests part set .0)
 
 -- ---- a form's readings
 

@@ -1,6 +1,6 @@
 -- A bench record as text, in either form.
-use mathlib.Core.List.{List, [], _∷_, _++_}
-use Prim.Native.Nat.{ℕ, zero, suc, _+_, _-_}
+use mathlib.Core.List.{List, [], _∷_}
+use Prim.Native.Nat.{ℕ, _-_}
 use lib.ListN.{getD}
 use Rattle.digits.specs.Ascii.{ascii}
 use Rattle.digits.specs.Hex.{hexIn}
@@ -10,6 +10,7 @@ use Rattle.lines.specs.declared.kinds.Kind.{Kind}
 use Rattle.lines.specs.declared.kinds.Value.{Value}
 use Rattle.lines.specs.declared.kinds.Value.the-variants.{Fixed, Number, Bytes}
 use Rattle.lines.specs.Right.{named}
+use Rattle.lines.specs.Texts as texts
 use Rattle.record.specs.declared.field.Field.{Field}
 use Rattle.record.specs.declared.form.Form.{Form}
 use Rattle.record.specs.declared.form.Form.the-variants.{One, Two}
@@ -53,10 +54,13 @@ valueText part r = spelledAs (valueKind part (r .set)) (numberAt part r) (fieldA
 unfoldable pub lineText : ℕ → Record → List ℕ
 lineText part r = lineOf (name part) (valueText part r)
 
+-- a line of a form
+abbrev pub formLine : Form → ℕ → Record → List ℕ
+formLine form line r = lineText (partAt form line) r
+
 -- `count` lines of a form, from a line on, each straight after the one before
 abbrev pub textFrom : Form → ℕ → ℕ → Record → List ℕ
-textFrom form zero line r = []
-textFrom form (suc count) line r = lineText (partAt form line) r ++ textFrom form count (line + 1) r
+textFrom form count line r = texts.textFrom (formLine form) count line r
 
 -- the text of a record in a form
 unfoldable pub textOf : Form → Record → List ℕ

@@ -549,7 +549,7 @@ no-fault t none = rw (eq-eqb (t .unread) 0 none)
 
 -- where the last verdict is unread, its number, line and column are said first
 located : (input : List ℕ) (before : List Verdict) (line column : ℕ) → verdictsOf input ≡ before ++ Unread line column ∷ []
-    → wordsOn input ≡ faultLine (length before + 1) line column ++ endLine (countedAll none (verdictsOf input))
+    → wordsOn input ≡ faultLine (ascii "bench: record ") (length before + 1) line column ++ endLine (countedAll none (verdictsOf input))
 unfolding wordsOn lastWords
 located input before line column e =
     let t = countedAll none before in
@@ -557,17 +557,17 @@ located input before line column e =
     let number : recordsOf (countedWith t (Unread line column)) ≡ length before + 1 =
     omega (arith, counted-more t (Unread line column), records-counted none before) in
     rw counted
-    (ap (λ (b : Bool). cond b [] (faultLine (recordsOf (countedWith t (Unread line column))) line column) ++ endLine (countedWith t (Unread line column))) (ne-eqb (t .unread + 1) 0 (omega arith))
-    ∙ ap (λ (n : ℕ). faultLine n line column ++ endLine (countedWith t (Unread line column))) number)
+    (ap (λ (b : Bool). cond b [] (faultLine (ascii "bench: record ") (recordsOf (countedWith t (Unread line column))) line column) ++ endLine (countedWith t (Unread line column))) (ne-eqb (t .unread + 1) 0 (omega arith))
+    ∙ ap (λ (n : ℕ). faultLine (ascii "bench: record ") n line column ++ endLine (countedWith t (Unread line column))) number)
 
 -- behind records in form, the place of a wrong text is said first
 place : (entries : List Entry) (text : List ℕ) (line column : ℕ) → AllInForm entries → 1 ≤ length text → WrongAt (formOf text) text line column
     → let input = textsOf entries ++ text in
-    wordsOn input ≡ faultLine (length entries + 1) line column ++ endLine (countedAll none (verdictsOf input))
+    wordsOn input ≡ faultLine (ascii "bench: record ") (length entries + 1) line column ++ endLine (countedAll none (verdictsOf input))
 place entries text line column sound some w =
     let verdicts = judges .in-a-row entries text sound ∙ ap (λ (vs : List Verdict). verdictsOn entries ++ vs) (judges .wrong-at text line column some w) in
     located (textsOf entries ++ text) (verdictsOn entries) line column verdicts
-    ∙ ap (λ (n : ℕ). faultLine (n + 1) line column ++ endLine (countedAll none (verdictsOf (textsOf entries ++ text)))) (length-map entries (λ e. verdictOn (e .content)))
+    ∙ ap (λ (n : ℕ). faultLine (ascii "bench: record ") (n + 1) line column ++ endLine (countedAll none (verdictsOf (textsOf entries ++ text)))) (length-map entries (λ e. verdictOn (e .content)))
 
 -- the run keeps its promises
 pub whole-reports : WholeReports

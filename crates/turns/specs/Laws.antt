@@ -43,7 +43,7 @@ pub record WholeReports : Type 0 where
   -- behind records in form, of either form, a text that is wrong at a line and column: the last words begin with its number, that line and that column
   pub place : (entries : List Entry) (text : List ℕ) (line column : ℕ) → AllInForm entries → 1 ≤ length text → WrongAt (formOf text) text line column
       → let input = textsOf entries ++ text in
-      wordsOn input ≡ faultLine (length entries + 1) line column ++ endLine (countedAll none (verdictsOf input))
+      wordsOn input ≡ faultLine (ascii "bench: record ") (length entries + 1) line column ++ endLine (countedAll none (verdictsOf input))
   -- more is read only while the input has not ended and what is not judged yet is no record, but some more makes it one: what no input can mend is reported before
   -- anything more is read
   pub at-once : (replies : List Reply) → let r = ran replies in

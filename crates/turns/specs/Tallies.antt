@@ -45,11 +45,11 @@ endLine t =
     ++ (numbered (ascii " records: ") (t .equal)
     ++ (numbered (ascii " equal, ") (t .differ) ++ (numbered (ascii " differ, ") (t .unread) ++ ascii " unread\n")))
 
--- where a record broke: its number, line and column
-unfoldable pub faultLine : ℕ → ℕ → ℕ → List ℕ
-faultLine number line column =
-    numbered (ascii "bench: record ") number ++ (numbered (ascii ": line ") line ++ (numbered (ascii ", column ") column ++ ascii "\n"))
+-- where a record or an entry of a log broke, by this word for it: its number, line and column
+unfoldable pub faultLine : List ℕ → ℕ → ℕ → ℕ → List ℕ
+faultLine word number line column =
+    numbered word number ++ (numbered (ascii ": line ") line ++ (numbered (ascii ", column ") column ++ ascii "\n"))
 
 -- what a run says at its end: where the unread record broke, if there is one, which is the last; and the line that ends the run
 unfoldable pub lastWords : Tally → List ℕ
-lastWords t = cond (eqb (t .unread) 0) [] (faultLine (recordsOf t) (t .line) (t .column)) ++ endLine t
+lastWords t = cond (eqb (t .unread) 0) [] (faultLine (ascii "bench: record ") (recordsOf t) (t .line) (t .column)) ++ endLine t

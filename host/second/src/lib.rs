@@ -1,6 +1,7 @@
 //! A slow and plain second program for Ascon v1, its whole-message calls, its
-//! streams, its bench records and published test files. It is there to be
-//! compared with, so every part follows the printed definition step by step.
+//! streams, its bench records, published test files and logs of a chip's calls.
+//! It is there to be compared with, so every part follows the printed
+//! definition step by step.
 
 pub mod calls;
 pub mod cases;
@@ -11,11 +12,13 @@ pub mod formula;
 pub mod hex;
 pub mod judge;
 mod lines;
+pub mod log;
 pub mod make;
 pub mod moving;
 pub mod permutation;
 pub mod random;
 pub mod record;
+pub mod replay;
 pub mod stream;
 pub mod vectors;
 mod whole;

@@ -86,6 +86,25 @@ fn good_in_pair(bad: BadDigit) -> Good {
     }
 }
 
+/// Gives the number at the front and its length in digits; no digit is taken that makes it wrong.
+pub fn number(text: &[u8], most: u64) -> Result<(u64, usize), Good> {
+    let mut number = 0;
+    let mut length = 0;
+    for digit in text.iter().take_while(|c| c.is_ascii_digit()) {
+        let longer = number * 10 + u64::from(digit - b'0');
+        let leads_with_zero = length > 0 && number == 0;
+        if longer > most || leads_with_zero {
+            break;
+        }
+        number = longer;
+        length += 1;
+    }
+    if length == 0 {
+        return Err(0);
+    }
+    Ok((number, length))
+}
+
 /// Gives the line of a label and a value, with its line feed.
 pub fn line_of(label: &[u8], value: &[u8]) -> Vec<u8> {
     [label, value, b"\n"].concat()

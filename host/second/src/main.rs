@@ -8,6 +8,7 @@ use second::make::{lines_of, right_record, Unmade};
 use second::moving::{move_all, Direction, Moved};
 use second::random::Random;
 use second::record::Form;
+use second::replay::{replay, Replay};
 use second::{entry, hex, vectors};
 use std::fs::File;
 use std::io::{self, BufWriter, Read, Write};
@@ -20,6 +21,7 @@ const USAGE: &str = "usage:
   second back
   second import SET
   second export
+  second replay
   second seal SET KEYHEX NONCEHEX ADHEX TEXTHEX
   second open SET KEYHEX NONCEHEX ADHEX CIPHERHEX TAGHEX
   second vectors COUNT SEED
@@ -61,6 +63,7 @@ fn work() -> Result<u8, Trouble> {
         ["back"] => return print_moved(move_all(Direction::Back, &input()?)),
         ["import", set] => return print_moved(import_all(number(set)?, &input()?)),
         ["export"] => return print_moved(export_all(&input()?)),
+        ["replay"] => return print_replayed(replay(&input()?)),
         ["seal", set, key, nonce, ad, text] => {
             let parts = [bytes(key)?, bytes(nonce)?, bytes(ad)?, bytes(text)?];
             print_sealed(number(set)?, parts)
@@ -139,6 +142,13 @@ fn print_moved(moved: Moved) -> Result<u8, Trouble> {
     say(&moved.output)?;
     write_all(io::stderr(), moved.said.as_bytes())?;
     Ok(moved.status)
+}
+
+/// Prints what a replay says, and on standard error how it went, and gives the status or the trouble met.
+fn print_replayed(replayed: Replay) -> Result<u8, Trouble> {
+    say(replayed.report().as_bytes())?;
+    write_all(io::stderr(), replayed.said().as_bytes())?;
+    Ok(replayed.status())
 }
 
 /// Prints the record of one message and gives the trouble met, if any.

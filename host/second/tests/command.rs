@@ -78,7 +78,7 @@ fn vectors_of_form_2_and_judge() {
     assert_eq!(done(&["vectors2", "0", "1"], b""), "");
 }
 
-/// Gives status, standard output and standard error of moving an input by those words.
+/// Gives status, standard output and standard error of moving or replaying an input by those words.
 fn moved_by(words: &[&str], input: &str) -> (Option<i32>, String, String) {
     let output = run(words, input.as_bytes());
     let text = |bytes| String::from_utf8(bytes).expect("plain text");
@@ -89,7 +89,7 @@ fn moved_by(words: &[&str], input: &str) -> (Option<i32>, String, String) {
     )
 }
 
-/// Gives status, standard output and standard error of moving an input by a command of one word.
+/// Gives status, standard output and standard error of moving or replaying an input by a command of one word.
 fn moved(command: &str, input: &str) -> (Option<i32>, String, String) {
     moved_by(&[command], input)
 }
@@ -315,6 +315,117 @@ fn import_and_export() {
     assert_eq!(ran, 24);
 }
 
+/// The right entries of a message of nothing at all in set 2.
+const NOTHING: [&str; 2] = [
+    "call=start2\ndata=000102030405060708090a0b101112131415161718191a1b\nanswer=0\nout=\nrounds=12\n",
+    "call=finish\ndata=\nanswer=0\nout=0e87aae4e9bb6249b525b394\nrounds=12\n",
+];
+
+/// Says what replay prints, letter for letter, for logs that agree, differ or break.
+#[test]
+fn replay() {
+    let log = NOTHING.concat();
+    let refused = "call=text\ndata=00\nanswer=7\nout=\nrounds=0\n";
+    let cases: [(String, &str, u64, &str, &str, i32); 15] = [
+        (String::new(), "", 0, "agrees", "none", 0),
+        (log.clone(), "", 2, "agrees", "none", 0),
+        (log.repeat(3) + refused, "", 7, "agrees", "none", 0),
+        (NOTHING[0].to_string(), "", 1, "agrees", "none", 0),
+        (NOTHING[1].to_string(), "", 1, "differs", "answer", 1),
+        (log.replace("0e87", "0e86"), "", 2, "differs", "out", 1),
+        (log.replace("b394", "b3"), "", 2, "differs", "out", 1),
+        (
+            log.replace("rounds=12", "rounds=11"),
+            "",
+            1,
+            "differs",
+            "rounds",
+            1,
+        ),
+        (
+            log.clone() + &refused.replace("7", "99") + "x",
+            "",
+            3,
+            "differs",
+            "answer",
+            1,
+        ),
+        (
+            "\n".to_string(),
+            "bench: entry 1: line 1, column 1\n",
+            1,
+            "unread",
+            "1",
+            1,
+        ),
+        (
+            log.clone() + "call=start3\n",
+            "bench: entry 3: line 1, column 11\n",
+            3,
+            "unread",
+            "1",
+            1,
+        ),
+        (
+            log.replace("data=\n", "data=00\n"),
+            "bench: entry 2: line 2, column 6\n",
+            2,
+            "unread",
+            "2",
+            1,
+        ),
+        (
+            log.replace("answer=0", "answer=00"),
+            "bench: entry 1: line 3, column 9\n",
+            1,
+            "unread",
+            "3",
+            1,
+        ),
+        (
+            log.replace("b394", "B394"),
+            "bench: entry 2: line 4, column 25\n",
+            2,
+            "unread",
+            "4",
+            1,
+        ),
+        (
+            log.trim_end().to_string(),
+            "bench: entry 2: line 5, column 10\n",
+            2,
+            "unread",
+            "5",
+            1,
+        ),
+    ];
+    let mut ran = 0;
+    for (input, fault, entry, verdict, field, status) in cases {
+        let report = format!("entry={entry}\nverdict={verdict}\nfield={field}\n");
+        let said = format!("{fault}bench: done: entries={entry}\n");
+        assert_eq!(moved("replay", &input), (Some(status), report, said));
+        ran += 1;
+    }
+    assert_eq!(ran, 15);
+}
+
+/// Says that a replay that can't be told of on standard error is a failed write, even where all agree.
+#[test]
+fn nowhere_to_tell_of_a_replay() {
+    let path = std::path::Path::new(env!("CARGO_TARGET_TMPDIR")).join("log");
+    std::fs::write(&path, NOTHING.concat()).expect("a file for the test");
+    let output = Command::new(env!("CARGO_BIN_EXE_second"))
+        .arg("replay")
+        .stdin(Stdio::from(File::open(&path).expect("the file opens")))
+        .stdout(Stdio::piped())
+        // A file opened for reading takes no output.
+        .stderr(Stdio::from(File::open(&path).expect("the file opens")))
+        .output()
+        .expect("the program starts");
+    assert_eq!(output.stdout, b"entry=2\nverdict=agrees\nfield=none\n");
+    assert_eq!(output.status.code(), Some(1));
+}
+
 /// Says that made entries are right, counted, of the asked set, and the same for the same seed.
 #[test]
 fn made_entries_there_and_back() {
@@ -507,8 +618,11 @@ fn rounds() {
 #[test]
 fn bad_command_lines() {
     let key = "00".repeat(16);
-    let cases: [&[&str]; 45] = [
+    let cases: [&[&str]; 48] = [
         &[],
+        &["replay", "more"],
+        &["Replay"],
+        &["replay", ""],
         &["import"],
         &["import", "1", "more"],
         &["import", ""],
@@ -562,7 +676,7 @@ fn bad_command_lines() {
         assert!(output.stderr.starts_with(b"usage:"));
         ran += 1;
     }
-    assert_eq!(ran, 45);
+    assert_eq!(ran, 48);
 }
 
 /// Says that refused messages are said on standard error with status 1.
@@ -606,8 +720,9 @@ fn write_only() -> File {
 #[test]
 fn failed_reads() {
     let mut ran = 0;
-    let commands: [&[&str]; 5] = [
+    let commands: [&[&str]; 6] = [
         &["judge"],
+        &["replay"],
         &["forward"],
         &["back"],
         &["import", "1"],
@@ -627,29 +742,34 @@ fn failed_reads() {
             ran += 1;
         }
     }
-    assert_eq!(ran, 10);
+    assert_eq!(ran, 12);
 }
 
-/// Says that moved records that can't be written are a failed write, of which nothing else is told.
+/// Says that moved records or a report that can't be written are a failed write, of which nothing else is told.
 #[test]
-fn moved_records_unwritten() {
+fn results_unwritten() {
     let records = done(&["vectors", "3", "1"], b"");
-    let path = std::path::Path::new(env!("CARGO_TARGET_TMPDIR")).join("old-records");
-    std::fs::write(&path, records).expect("a file for the test");
-    let output = Command::new(env!("CARGO_BIN_EXE_second"))
-        .arg("forward")
-        .stdin(Stdio::from(File::open(&path).expect("the file opens")))
-        // A file opened for reading takes no output.
-        .stdout(Stdio::from(File::open(&path).expect("the file opens")))
-        .stderr(Stdio::piped())
-        .output()
-        .expect("the program starts");
-    assert_eq!(output.status.code(), Some(1));
-    assert!(output.stderr.starts_with(b"second: writing failed"));
-    assert_eq!(
-        output.stderr.iter().filter(|byte| **byte == b'\n').count(),
-        1
-    );
+    let path = std::path::Path::new(env!("CARGO_TARGET_TMPDIR")).join("unwritten");
+    let mut ran = 0;
+    for (command, input) in [("forward", records), ("replay", NOTHING.concat())] {
+        std::fs::write(&path, input).expect("a file for the test");
+        let output = Command::new(env!("CARGO_BIN_EXE_second"))
+            .arg(command)
+            .stdin(Stdio::from(File::open(&path).expect("the file opens")))
+            // A file opened for reading takes no output.
+            .stdout(Stdio::from(File::open(&path).expect("the file opens")))
+            .stderr(Stdio::piped())
+            .output()
+            .expect("the program starts");
+        assert_eq!(output.status.code(), Some(1));
+        assert!(output.stderr.starts_with(b"second: writing failed"));
+        assert_eq!(
+            output.stderr.iter().filter(|byte| **byte == b'\n').count(),
+            1
+        );
+        ran += 1;
+    }
+    assert_eq!(ran, 2);
 }
 
 /// Says that a failed write is said with a nonzero status.

@@ -42,14 +42,34 @@ returns-3 c =
       same-as _ (ascii "export") _ (c .before .same3 .ensures) ∙ c .if3 .taken,
     )
 
+slice-aggregate-same-4 : tie.Need-slice-aggregate-same-4
+slice-aggregate-same-4 c = search needs
+
+same-requires-4 : tie.Need-same-requires-4
+same-requires-4 c κs = search needs
+
 returns-4 : tie.Need-returns-4
 returns-4 c =
-    let f = c .before .before .before in
+    let g = c .before .before .before in
+    let f = g .before .before .before in
     let e = f .before .before .before in
     rw (
       same-as _ (ascii "forward") _ (e .before .same .ensures) ∙ e .if1 .left,
       same-as _ (ascii "back") _ (f .before .same2 .ensures) ∙ f .if2 .left,
-      same-as _ (ascii "export") _ (c .before .same3 .ensures) ∙ c .if3 .left,
+      same-as _ (ascii "export") _ (g .before .same3 .ensures) ∙ g .if3 .left,
+      same-as _ (ascii "replay") _ (c .before .same4 .ensures) ∙ c .if4 .taken,
+    )
+
+returns-5 : tie.Need-returns-5
+returns-5 c =
+    let g = c .before .before .before in
+    let f = g .before .before .before in
+    let e = f .before .before .before in
+    rw (
+      same-as _ (ascii "forward") _ (e .before .same .ensures) ∙ e .if1 .left,
+      same-as _ (ascii "back") _ (f .before .same2 .ensures) ∙ f .if2 .left,
+      same-as _ (ascii "export") _ (g .before .same3 .ensures) ∙ g .if3 .left,
+      same-as _ (ascii "replay") _ (c .before .same4 .ensures) ∙ c .if4 .left,
     )
 
 pub word-task-spec : {M : Type 1} → statement M
@@ -65,4 +85,7 @@ word-task-spec =
     slice-aggregate-same-3
     same-requires-3
     returns-3
-    returns-4)
+    slice-aggregate-same-4
+    same-requires-4
+    returns-4
+    returns-5)

@@ -46,6 +46,10 @@ wrong = record {
   tail-begin = λ part begin κ e p. off (sym begin ∙ ap (λ (x : Part). x .offset) p);
   compare-cut = λ r same κ e p. let told : Same ≡ At 1 = sym same ∙ ap (λ (x : Compared). x .difference) p in off (cc told);
   compare-part = λ r begin κ e p. off (sym begin ∙ ap (λ (x : Compared). x .part .offset) p);
+  fields-begun = λ κ e p. off (cc p);
+  fields-longer = λ κ e p. off (cc p);
+  fields-behind = λ κ e p. off (cc p);
+  fields-size = λ κ e p. off (cc p);
   judge-cipher = λ r other κ e p. other (judges .equal r .0 (sym p) .cipher);
   judge-cut-off = λ κ e p. let verdict : Tag ≡ Cipher = p in off (cc verdict);
   judge-rounds = λ κ e p. let verdict : Tag ≡ Rounds = p in off (cc verdict);

@@ -52,6 +52,13 @@ pub record Wrong : Type 0 where
   pub compare-cut : (r : Comparison) → r .difference ≡ Same → Never compareLearnt (lent (1 ∷ 2 ∷ []), (lent (1 ∷ []), tt)) r
   -- and the part belongs to the place: where the texts differ at 1, it does not lie at the beginning
   pub compare-part : (r : Comparison) → r .part .ptr .1 ≡ 0 → Never compareLearnt (lent (1 ∷ 2 ∷ []), (lent (1 ∷ 3 ∷ []), tt)) r
+  -- fields differ where one holds a beginning of what the other holds, either way round
+  pub fields-begun : Never judge.fields_differ.Reads.Learnt (fieldOf (1 ∷ 2 ∷ []), (fieldOf (1 ∷ []), tt)) false
+  pub fields-longer : Never judge.fields_differ.Reads.Learnt (fieldOf (1 ∷ []), (fieldOf (1 ∷ 2 ∷ []), tt)) false
+  -- what stands in a field behind its bytes is not compared
+  pub fields-behind : Never judge.fields_differ.Reads.Learnt (record { bytes = 1 ∷ 2 ∷ zeros 254; size = 1 }, (fieldOf (1 ∷ []), tt)) true
+  -- nor is a size over 256: such a field holds all of its places
+  pub fields-size : Never judge.fields_differ.Reads.Learnt (record { bytes = zeros 256; size = 257 }, (fieldOf (zeros 256), tt)) true
   -- a record whose cipher is not our own sealing's is not equal: cut off, too long, or of other bytes
   pub judge-cipher : (r : Record) → (held (r .cipher) ≡ ourSealing r .cipher → ⊥) → Never judge.judge.Reads.Learnt (r, tt) Equal
   -- a text of one byte and no cipher: the cipher is named, and not the tag

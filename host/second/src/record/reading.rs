@@ -3,7 +3,7 @@
 use super::{Broken, Form, Line, Record, MOST_BYTES, MOST_CHIP, MOST_ROUNDS};
 use crate::cipher::set_of;
 use crate::hex::Case::Lower;
-use crate::lines::{field, take_line, take_lines, Good};
+use crate::lines::{field, number, take_line, take_lines, Good};
 
 /// Gives the record of the form at the front and how many bytes it took, or where it first breaks.
 pub fn read(form: Form, bytes: &[u8]) -> Result<(Record, usize), Broken> {
@@ -41,23 +41,4 @@ fn set_value(text: &[u8]) -> Result<(u64, usize), Good> {
         Some(b'2') => Ok((2, 1)),
         _ => Err(0),
     }
-}
-
-/// Gives the number at the front and its length in digits; no digit is taken that makes it wrong.
-fn number(text: &[u8], most: u64) -> Result<(u64, usize), Good> {
-    let mut number = 0;
-    let mut length = 0;
-    for digit in text.iter().take_while(|c| c.is_ascii_digit()) {
-        let longer = number * 10 + u64::from(digit - b'0');
-        let leads_with_zero = length > 0 && number == 0;
-        if longer > most || leads_with_zero {
-            break;
-        }
-        number = longer;
-        length += 1;
-    }
-    if length == 0 {
-        return Err(0);
-    }
-    Ok((number, length))
 }

@@ -1,8 +1,7 @@
--- `bench::tally::put_last` meets its contract.
-use borrow.Author.Needs.{needs}
 use borrow.Author.Tests.{eq-eqb, ne-eqb}
 use Rattle.turns.specs.Tallies.{lastWords}
 use Rattle.bench.proofs.Lines.{follows-more}
+use borrow.Author.Needs.{needs}
 use Rattle.bench.proofs.tally.put_last.Statement.{statement}
 use Rattle.bench.proofs.tally.put_last.Tie as tie
 
@@ -15,6 +14,12 @@ same-length c = search needs
 returns : tie.Need-returns
 unfolding lastWords
 returns c = rw (eq-eqb _ 0 (c .before .before .before .before .if1 .taken)) (c .before .before .put-end .ensures)
+
+slice-aggregate-put-fault : tie.Need-slice-aggregate-put-fault
+slice-aggregate-put-fault c = search needs
+
+records-requires : tie.Need-records-requires
+records-requires c κs = search needs
 
 put-fault-requires : tie.Need-put-fault-requires
 put-fault-requires c κs = search needs
@@ -29,7 +34,7 @@ returns-2 : tie.Need-returns-2
 unfolding lastWords
 returns-2 c =
     let fault = c .before .before .before .before .before .before in
-    rw (ne-eqb _ 0 (fault .before .before .if1 .left)) (follows-more (fault .put-fault .ensures .0) (c .before .before .put-end2 .ensures))
+    rw (ne-eqb _ 0 (fault .before .before .before .before .if1 .left)) (follows-more (rw (fault .before .before .records .ensures) at (fault .put-fault .ensures .0)) (c .before .before .put-end2 .ensures))
 
 pub put-last-spec : {M : Type 1} → statement M
 put-last-spec =
@@ -38,6 +43,8 @@ put-last-spec =
     put-end-requires
     same-length
     returns
+    slice-aggregate-put-fault
+    records-requires
     put-fault-requires
     put-end-requires-2
     same-length-2

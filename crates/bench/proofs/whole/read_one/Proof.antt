@@ -1,13 +1,12 @@
 -- `bench::whole::read_one` meets its contract.
-use mathlib.Core.Path.{_≡_, ap}
+use mathlib.Core.Path.{ap}
 use mathlib.Core.Bool.{Bool, true, false, cond}
 use mathlib.Core.List.{_++_}
 use Prim.Native.Nat.{ℕ, _+_, _-_, _≤_}
 use native.Mathlib.Omega.{arith}
 use denote.Ref.{now}
 use lib.Dec.{eqb}
-use lib.ListN.{length, take, drop, length-append, length-drop, length-take}
-use lib.Seq.{take-at, length-take-le}
+use lib.ListN.{length, take, drop, length-take}
 use borrow.Author.Needs.{needs}
 use borrow.Author.Tests.{eq-eqb, ne-eqb}
 use Rattle.turns.specs.Run as run
@@ -16,7 +15,7 @@ use Rattle.bench.specs.declared.progress.Heard.the-variants.{Moved, Agai
 use Rattle.bench.specs.declared.whole.Input.the-variants as input
 use Rattle.bench.specs.Progress.{movedBy}
 use Rattle.bench.specs.Whole.{readBy, sizeOf}
-use Rattle.bench.proofs.Answers.{answer-of}
+use Rattle.bench.proofs.Answers.{kept-front, answer-of}
 use Rattle.bench.proofs.whole.read_one.Statement.{statement}
 use Rattle.bench.proofs.whole.read_one.Tie as tie
 
@@ -61,22 +60,9 @@ returns-2 c =
     let heard = read .read-some .result in
     let moved : filled + movedBy heard ≤ length place =
     omega (arith, read .read-some .ensures, length-take (length place - filled) (drop filled place), s .pre) in
-    let behind = read .read-some .last .0 ++ drop (length place - filled) (drop filled place) in
-    let after = take filled place ++ behind in
-    let part = drop filled place in
-    let same : length after ≡ length place =
-    omega (
-      arith,
-      length-append (take filled place) behind,
-      length-append (read .read-some .last .0) (drop (length place - filled) part),
-      length-take-le filled place (s .pre),
-      length-drop filled place,
-      length-drop (length place - filled) part,
-      length-take (length place - filled) part,
-      read .read-some .kept .0,
-      s .pre,
-    ) in
-    let a = answer-of place after filled heard (s .pre) (take-at (take filled place) behind filled (length-take-le filled place (s .pre))) (omega (arith, moved, same)) in
+    let after = take filled place ++ (read .read-some .last .0 ++ drop (length place - filled) (drop filled place)) in
+    let kept = kept-front place (read .read-some .last .0) filled (s .pre) (read .read-some .kept .0) in
+    let a = answer-of place after filled heard (s .pre) (kept .front) (omega (arith, moved, kept .same)) in
     record {
       reply = a .reply;
       is = rw (c .after-read .ensures, ne-eqb filled (length place) (e .if1 .left)) (a .is);

@@ -9,8 +9,9 @@ use lib.ListN.{length, take, drop, length-append}
 use borrow.Author.Needs.{needs}
 use Rattle.digits.specs.Room.{laid, put}
 use Rattle.digits.proofs.Room.{put-fits, put-inside, behind, put-after}
+use Rattle.lines.specs.Texts.{textFrom}
 use Rattle.record.specs.declared.form.Record.{Record}
-use Rattle.entry.specs.Form.{lineText, textFrom, entryText}
+use Rattle.entry.specs.Form.{lineText, entryText}
 use Rattle.entry.proofs.writing.put_entry.Statement.{statement}
 use Rattle.entry.proofs.writing.put_entry.Tie as tie
 
@@ -18,7 +19,7 @@ use Rattle.entry.proofs.writing.put_entry.Tie as tie
 record Left (number : ℕ) (r : Record) (before out : List ℕ) (at line : ℕ) : Type 0 where
   most : line ≤ 8
   earlier : List ℕ
-  whole : earlier ++ textFrom number (8 - line) line r ≡ entryText number r
+  whole : earlier ++ textFrom (lineText number) (8 - line) line r ≡ entryText number r
   done : laid at out ≡ put earlier before
 
 module _ (number : ℕ) (r : Record) (before out : List ℕ) (at line : ℕ) (left : Left number r before out at line) (h : line ≤ 7)
@@ -29,13 +30,13 @@ module _ (number : ℕ) (r : Record) (before out : List ℕ) (at line : ℕ) (le
 
   -- and those behind it
   abbrev later : List ℕ
-  later = textFrom number (8 - (line + 1)) (line + 1) r
+  later = textFrom (lineText number) (8 - (line + 1)) (line + 1) r
 
   -- together they are the entry
   parts : passed ++ later ≡ entryText number r
   parts =
       let k : suc (8 - (line + 1)) ≡ 8 - line = omega arith in
-      append-assoc (left .earlier) (lineText number line r) later ∙ ap (λ (i : ℕ). left .earlier ++ textFrom number i line r) k ∙ left .whole
+      append-assoc (left .earlier) (lineText number line r) later ∙ ap (λ (i : ℕ). left .earlier ++ textFrom (lineText number) i line r) k ∙ left .whole
 
   -- a line put
   one-more : (part : List ℕ) (n : ℕ) → laid n part ≡ put (lineText number line r) (take (length out - at) (drop at out))
@@ -112,7 +113,7 @@ returns c =
     let a = c .before .before .before .args in
     let none : 0 ≡ 8 - l .line = omega (arith, c .loop-test .left) in
     let all : l .inv .earlier ≡ entryText (a .number) (a .entry) =
-    sym (append-nil (l .inv .earlier)) ∙ ap (λ (k : ℕ). l .inv .earlier ++ textFrom (a .number) k (l .line) (a .entry)) none ∙ l .inv .whole in
+    sym (append-nil (l .inv .earlier)) ∙ ap (λ (k : ℕ). l .inv .earlier ++ textFrom (lineText (a .number)) k (l .line) (a .entry)) none ∙ l .inv .whole in
     l .inv .done ∙ ap (λ (x : List ℕ). put x (now (a .out))) all
 
 pub put-entry-spec : {M : Type 1} → statement M

@@ -3,16 +3,13 @@ use mathlib.Core.Path.{_≡_, sym, ap, _∙_}
 use mathlib.Core.Bool.{true, false}
 use mathlib.Core.List.{List}
 use Prim.Native.Nat.{ℕ}
-use native.Mathlib.Omega.{arith}
 use lib.Dec.{eqb}
 use borrow.Author.Needs.{needs}
 use borrow.Author.Tests.{eq-eqb, ne-eqb}
-use Rattle.sets.proofs.Rows.{row-sizes}
 use Rattle.record.specs.declared.form.Form.the-variants.{One}
 use Rattle.record.specs.declared.form.Record.{Record}
 use Rattle.record.specs.Form.{held, broken}
 use Rattle.record.proofs.Fields.{held-field}
-use Rattle.record.proofs.InForm.{in-form}
 use Rattle.judge.specs.declared.verdict.Ours.{Ours}
 use Rattle.judge.specs.Difference.{differ}
 use Rattle.judge.specs.Verdicts.{ourSealing, ourRounds, verdictOn, oursBy, oursOf}
@@ -56,7 +53,7 @@ found c = c .before .before .before .args .entry
 
 -- our own sealing of it
 ours : (c : tie.After-seal-record) → Parts (found c) (c .seal-record .result)
-ours c = parts-of _ _ (c .seal-record .ensures .0)
+ours c = parts-of _ _ (c .seal-record .ensures)
 
 returns-2 : tie.Need-returns-2
 unfolding verdictOn
@@ -77,7 +74,7 @@ abbrev ciphered : tie.After-fields-differ2 → tie.After-fields-differ
 ciphered c = c .before .before .before .before
 
 fields-differ-requires : tie.Need-fields-differ-requires
-fields-differ-requires c κs = let o = sealed (c .before .before) in (o .seal-record .ensures .1 .0, in-form One _ (sound (o .before)) .cipher)
+fields-differ-requires c κs = tt
 
 -- the rounds are the same
 rounds-same : (c : tie.Else2) → let r = found (sealed c) in eqb (r .rounds) (ourRounds r) ≡ true
@@ -96,9 +93,7 @@ returns-3 c =
     rw (sound (sealed equal .before), rounds-same equal, cipher-is (c .before) ∙ c .if3 .taken)
 
 fields-differ-requires-2 : tie.Need-fields-differ-requires-2
-fields-differ-requires-2 c κs =
-    let o = sealed (rounded (c .before .before .before)) in
-    (o .seal-record .ensures .1 .1, omega (arith, in-form One _ (sound (o .before)) .tag, row-sizes (found o .set) .key))
+fields-differ-requires-2 c κs = tt
 
 -- so is the tag
 tag-is : (c : tie.After-fields-differ2) → let r = found (sealed (rounded (ciphered c))) in differ (ourSealing r .tag) (held (r .tag)) ≡ c .fields-differ2 .result

@@ -128,17 +128,15 @@ returns c =
     let a = s .args in
     let z = sized s in
     let seal = sealed .seal in
-    let sized-ad = length-take-le (a .ad .size) (a .ad .bytes) (z .ad-inside) in (
-      ours-are (a .set) (held (a .key)) (held (a .nonce)) (held (a .ad)) (held (a .text)) _ _ (seal .result) (a .key .size) (a .text .size) (s .pre .0)
-          (length-take-le (a .key .size) (a .key .bytes) (z .key-inside))
-          (length-take-le (a .nonce .size) (a .nonce .bytes) (z .nonce-inside) ∙ s .pre .1 .1 .0 ∙ sym (s .pre .1 .0))
-          (s .pre .1 .0)
-          (length-take-le (a .text .size) (a .text .bytes) (z .text-inside))
-          (omega (arith, sized-ad, s .pre .1 .1 .1 .0))
-          (s .pre .1 .1 .1 .1)
-          (seal .ensures),
-      (s .pre .1 .1 .1 .1, omega (arith, z .key-short)),
-    )
+    let sized-ad = length-take-le (a .ad .size) (a .ad .bytes) (z .ad-inside) in
+    ours-are (a .set) (held (a .key)) (held (a .nonce)) (held (a .ad)) (held (a .text)) _ _ (seal .result) (a .key .size) (a .text .size) (s .pre .0)
+    (length-take-le (a .key .size) (a .key .bytes) (z .key-inside))
+    (length-take-le (a .nonce .size) (a .nonce .bytes) (z .nonce-inside) ∙ s .pre .1 .1 .0 ∙ sym (s .pre .1 .0))
+    (s .pre .1 .0)
+    (length-take-le (a .text .size) (a .text .bytes) (z .text-inside))
+    (omega (arith, sized-ad, s .pre .1 .1 .1 .0))
+    (s .pre .1 .1 .1 .1)
+    (seal .ensures)
 
 pub seal-fields-spec : {M : Type 1} → statement M
 seal-fields-spec =

@@ -12,14 +12,15 @@ use borrow.Author.Tests.{le-leb, lt-leb, ne-eqb}
 use Rattle.answers.specs.declared.Answer.the-variants.{Done}
 use Rattle.digits.specs.Room.{laid, put}
 use Rattle.digits.proofs.Room.{put-fits, put-inside, put-count, behind, put-after}
+use Rattle.lines.proofs.Texts.{text-snoc}
 use Rattle.record.specs.declared.form.Form.{Form}
 use Rattle.record.specs.declared.form.Record.{Record}
 use Rattle.record.specs.declared.writing.Writing.{Writing}
 use Rattle.record.specs.Form.{partAt, linesIn, keeps, broken, losesChip}
-use Rattle.record.specs.Text.{lineText, textFrom, textOf}
+use Rattle.record.specs.Text.{lineText, formLine, textFrom, textOf}
 use Rattle.record.specs.Calls.{writeLeaves, writeCall}
 use Rattle.record.proofs.Places.{few-lines}
-use Rattle.record.proofs.Chains.{text-snoc, textLeft, text-more, Sound, broken-rule}
+use Rattle.record.proofs.Chains.{textLeft, text-more, Sound, broken-rule}
 use Rattle.record.proofs.writing.write.Statement.{statement}
 use Rattle.record.proofs.writing.write.Tie as tie
 
@@ -52,7 +53,7 @@ module _ (form : Form) (r : Record) (before out : List ℕ) (last at line : ℕ)
       let put-two = put-after earlier here before out part at n (left .done) line-room e in
       let lines : textFrom form (line + 1 - 1) 1 r ≡ earlier ++ here =
       let k : line + 1 - 1 ≡ suc (line - 1) = omega (arith, left .first) in
-      ap (λ (i : ℕ). textFrom form i 1 r) k ∙ text-snoc form (line - 1) 1 line r (omega (arith, left .first)) in
+      ap (λ (i : ℕ). textFrom form i 1 r) k ∙ text-snoc (formLine form) (line - 1) 1 line r (omega (arith, left .first)) in
       let count : at + n ≡ length (earlier ++ here) = put-count _ before _ (at + n) put-two line-room .0 in
       record {
         count = left .count;

@@ -1,0 +1,9 @@
+-- Laws of replaying a log.
+pub mod Held
+pub mod Places
+pub mod Stretches
+pub mod Windows
+pub mod Gives
+pub mod Compared
+pub mod Agrees
+pub mod Laws
