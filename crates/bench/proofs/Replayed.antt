@@ -285,6 +285,39 @@ verdict-whole replies log l none told-so = verdict-from replies (l .rest) laws.b
 
 -- ---- the end, and a failed read
 
+-- an answer that is the end of the log leaves nothing to go on
+end-heard : (f : SoFar) (reply : Reply) → isOpen (f .verdict) ≡ true → isEnd reply ≡ true → goesOn (heardBy f reply) ≡ false
+end-heard f (run.Came bytes) still is =
+    subst (λ (t : Bool). goesOn (counted f (onward t f bytes)) ≡ false) (sym is)
+    (subst (λ (x : List ℕ). goesOn (counted f (onward true f x)) ≡ false) (sym (no-bytes bytes is)) (by-count (ltb (onward true f [] .entries) largest)))
+  where
+    by-count : (t : Bool) → goesOn (cond t (going (onward true f []) fault.None) (going f fault.TooMany)) ≡ false
+    by-count true = end-told f still
+    by-count false = refl
+end-heard f (run.Took n) still is = absurd (false≢true is)
+end-heard f run.Again still is = absurd (false≢true is)
+end-heard f run.Failed still is = absurd (false≢true is)
+
+-- at the end of the log the replay is over
+end-over : (replies : List Reply) (g : Going) → endTold g replies ≡ true → goesOn (replayedOn g replies) ≡ false
+end-over [] g e = absurd (false≢true e)
+end-over (reply ∷ replies) g e = by-goes (goesOn g) refl (end-over replies)
+  where
+    by-goes : (t : Bool) → goesOn g ≡ t → ((h : Going) → endTold h replies ≡ true → goesOn (replayedOn h replies) ≡ false) → goesOn (replayedOn g (reply ∷ replies)) ≡ false
+    by-goes true on behind = by-end (isEnd reply) refl
+      where
+        same : further g reply ≡ heardBy (g .so-far) reply
+        same = ap (λ (t : Bool). cond t (heardBy (g .so-far) reply) g) on
+
+        by-end : (t : Bool) → isEnd reply ≡ t → goesOn (replayedOn g (reply ∷ replies)) ≡ false
+        by-end true is =
+            let over : goesOn (further g reply) ≡ false = ap goesOn same ∙ end-heard (g .so-far) reply (both (isNone (g .fault)) (isOpen (g .so-far .verdict)) on .1) is in
+            ap goesOn (stays (further g reply) replies over) ∙ over
+        by-end false is =
+            let later : Bool = endTold (further g reply) replies in
+            behind (further g reply) (sym (ap (λ (b : Bool). b || later) is) ∙ sym (ap (λ (b : Bool). b && (isEnd reply || later)) on) ∙ e)
+    by-goes false off behind = ap goesOn (stays g (reply ∷ replies) off) ∙ off
+
 -- a window of a log that goes on never agrees
 window-other : (f : SoFar) (window : List ℕ) → (f .verdict ≡ Agrees → ⊥) → onward false f window .verdict ≡ Agrees → ⊥
 unfolding replayed
@@ -295,7 +328,7 @@ window-other f window other = go (isOpen (f .verdict))
     go false = other
 
 -- so an answer that leads to agreement is the end of the log
-heard-end : (f : SoFar) (reply : Reply) → (f .verdict ≡ Agrees → ⊥) → (isEnd reply ≡ true) ⊎ (heardBy f reply .so-far .verdict ≡ Agrees → ⊥)
+pub heard-end : (f : SoFar) (reply : Reply) → (f .verdict ≡ Agrees → ⊥) → (isEnd reply ≡ true) ⊎ (heardBy f reply .so-far .verdict ≡ Agrees → ⊥)
 heard-end f (run.Came bytes) other = by-size (eqb (length bytes) 0) refl
   where
     by-count : (t : Bool) → cond t (going (onward false f bytes) fault.None) (going f fault.TooMany) .so-far .verdict ≡ Agrees → ⊥
@@ -353,7 +386,7 @@ failed-read before after e =
     ∙ stays (going (g .so-far) fault.Reading) after refl)
 
 -- an open verdict is no agreement
-open-other : Open ≡ Agrees → ⊥
+pub open-other : Open ≡ Agrees → ⊥
 open-other e = true≢false (ap isOpen e)
 
 -- all of it
@@ -362,11 +395,14 @@ unfolding reportWords endLine faultLine numbered numeral places
 replays-input =
     record {
       verdict = verdict-whole;
+      ends = λ replies. end-over replies begun;
       at-end = λ replies. agreed-end replies begun open-other;
       failure = failed-read;
       agreed = refl;
       empty = refl;
-      differs = refl;
+      other-answer = refl;
+      other-rounds = refl;
+      other-out = refl;
       unread = refl;
       fault = refl;
       done = refl;

@@ -1,14 +1,19 @@
 -- The contracts of the program's functions rule out wrong versions.
 use mathlib.Core.Path.{_≡_, sym, ap, _∙_}
-use mathlib.Core.Bool.{true≢false}
-use mathlib.Core.List.{List}
+use mathlib.Core.Bool.{true, false, true≢false, false≢true}
+use mathlib.Core.List.{List, [], _∷_}
+use mathlib.Core.Logic.{_⊎_, inl, inr}
 use native.Mathlib.Omega.{arith}
 use Prim.Native.Nat.{ℕ}
 use base.Fml.{Lft}
 use denote.Ref.{RefT}
 use Rattle.turns.specs.declared.Tally.{Tally}
 use Rattle.bench.specs.declared.progress.Progress.{Progress}
-use Rattle.bench.specs.Wrong.{RuledOut}
+use Rattle.replay.specs.declared.window.Verdict.the-variants.{Agrees}
+use Rattle.turns.specs.Run as run
+use Rattle.bench.specs.Replays.{Going, heardBy, soFar}
+use Rattle.bench.specs.Wrong.{beginning, RuledOut}
+use Rattle.bench.proofs.Replayed.{heard-end, open-other}
 use Rattle.bench.proofs.progress.hear.Reads as hear
 use Rattle.bench.proofs.progress.after_read.Reads as after-read
 use Rattle.bench.proofs.tally.counted.Reads as counted
@@ -17,10 +22,20 @@ use Rattle.bench.proofs.whole.after_write.Reads as write-whole
 use Rattle.bench.proofs.decimal.read.Reads as read-decimal
 use Rattle.bench.proofs.task_of.Reads as task-of
 use Rattle.bench.proofs.replays.entry_of.Reads as entry-of
+use Rattle.bench.proofs.replays.after_read.Reads as read-log
 
 -- a list, lent from some place
 abbrev lent : List ℕ → RefT (List ℕ)
 lent x = record { ptr = (0, 0); name = 0; now = x }
+
+-- one byte of a log does not make it agree
+one-byte : heardBy (soFar beginning (0x63 ∷ [])) (run.Came (0x63 ∷ [])) .so-far .verdict ≡ Agrees → ⊥
+one-byte = go (heard-end (soFar beginning (0x63 ∷ [])) (run.Came (0x63 ∷ [])) open-other)
+  where
+    go : (false ≡ true) ⊎ (heardBy (soFar beginning (0x63 ∷ [])) (run.Came (0x63 ∷ [])) .so-far .verdict ≡ Agrees → ⊥)
+        → heardBy (soFar beginning (0x63 ∷ [])) (run.Came (0x63 ∷ [])) .so-far .verdict ≡ Agrees → ⊥
+    go (inl e) = absurd (false≢true e)
+    go (inr other) = other
 
 -- each by the contract as the kit reads it off the source
 pub ruled-out : (one two : Lft) → RuledOut (λ count error r. hear.Learnt tt (count, (error, tt)) r (count, (error, tt)))
@@ -31,6 +46,7 @@ pub ruled-out : (one two : Lft) → RuledOut (λ count error r. hear.Learnt tt (
     (λ text r. read-decimal.Learnt (one, tt) (lent text, tt) r (lent text, tt))
     (λ words word set r. task-of.Learnt (one, (two, tt)) (words, (lent word, (lent set, tt))) r (words, (lent word, (lent set, tt))))
     (λ agreed verdict r. entry-of.Learnt tt (agreed, (verdict, tt)) r (agreed, (verdict, tt)))
+    (λ state buffer heard r after. read-log.Learnt (one, tt) (lent buffer, (state, (heard, tt))) r (lent after, (state, (heard, tt))))
 ruled-out one two =
     record {
       signal = λ allowed. let z : _≡_ {A = ℕ} 0 1 = cc allowed in omega arith;
@@ -60,4 +76,6 @@ ruled-out one two =
       task-replay-more = λ allowed. let z : _≡_ {A = ℕ} 0 1 = cc allowed in omega arith;
       entry-zero = λ allowed. let z : _≡_ {A = ℕ} 0 1 = allowed in omega arith;
       entry-agreed = λ allowed. let z : _≡_ {A = ℕ} 3 2 = allowed in omega arith;
+      log-failure = λ r after allowed agrees. open-other (sym (ap (λ (g : Going). g .so-far .verdict) (allowed .is)) ∙ agrees);
+      log-end = λ r after allowed agrees. one-byte (sym (ap (λ (g : Going). g .so-far .verdict) (allowed .is)) ∙ agrees);
     }

@@ -17,6 +17,8 @@ use Rattle.replay.specs.Laws as laws
 use Rattle.turns.specs.Run as run
 use Rattle.turns.specs.Run.{Reply}
 use Rattle.turns.specs.Tallies.{largest, numbered, faultLine}
+use Rattle.bench.specs.declared.progress.Heard.{Heard}
+use Rattle.bench.specs.declared.progress.Heard.the-variants.{Moved, Again, Failed}
 use Rattle.bench.specs.declared.replays.Fault.{Fault}
 use Rattle.bench.specs.declared.replays.Fault.the-variants as fault
 use Rattle.bench.specs.declared.replays.Replaying.{Replaying}
@@ -152,7 +154,19 @@ pub record HeardBytes (r : Replaying) (before : List ℕ) (count : ℕ) (s : Rep
   pub room : isRunning s ≡ true → s .left < mostBytes
   pub number : s .entries < largest
 
--- one answer
+-- what the answer to a read says, of a buffer that it came into behind what is left
+abbrev pub replyOf : ℕ → List ℕ → Heard → Reply
+replyOf left buffer (Moved count) = run.Came (take count (drop left buffer))
+replyOf left buffer Again = run.Again
+replyOf left buffer Failed = run.Failed
+
+-- this answer
+pub record HeardAs (r : Replaying) (before : List ℕ) (heard : Heard) (s : Replaying) (after : List ℕ) : Type 0 where
+  pub is : shown s after ≡ heardBy (soFar r before) (replyOf (r .left) before heard)
+  pub room : isRunning s ≡ true → s .left < mostBytes
+  pub number : s .entries < largest
+
+-- some answer
 pub record HeardOne (r : Replaying) (before : List ℕ) (s : Replaying) (after : List ℕ) : Type 0 where
   pub reply : Reply
   pub is : shown s after ≡ heardBy (soFar r before) reply
@@ -172,14 +186,18 @@ pub record ReplaysInput : Type 0 where
   -- a verdict that is told is that of the whole log that the answers come from, and so is the number of its entry
   pub verdict : (replies : List Reply) (log : List ℕ) → LogOf replies log → let g = replayedOn begun replies in
       g .fault ≡ fault.None → isOpen (g .so-far .verdict) ≡ false → told (g .so-far .entries) (g .so-far .verdict) ≡ replayOf log
+  -- at the end of the log it does not go on: a verdict is told, or something keeps it from one
+  pub ends : (replies : List Reply) → endTold begun replies ≡ true → goesOn (replayedOn begun replies) ≡ false
   -- all agree is told only where the end of the log was
   pub at-end : (replies : List Reply) → replayedOn begun replies .so-far .verdict ≡ Agrees → endTold begun replies ≡ true
   -- a read that fails before a verdict is told leaves none
   pub failure : (before after : List Reply) → goesOn (replayedOn begun before) ≡ true → replayedOn begun (before ++ run.Failed ∷ after) .fault ≡ fault.Reading
-  -- the words, spelled out: all agree, an empty log, a difference, an entry that is unread
+  -- the words, spelled out: all agree, an empty log, each difference, an entry that is unread
   pub agreed : reportWords 3 Agrees ≡ ascii "entry=3\nverdict=agrees\nfield=none\n"
   pub empty : reportWords 0 Agrees ≡ ascii "entry=0\nverdict=agrees\nfield=none\n"
-  pub differs : reportWords 2 Out ≡ ascii "entry=2\nverdict=differs\nfield=out\n"
+  pub other-answer : reportWords 1 Answer ≡ ascii "entry=1\nverdict=differs\nfield=answer\n"
+  pub other-rounds : reportWords 4 Rounds ≡ ascii "entry=4\nverdict=differs\nfield=rounds\n"
+  pub other-out : reportWords 2 Out ≡ ascii "entry=2\nverdict=differs\nfield=out\n"
   pub unread : reportWords 3 (Unread 2 9) ≡ ascii "entry=3\nverdict=unread\nfield=2\n"
   pub fault : lastWords 3 (Unread 2 9) ≡ ascii "bench: entry 3: line 2, column 9\nbench: done: entries=3\n"
   pub done : lastWords 3 Agrees ≡ ascii "bench: done: entries=3\n"

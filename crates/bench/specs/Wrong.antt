@@ -1,6 +1,6 @@
 -- Wrong versions of the program's functions, each told by one input: what its contracts do not allow.
 use mathlib.Core.Bool.{true}
-use mathlib.Core.List.{List, []}
+use mathlib.Core.List.{List, [], _∷_}
 use mathlib.Core.Path.{_≡_}
 use Prim.Native.Nat.{ℕ}
 use lib.IntN.{ℤ, pos, negsuc}
@@ -8,15 +8,18 @@ use Rattle.digits.specs.Ascii.{ascii}
 use Rattle.moving.specs.declared.route.Route.{Route}
 use Rattle.moving.specs.declared.route.Route.the-variants.{Import, Export}
 use Rattle.replay.specs.declared.window.Verdict as replay
-use Rattle.replay.specs.declared.window.Verdict.the-variants.{Agrees, Answer}
+use Rattle.replay.specs.declared.window.Verdict.the-variants.{Agrees, Answer, Open}
 use Rattle.report.specs.declared.Verdict.{Verdict}
 use Rattle.report.specs.declared.Verdict.the-variants.{Tag, Unread}
+use Rattle.stream.specs.State.{ended}
 use Rattle.turns.specs.declared.Stage.the-variants.{Close}
 use Rattle.turns.specs.declared.Tally.{Tally}
 use Rattle.turns.specs.Tallies.{none}
 use Rattle.bench.specs.declared.progress.Heard.{Heard}
 use Rattle.bench.specs.declared.progress.Heard.the-variants.{Moved, Again, Failed}
 use Rattle.bench.specs.declared.progress.Progress.{Progress}
+use Rattle.bench.specs.declared.replays.Fault.the-variants.{None}
+use Rattle.bench.specs.declared.replays.Replaying.{Replaying}
 use Rattle.bench.specs.declared.whole.Input.{Input}
 use Rattle.bench.specs.declared.whole.Input.the-variants as input
 use Rattle.bench.specs.declared.whole.Output.{Output}
@@ -27,13 +30,17 @@ use Rattle.bench.specs.declared.Task.{Task}
 use Rattle.bench.specs.declared.Task.the-variants.{Judge, Move, Replay, Unknown}
 use Rattle.bench.specs.Progress.{fresh}
 
+-- a replay before its first read
+abbrev pub beginning : Replaying
+beginning = record { left = 0; entries = 0; stream = ended; verdict = Open; fault = None }
+
 -- of the results that contracts allow: of hearing a raw answer, of an answer to a read, of counting a verdict; where all of the input is read first, of an answer to a
--- read and to a write; of reading a decimal, and of the program's words; of the number of a log's entry
+-- read and to a write; of reading a decimal, and of the program's words; of the number of a log's entry, and of an answer to a read of a log
 pub record RuledOut
     (hears : ℤ → ℤ → Heard → Type 0) (reads : Progress → Heard → Progress → Type 0) (counts : Tally → Verdict → Tally → Type 0)
     (inputs : ℕ → Heard → Input → Type 0) (outputs : ℕ → Heard → Output → Type 0)
     (decimals : List ℕ → Decimal → Type 0) (tasks : ℕ → List ℕ → List ℕ → Task → Type 0)
-    (numbers : ℕ → replay.Verdict → ℕ → Type 0)
+    (numbers : ℕ → replay.Verdict → ℕ → Type 0) (replays : Replaying → List ℕ → Heard → Replaying → List ℕ → Type 0)
     : Type 0 where
   -- a call that failed with another error than a signal's is not tried again
   pub signal : hears (negsuc 0) (pos 5) Again → ⊥
@@ -79,3 +86,6 @@ pub record RuledOut
   -- the entries of a log are not counted from 0; where all agree, there is none more
   pub entry-zero : numbers 0 Answer 0 → ⊥
   pub entry-agreed : numbers 2 Agrees 3 → ⊥
+  -- a failed read of a log is not its end, nor is one that brought a byte
+  pub log-failure : (r : Replaying) (after : List ℕ) → replays beginning [] Failed r after → r .verdict ≡ Agrees → ⊥
+  pub log-end : (r : Replaying) (after : List ℕ) → replays beginning (0x63 ∷ []) (Moved 1) r after → r .verdict ≡ Agrees → ⊥

@@ -8,7 +8,8 @@ ghost use Rattle.replay.specs.Replays.{told};
 ghost use Rattle.replay.specs.Laws.{isOpen};
 ghost use Rattle.turns.specs.Tallies.{largest};
 ghost use Rattle.bench.specs.Lines.{Follows};
-ghost use Rattle.bench.specs.Replays.{isNone, isRunning, withFault, stretched, HeardBytes, HeardOne, ReplayedAll, verdictWords, reportWords, endLine, lastWords};
+ghost use Rattle.bench.specs.Progress.{movedBy};
+ghost use Rattle.bench.specs.Replays.{isNone, isRunning, withFault, stretched, HeardBytes, HeardAs, HeardOne, ReplayedAll, verdictWords, reportWords, endLine, lastWords};
 use crate::progress::Heard;
 use crate::tally;
 use crate::whole;
@@ -100,7 +101,7 @@ fn behind(state: Replaying, filled: usize, stretch: Stretch) -> Replaying
     }
 }
 
-// Replays what is left and so many bytes behind it, of which none is the end of the log, and moves what is left then to the front of the buffer.
+// Replays what is left and so many bytes behind it, where no byte is the end of the log, and moves what is left then to the front of the buffer.
 fn replay_bytes(buffer: &mut [u8], state: Replaying, count: usize) -> Replaying
     requires { ⌜ state .left + count ≤ length (now buffer) ⌝ }
     requires { ⌜ isRunning state ≡ true ⌝ }
@@ -117,6 +118,21 @@ fn replay_bytes(buffer: &mut [u8], state: Replaying, count: usize) -> Replaying
     behind(state, filled, stretch)
 }
 
+// What the answer to a read behind what is left makes of the replay: bytes are replayed, and none is the end of the log; a signal changes nothing; a failure is no end.
+pub(crate) fn after_read(buffer: &mut [u8], state: Replaying, heard: Heard) -> Replaying
+    requires { ⌜ state .left + movedBy heard ≤ length (now buffer) ⌝ }
+    requires { ⌜ state .left < mostBytes ⌝ }
+    requires { ⌜ isRunning state ≡ true ⌝ }
+    requires { ⌜ state .entries < largest ⌝ }
+    ensures { λ r. ⌜ HeardAs state (now (buffer .entry)) heard r (now (buffer .exit)) ⌝ }
+{
+    match heard {
+        Heard::Moved(count) => replay_bytes(buffer, state, count),
+        Heard::Again => state,
+        Heard::Failed => at_fault(state, Fault::Reading),
+    }
+}
+
 // One read behind what is left, and the replay of what it brought.
 fn replay_more(buffer: &mut [u8], state: Replaying) -> Replaying
     requires { ⌜ mostBytes < length (now buffer) ⌝ }
@@ -126,11 +142,8 @@ fn replay_more(buffer: &mut [u8], state: Replaying) -> Replaying
     ensures { λ r. ⌜ HeardOne state (now (buffer .entry)) r (now (buffer .exit)) ⌝ }
 {
     let left = state.left;
-    match crate::read_some(&mut buffer[left..]) {
-        Heard::Moved(count) => replay_bytes(buffer, state, count),
-        Heard::Again => state,
-        Heard::Failed => at_fault(state, Fault::Reading),
-    }
+    let heard = crate::read_some(&mut buffer[left..]);
+    after_read(buffer, state, heard)
 }
 
 // Replays the log on standard input, read by read, until a verdict is told. Its turns are counted down from a number that no run uses up.

@@ -6,3 +6,4 @@ pub mod Windows
 pub mod Sizes
 pub mod Outputs
 pub mod Laws
+pub mod Returned

@@ -29,10 +29,11 @@ wordOf Ad = ascii "ad"
 wordOf Text = ascii "text"
 wordOf Finish = ascii "finish"
 
--- what its data may be: key and nonce of the set; at most 256 bytes; nothing
+-- the data of a start in a set: its key and its nonce
 abbrev pub startData : ℕ → Value
 startData set = Bytes (2 * rowOf set .key) (2 * rowOf set .key) Lower
 
+-- what the data of a call may be: that, at most 256 bytes, or nothing
 abbrev pub dataKind : Call → Value
 dataKind Start1 = startData 1
 dataKind Start2 = startData 2
@@ -81,6 +82,6 @@ lineText line e = cond (eqb line 1) (lineOf (ascii "call=") (wordOf (e .call))) 
 unfoldable pub entryText : Entry → List ℕ
 entryText e = textFrom lineText 5 1 e
 
--- the entry of a start with nothing in it
+-- what a refusal hands back: the entry of a start with nothing in it
 unfoldable pub blank : Entry
 blank = record { call = Start1; input = fieldOf []; answer = 0; out = fieldOf []; rounds = 0 }

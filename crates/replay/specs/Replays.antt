@@ -37,18 +37,18 @@ stepOn s e taken =
     let g = fed s (e .call) (held (e .input)) in
     record { verdict = compared g e; taken = taken; next = g .next }
 
--- a text that is no entry: nothing is told yet where it ended too early and the log has not ended; else it is unread
+-- a text that is no entry: nothing is told yet where it ended too early and the log goes on; else it is unread
 abbrev pub unreadOf : Bool → Reading → Verdict
-unreadOf ended reading = cond (not ended && reading .early) Open (Unread (reading .line) (reading .column))
+unreadOf over reading = cond (not over && reading .early) Open (Unread (reading .line) (reading .column))
 
 -- what was read at the beginning of a text
 unfoldable pub stepBy : Bool → Stream → Reading → Step
-stepBy ended s reading =
-    cond (isDone (reading .answer)) (stepOn s (reading .content) (reading .taken)) (record { verdict = unreadOf ended reading; taken = 0; next = s })
+stepBy over s reading =
+    cond (isDone (reading .answer)) (stepOn s (reading .content) (reading .taken)) (record { verdict = unreadOf over reading; taken = 0; next = s })
 
 -- the entry that a text begins with
 abbrev pub stepOf : Bool → Stream → List ℕ → Step
-stepOf ended s text = stepBy ended s (readEntry text)
+stepOf over s text = stepBy over s (readEntry text)
 
 -- ---- entry after entry
 
@@ -60,9 +60,9 @@ isAgreed Rounds = false
 isAgreed (Unread line column) = false
 isAgreed Open = false
 
--- where no byte is left, the log agrees if it has ended
+-- where no byte is left, the log agrees if it is over
 abbrev pub atEnd : Bool → Verdict
-atEnd ended = cond ended Agrees Open
+atEnd over = cond over Agrees Open
 
 -- no entry agreed
 abbrev pub stopped : Stream → Verdict → Stretch
@@ -72,17 +72,17 @@ stopped s verdict = record { entries = 0; taken = 0; stream = s; verdict = verdi
 abbrev pub further : ℕ → Stretch → Stretch
 further taken r = record { entries = suc (r .entries); taken = taken + r .taken; stream = r .stream; verdict = r .verdict }
 
--- at most so many entries of a text, from a state: an entry that agrees goes on, and any other verdict stops
+-- at most so many entries of a text, from a state: an entry that agrees goes on, and any other verdict stops. Too few are never agreement
 abbrev pub stretchIn : ℕ → Bool → Stream → List ℕ → Stretch
-stretchIn zero ended s text = stopped s (atEnd ended)
-stretchIn (suc most) ended s text =
-    cond (eqb (length text) 0) (stopped s (atEnd ended))
-    (let step = stepOf ended s text in
-    cond (isAgreed (step .verdict)) (further (step .taken) (stretchIn most ended (step .next) (drop (step .taken) text))) (stopped s (step .verdict)))
+stretchIn zero over s text = stopped s (cond (eqb (length text) 0) (atEnd over) Open)
+stretchIn (suc most) over s text =
+    cond (eqb (length text) 0) (stopped s (atEnd over))
+    (let step = stepOf over s text in
+    cond (isAgreed (step .verdict)) (further (step .taken) (stretchIn most over (step .next) (drop (step .taken) text))) (stopped s (step .verdict)))
 
 -- the entries of a text, which has no more of them than bytes
 unfoldable pub stretchOf : Bool → Stream → List ℕ → Stretch
-stretchOf ended s text = stretchIn (length text) ended s text
+stretchOf over s text = stretchIn (length text) over s text
 
 -- ---- a whole log
 

@@ -1,4 +1,4 @@
-// A log's bytes and the place in them, kept together, and thin functions over them. Each takes the two apart and leaves the work to a function on a slice and a number.
+// A log's bytes and the place in them, kept together, and thin functions over them. Those that read take the two apart and leave the work to a function on a slice and a number.
 ghost use mathlib.Core.Path.{_≡_};
 ghost use lib.ListN.{drop};
 ghost use Rattle.log.specs.Calls.{readEntry};

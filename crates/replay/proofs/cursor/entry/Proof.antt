@@ -41,7 +41,8 @@ use Rattle.log.specs.declared.reading.Reading.{Reading}
 use Rattle.log.proofs.reading.Reading as R
 use Rattle.log.proofs.reading.Reading.Laws as R′
 use Rattle.replay.specs.declared.cursor.Log.{Log}
-use Rattle.replay.proofs.Held.{Held, Struct, laws, log-vals, Parts, opened, returned}
+use Rattle.judge.proofs.Returned.{returned}
+use Rattle.replay.proofs.Held.{Held, Struct, laws, log-vals, Parts, opened}
 use Rattle.replay.proofs.window.entry_at as entry-at
 use Rattle.replay.proofs.window.entry_at.Symbol as entry-at-code
 use Rattle.replay.proofs.window.entry_at.Met as entry-at-proof

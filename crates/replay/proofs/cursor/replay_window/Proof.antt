@@ -48,7 +48,8 @@ use Rattle.replay.proofs.cursor.Log as T
 use Rattle.replay.proofs.cursor.Log.Laws as T′
 use Rattle.replay.proofs.window.Stretch as R
 use Rattle.replay.proofs.window.Stretch.Laws as R′
-use Rattle.replay.proofs.Held.{Held, Bytes, bytes-slot, others-stayed, others-go, stream-vals, returned}
+use Rattle.judge.proofs.Returned.{returned}
+use Rattle.replay.proofs.Held.{Held, Bytes, bytes-slot, others-stayed, others-go, stream-vals}
 use Rattle.replay.proofs.cursor.open as opening
 use Rattle.replay.proofs.cursor.open.Symbol as opening-code
 use Rattle.replay.proofs.cursor.open.Met as opening-proof

@@ -46,7 +46,8 @@ use Rattle.replay.specs.declared.window.Stretch.{Stretch}
 use Rattle.replay.specs.Replays.{stretchOf}
 use Rattle.replay.proofs.window.Stretch as R
 use Rattle.replay.proofs.window.Stretch.Laws as R′
-use Rattle.replay.proofs.Held.{Held, Struct, laws, log-vals, Parts, opened, others-stayed, others-go, stream-vals, returned}
+use Rattle.judge.proofs.Returned.{returned}
+use Rattle.replay.proofs.Held.{Held, Struct, laws, log-vals, Parts, opened, others-stayed, others-go, stream-vals}
 use Rattle.replay.proofs.window.stretch_at as stretch-at
 use Rattle.replay.proofs.window.stretch_at.Symbol as stretch-at-code
 use Rattle.replay.proofs.window.stretch_at.Met as stretch-at-proof
