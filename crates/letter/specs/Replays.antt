@@ -124,7 +124,7 @@ pub record IsRead (text : List ℕ) (reading : Reading) : Type 0 where
   pub spelled : take (reading .taken) text ≡ entryText (reading .content)
   pub in-form : InForm (reading .content)
 
--- the answer's number of a verdict, in paper 01's list, and the line and column that go with it: an unread entry is 10; any other verdict is an answer that was given, 0
+-- the answer of a replay that tells a verdict, in paper 01's list, and the line and column that go with it: an unread entry is 10; any other verdict means that the replay was done, 0
 abbrev pub answerOf : Verdict → answers.Answer
 answerOf Agrees = Done
 answerOf Answer = Done

@@ -1,6 +1,5 @@
 -- The contracts rule out the wrong answers of the calls that read and replay a chip's log: each is computed in the checker, or follows from a law.
 use mathlib.Core.Path.{_≡_, sym, ap, _∙_}
-use mathlib.Core.Bool.{true, false, true≢false}
 use mathlib.Core.List.{List}
 use Prim.Native.Nat.{ℕ}
 use native.Mathlib.Omega.{arith}
@@ -30,11 +29,9 @@ use Rattle.stream.specs.Calls.{pieceTest, textTest, finishTest, filledRounds, c
 use Rattle.replay.specs.declared.cursor.Log.{Log}
 use Rattle.replay.specs.declared.whole.Conclusion.{Conclusion}
 use Rattle.replay.specs.declared.window.Stretch.{Stretch}
-use Rattle.replay.specs.declared.window.Verdict.{Verdict}
 use Rattle.replay.specs.declared.window.Verdict.the-variants.{Agrees, Answer, Out, Rounds, Unread, Open}
 use Rattle.replay.specs.Feeding.{started, sealedPiece, finished}
-use Rattle.replay.specs.Replays.{isAgreed, compared, stepOn, stepOf, stretchOf, replayOf, stepBy}
-use Rattle.replay.proofs.Stretches.{by-entries}
+use Rattle.replay.specs.Replays.{compared, stepOn, stepOf, stretchOf, replayOf, stepBy}
 use Rattle.replay.proofs.Laws.{replays}
 use Rattle.letter.specs.Replays.{lineOf}
 use Rattle.letter.specs.Wrong.Replays.{Wrong}
@@ -46,31 +43,21 @@ place text r refused p =
     reads-log .refused text (r .line) (r .column) .0
     (sym (ap (λ (q : Reading). q .answer) p) ∙ refused, sym (ap (λ (q : Reading). q .line) p), sym (ap (λ (q : Reading). q .column) p))
 
--- a verdict that does not agree is not agreement
-other-verdict : (verdict : Verdict) → isAgreed verdict ≡ false → verdict ≡ Agrees → ⊥
-other-verdict verdict other e = true≢false (sym (ap isAgreed e) ∙ other)
-
--- while the log goes on, no window agrees
-goes-on : (s : Stream) (window : List ℕ) → stretchOf false s window .verdict ≡ Agrees → ⊥
-goes-on =
-    by-entries false (λ s window r. r .verdict ≡ Agrees → ⊥) (λ s e. off (cc e)) (λ s window some stop. other-verdict _ stop) (λ s window r agreed later. later)
-
 pub wrong : Wrong
 unfolding readEntry refusedAt readAs readCall readLine fieldIn given kindAt callKind blank readOf steps.stepOf nameStep feedStep valueStep named fieldOf digitIn replayOf stretchOf stepBy stepOn compared started sealedPiece finished startTest startCall adCall textCall tookText finishCall textWords pieceTest textTest finishTest filledRounds closingRounds isSound isSoundOpen isSoundEnded absorbed sponge.given adClosed tagOf rowOf table isSet roundsOf constantsOf constants finalise separate initialise firstBlock p permute rounds round diffuse Σ₀ Σ₁ Σ₂ Σ₃ Σ₄ _⋙_ substitute substituted column fromBits bit sBox addConstant stringOf stateOf bytesOf valueOf
 wrong = record {
-  log-call = λ line column early other κ e p. other (ap (λ (x : Reading). x .line) p) (ap (λ (x : Reading). x .column) p);
-  log-finish = λ line column early other κ e p. other (ap (λ (x : Reading). x .line) p) (ap (λ (x : Reading). x .column) p);
-  log-finish-read = λ taken entry κ e p. let answer : Done ≡ BrokenRecord = ap (λ (x : Reading). x .answer) p in off (cc answer);
-  log-start2 = λ line column early other κ e p. other (ap (λ (x : Reading). x .line) p) (ap (λ (x : Reading). x .column) p);
-  log-start1 = λ line column early other κ e p. other (ap (λ (x : Reading). x .line) p) (ap (λ (x : Reading). x .column) p);
+  log-call = λ r other κ e p. other p;
+  log-finish = λ r other κ e p. other p;
+  log-start2 = λ r other κ e p. other p;
+  log-start1 = λ r other κ e p. other p;
   log-most = λ line column early κ e p. let answer : BrokenRecord ≡ Done = ap (λ (x : Reading). x .answer) p in off (cc answer);
-  log-long = λ line column early other κ e p. other (ap (λ (x : Reading). x .line) p) (ap (λ (x : Reading). x .column) p);
-  log-upper = λ line column early other κ e p. other (ap (λ (x : Reading). x .line) p) (ap (λ (x : Reading). x .column) p);
-  log-zeros = λ line column early other κ e p. other (ap (λ (x : Reading). x .line) p) (ap (λ (x : Reading). x .column) p);
-  log-digits = λ line column early other κ e p. other (ap (λ (x : Reading). x .line) p) (ap (λ (x : Reading). x .column) p);
-  log-order = λ line column early other κ e p. other (ap (λ (x : Reading). x .line) p) (ap (λ (x : Reading). x .column) p);
-  log-cut = λ κ e p. off (cc (ap (λ (x : Reading). x .early) p));
-  log-behind = λ taken entry other κ e p. other (ap (λ (x : Reading). x .taken) p);
+  log-long = λ r other κ e p. other p;
+  log-upper = λ r other κ e p. other p;
+  log-zeros = λ r other κ e p. other p;
+  log-digits = λ r other κ e p. other p;
+  log-order = λ r other κ e p. other p;
+  log-cut = λ r other κ e p. other p;
+  log-behind = λ r other κ e p. other (ap (λ (x : Reading). x .taken) p);
   log-line-nought = λ text r refused none κ e p. absurd (omega (arith, place text r refused p .first));
   log-column-nought = λ text r refused none κ e p. absurd (omega (arith, place text r refused p .wrong .first));
   open-place = λ bytes r other κ e p. other (ap (λ (x : Log). x .place) p);
@@ -86,25 +73,27 @@ wrong = record {
   replay-broken-last = λ entry line column κ e p. let verdict : Unread line column ≡ Answer = ap (λ (x : Conclusion). x .verdict) p in off (cc verdict);
   replay-rounds-first = λ entry κ e p. let verdict : Rounds ≡ Out = ap (λ (x : Conclusion). x .verdict) p in off (cc verdict);
   replay-out-first = λ entry κ e p. let verdict : Out ≡ Answer = ap (λ (x : Conclusion). x .verdict) p in off (cc verdict);
+  replay-out = λ r other κ e p. other p;
   replay-out-begun = λ entries κ e p. let verdict : Agrees ≡ Out = ap (λ (x : Conclusion). x .verdict) p in off (cc verdict);
   replay-out-longer = λ entries κ e p. let verdict : Agrees ≡ Out = ap (λ (x : Conclusion). x .verdict) p in off (cc verdict);
   replay-out-text = λ entries κ e p. let verdict : Agrees ≡ Out = ap (λ (x : Conclusion). x .verdict) p in off (cc verdict);
-  replay-refused = λ entry verdict other κ e p. other-verdict verdict other (ap (λ (x : Conclusion). x .verdict) p);
-  replay-refused-open = λ entry verdict other κ e p. other-verdict verdict other (ap (λ (x : Conclusion). x .verdict) p);
-  replay-start = λ entry verdict other κ e p. other-verdict verdict other (ap (λ (x : Conclusion). x .verdict) p);
-  replay-closing = λ entry verdict other κ e p. other-verdict verdict other (ap (λ (x : Conclusion). x .verdict) p);
+  replay-refused = λ r other κ e p. other p;
+  replay-refused-open = λ r other κ e p. other p;
+  replay-start = λ r other κ e p. other p;
+  replay-closing = λ r other κ e p. other p;
   replay-nought = λ log verdict other κ e p. absurd (omega (arith, replays .first log 0 verdict other .0 (sym p) .number));
   replay-count = λ entries other κ e p. other (ap (λ (x : Conclusion). x .entry) p);
   replay-finish = λ r other κ e p. other p;
-  replay-tag = λ entry verdict other κ e p. other-verdict verdict other (ap (λ (x : Conclusion). x .verdict) p);
-  replay-key = λ entries κ e p. let verdict : Agrees ≡ Out = ap (λ (x : Conclusion). x .verdict) p in off (cc verdict);
+  replay-tag = λ r other κ e p. other p;
+  replay-key = λ r other κ e p. other p;
+  replay-key-behind = λ entries κ e p. let verdict : Agrees ≡ Out = ap (λ (x : Conclusion). x .verdict) p in off (cc verdict);
   replay-empty = λ entry line column κ e p. let verdict : Unread line column ≡ Agrees = ap (λ (x : Conclusion). x .verdict) p in off (cc verdict);
   replay-number = λ entry line column κ e p. let verdict : Unread line column ≡ Answer = ap (λ (x : Conclusion). x .verdict) p in off (cc verdict);
   replay-start2 = λ entry verdict other κ e p. other (ap (λ (x : Conclusion). lineOf (x .verdict)) p);
   replay-finish-data = λ entry verdict other κ e p. other (ap (λ (x : Conclusion). lineOf (x .verdict)) p);
   replay-rounds = λ entries κ e p. let verdict : Agrees ≡ Rounds = ap (λ (x : Conclusion). x .verdict) p in off (cc verdict);
   replay-open = λ log entry κ e p. replays .decided log (sym (ap (λ (x : Conclusion). x .verdict) p));
-  window-agrees = λ window s r agreed κ e p. goes-on s window (sym (ap (λ (x : Stretch). x .verdict) p) ∙ agreed);
+  window-agrees = λ window s r agreed κ e p. replays .at-end s window (sym (ap (λ (x : Stretch). x .verdict) p) ∙ agreed);
   window-early = λ r line column broken κ e p. let verdict : Unread line column ≡ Open = sym broken ∙ ap (λ (x : Stretch). x .verdict) p in off (cc verdict);
   window-at-once = λ r waits κ e p. let verdict : Open ≡ Unread 1 1 = sym waits ∙ ap (λ (x : Stretch). x .verdict) p in off (cc verdict);
   window-taken = λ r other κ e p. other (ap (λ (x : Stretch). x .taken) p);

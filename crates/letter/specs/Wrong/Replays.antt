@@ -7,9 +7,8 @@ use lib.ListN.{take, replicate}
 use Rattle.answers.specs.declared.Answer.the-variants.{Done, BrokenRecord}
 use Rattle.permutation.specs.Strings.{zeros}
 use Rattle.digits.specs.Ascii.{ascii}
-use Rattle.log.specs.declared.form.Entry.{Entry}
 use Rattle.log.specs.declared.reading.Reading.{Reading}
-use Rattle.log.specs.Calls.{refusedAt, readAs}
+use Rattle.log.specs.Calls.{refusedAt}
 use Rattle.stream.specs.declared.Direction.the-variants.{Sealing}
 use Rattle.stream.specs.declared.Phase.the-variants as phase
 use Rattle.stream.specs.declared.Stream.{Stream}
@@ -35,10 +34,7 @@ textRefused = ascii "call=text\ndata=\nanswer=7\nout=\nrounds=0\n"
 abbrev pub textDone : List ℕ
 textDone = ascii "call=text\ndata=\nanswer=0\nout=\nrounds=0\n"
 
--- associated data, refused; the finish, refused
-abbrev pub adRefused : List ℕ
-adRefused = ascii "call=ad\ndata=\nanswer=7\nout=\nrounds=0\n"
-
+-- the finish, refused
 abbrev pub finishRefused : List ℕ
 finishRefused = ascii "call=finish\ndata=\nanswer=7\nout=\nrounds=0\n"
 
@@ -54,7 +50,7 @@ startDone = ascii "call=start1\ndata=0000000000000000000000000000000000000000000
 abbrev pub adThenText : List ℕ
 adThenText = ascii "call=ad\ndata=00\nanswer=0\nout=\nrounds=0\ncall=text\ndata=\nanswer=0\nout=\nrounds=6\n"
 
--- behind it, two bytes of text with some output, which the second program gives as 27e7
+-- behind it, two bytes of text with some output; the second program's is 27e7
 abbrev pub textWith : List ℕ → List ℕ
 textWith out = startDone ++ (ascii "call=text\ndata=0001\nanswer=0\nout=" ++ (out ++ ascii "\nrounds=0\n"))
 
@@ -67,10 +63,19 @@ abbrev pub finishedTwo : List ℕ
 finishedTwo =
     ascii "call=start2\ndata=000000000000000000000000000000000000000000000000\nanswer=0\nout=\nrounds=12\ncall=finish\ndata=\nanswer=0\nout=89e0dddb6a8cfa0b86ce4d07\nrounds=12\n"
 
--- a start whose key begins with 01, and a byte of text; the output is the second program's where the nonce begins so, and not the key
-abbrev pub nonceFirst : List ℕ
-nonceFirst =
-    ascii "call=start1\ndata=0100000000000000000000000000000000000000000000000000000000000000\nanswer=0\nout=\nrounds=12\ncall=text\ndata=00\nanswer=0\nout=d7\nrounds=0\n"
+-- behind the byte of associated data and the text that closed it, a byte of associated data, refused; then a byte of text and the finish, with the second program's output and tag
+abbrev pub adBehindText : List ℕ
+adBehindText =
+    ascii "call=ad\ndata=01\nanswer=7\nout=\nrounds=0\ncall=text\ndata=00\nanswer=0\nout=f8\nrounds=0\ncall=finish\ndata=\nanswer=0\nout=d8e670e695ccefebac651a6526dbf7e1\nrounds=12\n"
+
+-- a start in set 1 whose key begins with 01, and a byte of text with some output; the second program's is 56, and d7 where the nonce begins so, and not the key
+abbrev pub keyedWith : List ℕ → List ℕ
+keyedWith out =
+    ascii "call=start1\ndata=0100000000000000000000000000000000000000000000000000000000000000\nanswer=0\nout=\nrounds=12\ncall=text\ndata=00\nanswer=0\nout=" ++ (out ++ ascii "\nrounds=0\n")
+
+-- behind it, the finish, with the second program's tag
+abbrev pub keyedFinish : List ℕ
+keyedFinish = ascii "call=finish\ndata=\nanswer=0\nout=04f550d13ecc8cfd5d89170a22715331\nrounds=12\n"
 
 -- a sealing stream of set 1 inside its text, with words, key and counts of zeros
 abbrev pub insideText : Stream
@@ -83,40 +88,39 @@ named entry verdict = record { entry = entry; verdict = verdict }
 pub record Wrong : Type 0 where
   -- ---- one entry
 
-  -- in `call=start3` the 3 is at fault, since two calls begin with what stands before it
-  pub log-call : (line column : ℕ) (early : Bool) → (line ≡ 1 → column ≡ 11 → ⊥)
-      → Never log-crate.read.Reads.Learnt (lent (ascii "call=start3\n"), tt) (refusedAt line column early)
+  -- nothing is told of `call=start3` but that the 3 is at fault, since two calls begin with what stands before it
+  pub log-call : (r : Reading) → (r ≡ refusedAt 1 11 false → ⊥)
+      → Never log-crate.read.Reads.Learnt (lent (ascii "call=start3\n"), tt) r
   -- data of a finish is at fault from its first digit, on line 2
-  pub log-finish : (line column : ℕ) (early : Bool) → (line ≡ 2 → column ≡ 6 → ⊥)
-      → Never log-crate.read.Reads.Learnt (lent (ascii "call=finish\ndata=00\nanswer=7\nout=\nrounds=0\n"), tt) (refusedAt line column early)
-  pub log-finish-read : (taken : ℕ) (e : Entry) → Never log-crate.read.Reads.Learnt (lent (ascii "call=finish\ndata=00\nanswer=7\nout=\nrounds=0\n"), tt) (readAs taken e)
+  pub log-finish : (r : Reading) → (r ≡ refusedAt 2 6 false → ⊥)
+      → Never log-crate.read.Reads.Learnt (lent (ascii "call=finish\ndata=00\nanswer=7\nout=\nrounds=0\n"), tt) r
   -- 25 bytes are one too many for a start in set 2: its first digit is at fault
-  pub log-start2 : (line column : ℕ) (early : Bool) → (line ≡ 2 → column ≡ 54 → ⊥)
-      → Never log-crate.read.Reads.Learnt (lent (ascii "call=start2\ndata=00000000000000000000000000000000000000000000000000\n"), tt) (refusedAt line column early)
+  pub log-start2 : (r : Reading) → (r ≡ refusedAt 2 54 false → ⊥)
+      → Never log-crate.read.Reads.Learnt (lent (ascii "call=start2\ndata=00000000000000000000000000000000000000000000000000\n"), tt) r
   -- 24 bytes are too few for one in set 1: the line feed is at fault
-  pub log-start1 : (line column : ℕ) (early : Bool) → (line ≡ 2 → column ≡ 54 → ⊥)
-      → Never log-crate.read.Reads.Learnt (lent (ascii "call=start1\ndata=000000000000000000000000000000000000000000000000\n"), tt) (refusedAt line column early)
-  -- 256 bytes are taken, and of 257 the first digit too many is at fault
+  pub log-start1 : (r : Reading) → (r ≡ refusedAt 2 54 false → ⊥)
+      → Never log-crate.read.Reads.Learnt (lent (ascii "call=start1\ndata=000000000000000000000000000000000000000000000000\n"), tt) r
+  -- 256 bytes are not refused, and of 257 the first digit too many is at fault
   pub log-most : (line column : ℕ) (early : Bool)
       → Never log-crate.read.Reads.Learnt (lent (adOf 512 ++ ascii "\nanswer=7\nout=\nrounds=0\n"), tt) (refusedAt line column early)
-  pub log-long : (line column : ℕ) (early : Bool) → (line ≡ 2 → column ≡ 518 → ⊥)
-      → Never log-crate.read.Reads.Learnt (lent (adOf 514), tt) (refusedAt line column early)
+  pub log-long : (r : Reading) → (r ≡ refusedAt 2 518 false → ⊥)
+      → Never log-crate.read.Reads.Learnt (lent (adOf 514), tt) r
   -- a digit in upper case is at fault
-  pub log-upper : (line column : ℕ) (early : Bool) → (line ≡ 2 → column ≡ 6 → ⊥)
-      → Never log-crate.read.Reads.Learnt (lent (ascii "call=ad\ndata=A0\n"), tt) (refusedAt line column early)
+  pub log-upper : (r : Reading) → (r ≡ refusedAt 2 6 false → ⊥)
+      → Never log-crate.read.Reads.Learnt (lent (ascii "call=ad\ndata=A0\n"), tt) r
   -- in `answer=007` the second zero is at fault
-  pub log-zeros : (line column : ℕ) (early : Bool) → (line ≡ 3 → column ≡ 9 → ⊥)
-      → Never log-crate.read.Reads.Learnt (lent (ascii "call=ad\ndata=\nanswer=007\n"), tt) (refusedAt line column early)
+  pub log-zeros : (r : Reading) → (r ≡ refusedAt 3 9 false → ⊥)
+      → Never log-crate.read.Reads.Learnt (lent (ascii "call=ad\ndata=\nanswer=007\n"), tt) r
   -- a number has at most seven digits: the eighth is at fault
-  pub log-digits : (line column : ℕ) (early : Bool) → (line ≡ 3 → column ≡ 15 → ⊥)
-      → Never log-crate.read.Reads.Learnt (lent (ascii "call=ad\ndata=\nanswer=10000000\n"), tt) (refusedAt line column early)
+  pub log-digits : (r : Reading) → (r ≡ refusedAt 3 15 false → ⊥)
+      → Never log-crate.read.Reads.Learnt (lent (ascii "call=ad\ndata=\nanswer=10000000\n"), tt) r
   -- no line stands in another's place
-  pub log-order : (line column : ℕ) (early : Bool) → (line ≡ 2 → column ≡ 1 → ⊥)
-      → Never log-crate.read.Reads.Learnt (lent (ascii "call=ad\nanswer=7\ndata=\nout=\nrounds=0\n"), tt) (refusedAt line column early)
+  pub log-order : (r : Reading) → (r ≡ refusedAt 2 1 false → ⊥)
+      → Never log-crate.read.Reads.Learnt (lent (ascii "call=ad\nanswer=7\ndata=\nout=\nrounds=0\n"), tt) r
   -- a text that ended behind a line can go on
-  pub log-cut : Never log-crate.read.Reads.Learnt (lent (ascii "call=ad\n"), tt) (refusedAt 2 1 false)
+  pub log-cut : (r : Reading) → (r ≡ refusedAt 2 1 true → ⊥) → Never log-crate.read.Reads.Learnt (lent (ascii "call=ad\n"), tt) r
   -- what stands behind an entry is not taken
-  pub log-behind : (taken : ℕ) (e : Entry) → (taken ≡ 39 → ⊥) → Never log-crate.read.Reads.Learnt (lent (textRefused ++ ascii "x"), tt) (readAs taken e)
+  pub log-behind : (r : Reading) → (r .taken ≡ 39 → ⊥) → Never log-crate.read.Reads.Learnt (lent (textRefused ++ ascii "x"), tt) r
   -- whatever the text, it is not refused at line 0, nor at column 0
   pub log-line-nought : (text : List ℕ) (r : Reading) → r .answer ≡ BrokenRecord → r .line ≡ 0 → Never log-crate.read.Reads.Learnt (lent text, tt) r
   pub log-column-nought : (text : List ℕ) (r : Reading) → r .answer ≡ BrokenRecord → r .column ≡ 0 → Never log-crate.read.Reads.Learnt (lent text, tt) r
@@ -145,30 +149,34 @@ pub record Wrong : Type 0 where
   -- the output is compared before the rounds, and the answer before the output
   pub replay-rounds-first : (entry : ℕ) → Never replay-crate.replay.Reads.Learnt (lent (ascii "call=text\ndata=\nanswer=7\nout=00\nrounds=1\n"), tt) (named entry Rounds)
   pub replay-out-first : (entry : ℕ) → Never replay-crate.replay.Reads.Learnt (lent (ascii "call=text\ndata=\nanswer=0\nout=00\nrounds=0\n"), tt) (named entry Out)
+  -- text with our output agrees
+  pub replay-out : (r : Conclusion) → (r ≡ told 2 Agrees → ⊥) → Never replay-crate.replay.Reads.Learnt (lent (textWith (ascii "27e7")), tt) r
   -- an output that is a beginning of ours does not agree, nor one that goes on behind ours, nor the text itself
   pub replay-out-begun : (entries : ℕ) → Never replay-crate.replay.Reads.Learnt (lent (textWith (ascii "27")), tt) (told entries Agrees)
   pub replay-out-longer : (entries : ℕ) → Never replay-crate.replay.Reads.Learnt (lent (textWith (ascii "27e700")), tt) (told entries Agrees)
   pub replay-out-text : (entries : ℕ) → Never replay-crate.replay.Reads.Learnt (lent (textWith (ascii "0001")), tt) (told entries Agrees)
-  -- a refused call leaves the state: text before a start leaves the stream ended, and associated data behind text leaves it inside its text
-  pub replay-refused : (entry : ℕ) (verdict : Verdict) → isAgreed verdict ≡ false
-      → Never replay-crate.replay.Reads.Learnt (lent (textRefused ++ (finishRefused ++ textRefused)), tt) (named entry verdict)
-  pub replay-refused-open : (entry : ℕ) (verdict : Verdict) → isAgreed verdict ≡ false
-      → Never replay-crate.replay.Reads.Learnt (lent (startDone ++ (adThenText ++ (adRefused ++ textDone))), tt) (named entry verdict)
-  -- a start needs no finish before it: inside an open stream it is done, with 12 rounds
-  pub replay-start : (entry : ℕ) (verdict : Verdict) → isAgreed verdict ≡ false
-      → Never replay-crate.replay.Reads.Learnt (lent (startDone ++ startDone), tt) (named entry verdict)
-  -- the first text closes the associated data, with 6 rounds in set 1, and no other call does
-  pub replay-closing : (entry : ℕ) (verdict : Verdict) → isAgreed verdict ≡ false
-      → Never replay-crate.replay.Reads.Learnt (lent (startDone ++ (adThenText ++ textDone)), tt) (named entry verdict)
+  -- a refused call leaves the state: text before a start leaves the stream ended, and a byte of associated data behind text leaves it inside its text, with the words that it had
+  pub replay-refused : (r : Conclusion) → (r ≡ told 3 Agrees → ⊥)
+      → Never replay-crate.replay.Reads.Learnt (lent (textRefused ++ (finishRefused ++ textRefused)), tt) r
+  pub replay-refused-open : (r : Conclusion) → (r ≡ told 6 Agrees → ⊥)
+      → Never replay-crate.replay.Reads.Learnt (lent (startDone ++ (adThenText ++ adBehindText)), tt) r
+  -- a start needs no finish before it: behind the text of an open stream it is done, with 12 rounds, and text and tag are then those of the new key
+  pub replay-start : (r : Conclusion) → (r ≡ told 5 Agrees → ⊥)
+      → Never replay-crate.replay.Reads.Learnt (lent (textWith (ascii "27e7") ++ (keyedWith (ascii "56") ++ keyedFinish)), tt) r
+  -- the first text has the rounds that close the associated data, 6 in set 1, and a second text has none
+  pub replay-closing : (r : Conclusion) → (r ≡ told 4 Agrees → ⊥)
+      → Never replay-crate.replay.Reads.Learnt (lent (startDone ++ (adThenText ++ textDone)), tt) r
   -- entries are counted from 1, in any log; those that agree, one by one
   pub replay-nought : (log : List ℕ) (verdict : Verdict) → isAgreed verdict ≡ false → Never replay-crate.replay.Reads.Learnt (lent log, tt) (named 0 verdict)
   pub replay-count : (entries : ℕ) → (entries ≡ 2 → ⊥) → Never replay-crate.replay.Reads.Learnt (lent (textRefused ++ finishRefused), tt) (told entries Agrees)
   -- a log does not end with its first finish: nothing is told but the entry behind it, whose answer differs
   pub replay-finish : (r : Conclusion) → (r ≡ named 3 Answer → ⊥) → Never replay-crate.replay.Reads.Learnt (lent (finished ++ textDone), tt) r
   -- the tag of set 2 has 12 bytes, and agrees
-  pub replay-tag : (entry : ℕ) (verdict : Verdict) → isAgreed verdict ≡ false → Never replay-crate.replay.Reads.Learnt (lent finishedTwo, tt) (named entry verdict)
-  -- the data of a start is the key and then the nonce, and not the other way round
-  pub replay-key : (entries : ℕ) → Never replay-crate.replay.Reads.Learnt (lent nonceFirst, tt) (told entries Agrees)
+  pub replay-tag : (r : Conclusion) → (r ≡ told 2 Agrees → ⊥)
+      → Never replay-crate.replay.Reads.Learnt (lent finishedTwo, tt) r
+  -- the data of a start is the key and then the nonce, which agrees, and not the other way round, which does not
+  pub replay-key : (r : Conclusion) → (r ≡ told 2 Agrees → ⊥) → Never replay-crate.replay.Reads.Learnt (lent (keyedWith (ascii "56")), tt) r
+  pub replay-key-behind : (entries : ℕ) → Never replay-crate.replay.Reads.Learnt (lent (keyedWith (ascii "d7")), tt) (told entries Agrees)
   -- an empty log is not unread
   pub replay-empty : (entry line column : ℕ) → Never replay-crate.replay.Reads.Learnt (lent [], tt) (named entry (Unread line column))
   -- an answer that is no number of ours can be read
