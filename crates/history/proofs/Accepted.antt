@@ -2,7 +2,7 @@
 use mathlib.Core.Path.{_≡_, refl, sym, ap, _∙_}
 use mathlib.Core.Bool.{Bool, true, false, cond, not, _&&_, false≢true}
 use mathlib.Core.List.{List, []}
-use Prim.Native.Nat.{ℕ, zero, suc, _+_, _-_, _%_, _≤_}
+use Prim.Native.Nat.{ℕ, _+_, _-_, _%_, _≤_}
 use lib.Dec.{leb}
 use lib.ListN.{length}
 use lib.Seq.{drop-at}
@@ -14,15 +14,11 @@ use Rattle.ascon.specs.Sets.{rowOf, adLimit, textLimit}
 use Rattle.stream.specs.declared.Direction.{Direction}
 use Rattle.stream.specs.declared.Phase.the-variants.{Ad, Text}
 use Rattle.stream.specs.declared.Stream.{Stream}
-use Rattle.stream.specs.State.{givesText, isOpen, fits, allZero, isSoundOpen, isSound}
+use Rattle.stream.specs.State.{givesText, isOpen, fits, isSoundOpen, isSound}
 use Rattle.stream.specs.Calls.{pieceTest, textTest, finishTest, Start}
-use Rattle.stream.proofs.Tests.{text-test-is}
+use Rattle.stream.proofs.Tests.{text-test-is, zero-zeros}
 use Rattle.history.specs.History.{ours, History, Started, stateAt}
 use Rattle.history.proofs.History.{Reached, Reached.in-ad, Reached.in-text, Reached.over, key, passed}
-
-zero-zeros : (n : ℕ) → allZero (zeros n) ≡ true
-zero-zeros zero = refl
-zero-zeros (suc n) = zero-zeros n
 
 -- the tests of what fits
 pub fits-piece : (s : Stream) (fit : Bool) (count n limit : ℕ) → isSound s ≡ true → fit ≡ true → count + n ≤ limit → isDone (pieceTest s fit count n limit) ≡ true

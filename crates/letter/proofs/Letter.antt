@@ -21,6 +21,7 @@ use Rattle.moving.proofs.Laws.{moves}
 use Rattle.moving.proofs.Published.{published}
 use Rattle.judge.proofs.Laws.{judges}
 use Rattle.log.proofs.Laws.{reads-log}
+use Rattle.replay.proofs.Feeds.{feeds}
 use Rattle.replay.proofs.Laws.{replays}
 use Rattle.turns.proofs.Runs.{whole-reports}
 use Rattle.letter.specs.Model.{Reported}
@@ -61,6 +62,7 @@ letter =
       judging = judges;
       log = reads-log;
       replays = replays;
+      feeds = feeds;
       program = whole-reports;
       worthless = worthless;
     }

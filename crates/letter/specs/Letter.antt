@@ -21,7 +21,7 @@ use Rattle.moving.specs.declared.route.Route.{Route}
 use Rattle.moving.specs.Laws.{Moves, Published}
 use Rattle.judge.specs.Laws.{Judges}
 use Rattle.log.specs.Laws.{ReadsLog}
-use Rattle.replay.specs.Laws.{Replays}
+use Rattle.replay.specs.Laws.{Feeds, Replays}
 use Rattle.turns.specs.Laws.{WholeReports}
 use Rattle.letter.specs.Model.{Model, ours, Keeps, Reported}
 use Rattle.letter.specs.First.{First}
@@ -77,6 +77,8 @@ pub record Letter : Type 2 where
   -- replaying a log: all agree exactly where the log is the one that our own stream would write, an entry is named exactly where it is the first that is broken or
   -- differs, and it does not matter in which windows the log comes
   pub replays : Replays
+  -- what our stream gives for each of its calls
+  pub feeds : Feeds
   -- the bench's program: it says its end only where all of its report is written, and there if no call fails
   pub program : WholeReports
   -- what the demands shut out

@@ -1,19 +1,22 @@
 -- What replaying a log promises.
-use mathlib.Core.Bool.{Bool, true, false, cond}
+use mathlib.Core.Bool.{Bool, true, false, cond, _&&_}
 use mathlib.Core.List.{List, [], _∷_, _++_}
-use mathlib.Core.Logic.{_↔_}
+use mathlib.Core.Logic.{_↔_, _⊎_}
 use mathlib.Core.Path.{_≡_}
 use Prim.Native.Nat.{ℕ, _+_, _≤_, _<_}
 use lib.ListN.{length, drop}
 use lib.Pow.{areBytes}
-use Rattle.answers.specs.Numbers.{numberOf}
+use Rattle.answers.specs.declared.Answer.the-variants.{Done, TagLength, NoRoom}
+use Rattle.answers.specs.Numbers.{numberOf, isDone}
 use Rattle.log.specs.declared.form.Call.{Call}
+use Rattle.log.specs.declared.form.Call.the-variants.{Start1, Start2, Ad, Text, Finish}
 use Rattle.log.specs.declared.form.Entry.{Entry}
 use Rattle.log.specs.Form.{dataKind, entryText}
 use Rattle.log.specs.Laws.{BegunEntry, WrongEntry, mostBytes}
 use Rattle.record.specs.Form.{fieldOf, held, allows}
 use Rattle.stream.specs.declared.Stream.{Stream}
 use Rattle.stream.specs.State.{ended}
+use Rattle.stream.specs.Calls.{ownTag}
 use Rattle.replay.specs.declared.whole.Conclusion.{Conclusion}
 use Rattle.replay.specs.declared.window.Verdict.{Verdict}
 use Rattle.replay.specs.declared.window.Verdict.the-variants.{Agrees, Answer, Out, Rounds, Unread, Open}
@@ -58,6 +61,46 @@ pub record Ours (log : List ℕ) (entries : ℕ) : Type 0 where
   pub allowed : AllAllowed calls
   pub spelled : log ≡ logFrom ended calls
   pub count : entries ≡ length calls
+
+-- ---- what our stream gives for a call
+
+-- a call starts a stream
+abbrev pub isStart : Call → Bool
+isStart Start1 = true
+isStart Start2 = true
+isStart Ad = false
+isStart Text = false
+isStart Finish = false
+
+-- a call has an output where it is done
+abbrev pub hasOut : Call → Bool
+hasOut Start1 = false
+hasOut Start2 = false
+hasOut Ad = false
+hasOut Text = true
+hasOut Finish = true
+
+-- from any state, whatever the call is handed; the last law from the ended state on
+pub record Feeds : Type 0 where
+  -- the room is always enough: no call is refused for its room or for the length of its tag
+  pub room : (s : Stream) (call : Call) (input : List ℕ) → let g = fed s call input in (g .answer ≡ NoRoom → ⊥) × (g .answer ≡ TagLength → ⊥)
+  -- a start whose data is in form is done, with 12 rounds
+  pub starts : (s : Stream) (call : Call) (input : List ℕ) → isStart call ≡ true → allows (dataKind call) 0 (fieldOf input) ≡ true
+      → let g = fed s call input in (g .answer ≡ Done) × (g .rounds ≡ 12)
+  -- a start replaces whatever stream was open
+  pub replaces : (s other : Stream) (call : Call) (input : List ℕ) → isStart call ≡ true → fed s call input ≡ fed other call input
+  -- a refused piece or finish reports no round, and leaves the state as it was
+  pub refused : (s : Stream) (call : Call) (input : List ℕ) → isStart call ≡ false → let g = fed s call input in
+      isDone (g .answer) ≡ false → (g .rounds ≡ 0) × (g .next ≡ s)
+  -- the output is empty but for a text or a finish that is done
+  pub silent : (s : Stream) (call : Call) (input : List ℕ) → let g = fed s call input in (hasOut call && isDone (g .answer)) ≡ false → g .out ≡ []
+  -- that of a done text has as many bytes as the text
+  pub text : (s : Stream) (input : List ℕ) → let g = fed s Text input in isDone (g .answer) ≡ true → length (g .out) ≡ length input
+  -- that of a done finish is the stream's own tag
+  pub finish : (s : Stream) (input : List ℕ) → let g = fed s Finish input in isDone (g .answer) ≡ true → g .out ≡ ownTag s
+  -- after any calls from the ended state on, a call whose data is in form is answered with 0, 5 or 7
+  pub answers : (calls : List Asked) (a : Asked) → allows (dataKind (a .call)) 0 (fieldOf (a .input)) ≡ true
+      → let n = numberOf (answerTo (after ended calls) a .answer) in (n ≡ 0) ⊎ ((n ≡ 5) ⊎ (n ≡ 7))
 
 -- ---- the first entry that is wrong
 

@@ -2,7 +2,7 @@
 use mathlib.Core.Path.{_≡_, refl, sym, ap, _∙_}
 use mathlib.Core.Bool.{Bool, true, false, cond, not, _&&_, false≢true}
 use mathlib.Core.List.{List, [], _∷_}
-use Prim.Native.Nat.{ℕ, _+_, _-_, _*_, _/_, _≤_, _<_}
+use Prim.Native.Nat.{ℕ, zero, suc, _+_, _-_, _*_, _/_, _≤_, _<_}
 use native.Mathlib.Nat.{le-trans, le-div-iff-mul-le, div-mul-le-self, mul-le-mul-right, div-le-self}
 use native.Mathlib.Numerals.{add-one}
 use native.Mathlib.Omega.{arith}
@@ -15,6 +15,7 @@ use Rattle.answers.specs.Numbers.{isDone}
 use Rattle.answers.specs.Order.{_when_}
 use Rattle.answers.proofs.Order.{none-holds, first-append}
 use Rattle.permutation.specs.Runs.{roundsOf}
+use Rattle.permutation.specs.Strings.{zeros}
 use Rattle.ascon.specs.Sets.{ParameterSet, rowOf, textLimit}
 use Rattle.sets.proofs.Rows.{Sizes, row-sizes}
 use Rattle.stream.specs.State.{rankOf, isDirection, givesText, isAd, fits, allZero, isSound}
@@ -26,6 +27,11 @@ use Rattle.stream.specs.declared.Stream.{Stream}
 -- the element at i, and the rest
 pub zero-left : (xs : List ℕ) (i : ℕ) → i < length xs → allZero (drop i xs) ≡ (eqb (getD xs i 0) 0 && allZero (drop (i + 1) xs))
 zero-left xs i h = rw (add-one i, drop-cons xs i 0 h)
+
+-- zeros are all zero
+pub zero-zeros : (n : ℕ) → allZero (zeros n) ≡ true
+zero-zeros zero = refl
+zero-zeros (suc n) = zero-zeros n
 
 pub div-mono : (x y : ℕ) {k : ℕ} → 0 < k → x ≤ y → x / k ≤ y / k
 div-mono x y {k} pos h = le-div-iff-mul-le pos .1 (le-trans (div-mul-le-self x k) h)
