@@ -4,6 +4,7 @@ use crate::program::{Task, Tried};
 use second::exchange::{export_all, import_all};
 use second::judge::{fault_line, judge_all};
 use second::moving::{move_all, Moved};
+use second::replay::replay;
 use std::process::ExitStatus;
 
 /// What the command says of a report that broke off.
@@ -12,11 +13,15 @@ pub const NOT_WHOLE: &str = "bench: the report is not whole";
 /// What the command says of a text that was not moved.
 pub const NOT_MOVED: &str = "bench: the text was not moved";
 
+/// What the command says of a log that was not replayed.
+pub const NOT_REPLAYED: &str = "bench: the log was not replayed";
+
 /// Gives what the command says of a run with this task that came to no end.
 pub fn broken_off(task: Task) -> &'static str {
     match task {
         Task::Judge => NOT_WHOLE,
         Task::Move(_) | Task::Import(_) | Task::Export => NOT_MOVED,
+        Task::Replay => NOT_REPLAYED,
     }
 }
 
@@ -25,7 +30,7 @@ pub struct Whole {
     /// What is printed: the report, or the records or entries that the input became.
     pub report: Vec<u8>,
     /// What is said on standard error: of a report the place of an unread record and the counts, of a moved text how many records or entries it had, or why
-    /// there is none.
+    /// there is none, of a replay the place of an unread entry and the number of the one that decides.
     pub words: String,
     /// The command's status.
     pub status: i32,
@@ -39,6 +44,7 @@ impl Whole {
             Task::Move(direction) => Whole::moved(move_all(direction, input)),
             Task::Import(set) => Whole::moved(import_all(set, input)),
             Task::Export => Whole::moved(export_all(input)),
+            Task::Replay => Whole::replayed(input),
         }
     }
 
@@ -48,6 +54,16 @@ impl Whole {
             report: moved.output,
             words: moved.said,
             status: moved.status.into(),
+        }
+    }
+
+    /// Gives what replaying this log leaves.
+    fn replayed(log: &[u8]) -> Whole {
+        let replay = replay(log);
+        Whole {
+            report: replay.report().into_bytes(),
+            words: replay.said(),
+            status: replay.status().into(),
         }
     }
 

@@ -2,6 +2,7 @@
 
 use crate::classes::Class;
 use crate::end::Whole;
+use crate::program::Task;
 use second::judge::{fault_line, judge_all};
 use std::fs::{self, File};
 use std::io::Write;
@@ -35,6 +36,17 @@ pub fn write(folder: &Path, classes: &[Class]) -> Vec<Case> {
             if let Some((task, end)) = input.ends {
                 let said = Whole::of(task, &input.bytes).words;
                 assert!(said.starts_with(&end), "{}: {said}, not {end}", input.name);
+            }
+            if let Some([report, said]) = input.replayed {
+                let whole = Whole::of(Task::Replay, &input.bytes);
+                let told = String::from_utf8_lossy(&whole.report);
+                assert_eq!(told, report, "{}", input.name);
+                let words = whole.words;
+                assert!(
+                    words.starts_with(&said),
+                    "{}: {words}, not {said}",
+                    input.name
+                );
             }
             let file = File::create_new(room.join(file_name(&input.name)));
             file.and_then(|mut file| file.write_all(&input.bytes))

@@ -1,4 +1,4 @@
-//! One input of the program, and what it was made for: its output and the place where a record breaks, or how its moving ends.
+//! One input of the program, and what it was made for: its output and the place where a record breaks, how its moving ends, or what its replay tells.
 
 use crate::program::Task;
 
@@ -16,13 +16,14 @@ pub enum Said {
 use Said::*;
 
 /// An input: its name, its bytes and, where no program has to be asked, the whole output of judging it and the line that tells where a record
-/// breaks, which is empty where none does; or a task and what the line begins with that ends it.
+/// breaks, which is empty where none does; or a task and what the line begins with that ends it; or the report of its replay and what the words begin with behind that.
 pub struct Input {
     pub name: String,
     pub bytes: Vec<u8>,
     pub output: Option<String>,
     pub fault: Option<String>,
     pub ends: Option<(Task, String)>,
+    pub replayed: Option<[String; 2]>,
 }
 
 impl Input {
@@ -35,6 +36,7 @@ impl Input {
             output: Some(reports.collect()),
             fault: fault(said),
             ends: None,
+            replayed: None,
         }
     }
 
@@ -75,6 +77,7 @@ impl Input {
             output: None,
             fault: None,
             ends: None,
+            replayed: None,
         }
     }
 
@@ -112,6 +115,51 @@ impl Input {
         Input::told(name, bytes).ending(task.into(), said)
     }
 
+    /// Gives a log of so many entries, which agrees.
+    pub fn agrees(name: impl Into<String>, bytes: impl Into<Vec<u8>>, entries: usize) -> Input {
+        Input::told(name, bytes).replaying(entries, ["agrees", "none"], done(entries))
+    }
+
+    /// Gives a log whose entry with this number is the first that differs, in this field.
+    pub fn first_differs(
+        name: impl Into<String>,
+        bytes: impl Into<Vec<u8>>,
+        entry: usize,
+        field: &str,
+    ) -> Input {
+        Input::told(name, bytes).replaying(entry, ["differs", field], done(entry))
+    }
+
+    /// Gives a log whose entry with this number is the first that is broken, in this line.
+    pub fn first_breaks(
+        name: impl Into<String>,
+        bytes: impl Into<Vec<u8>>,
+        [entry, line]: [usize; 2],
+    ) -> Input {
+        let said = format!("bench: entry {entry}: line {line}, column ");
+        Input::told(name, bytes).replaying(entry, ["unread", &line.to_string()], said)
+    }
+
+    /// Gives a log whose entry with this number is the first that is broken, in this line, at this column.
+    pub fn first_breaks_at(
+        name: impl Into<String>,
+        bytes: impl Into<Vec<u8>>,
+        [entry, line, column]: [usize; 3],
+    ) -> Input {
+        let said = format!("bench: entry {entry}: line {line}, column {column}\n");
+        let said = said + &done(entry);
+        Input::told(name, bytes).replaying(entry, ["unread", &line.to_string()], said)
+    }
+
+    /// Gives the input, of whose replay this is told of this entry, and then said.
+    fn replaying(self, entry: usize, [verdict, field]: [&str; 2], said: String) -> Input {
+        let report = format!("entry={entry}\nverdict={verdict}\nfield={field}\n");
+        Input {
+            replayed: Some([report, said]),
+            ..self
+        }
+    }
+
     /// Gives the input, of which this task ends with a line that begins so.
     fn ending(self, task: Task, said: String) -> Input {
         Input {
@@ -119,6 +167,11 @@ impl Input {
             ..self
         }
     }
+}
+
+/// Gives the line that ends a replay which this entry decides, or which has so many.
+fn done(entry: usize) -> String {
+    format!("bench: done: entries={entry}\n")
 }
 
 /// Gives the three lines on the record of the given number.

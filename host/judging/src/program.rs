@@ -81,13 +81,14 @@ fn built() -> PathBuf {
     path
 }
 
-/// What is asked: to judge the records, to move them, to read them from a test file of this set, or to write one from them.
+/// What is asked: to judge the records, to move them, to read them from a test file of this set, to write one from them, or to replay a log.
 #[derive(Clone, Copy, Debug, PartialEq, Eq)]
 pub enum Task {
     Judge,
     Move(Direction),
     Import(u64),
     Export,
+    Replay,
 }
 
 impl Task {
@@ -107,6 +108,7 @@ impl Task {
             Task::Move(Direction::Back) => vec!["back".to_string()],
             Task::Import(set) => vec!["import".to_string(), set.to_string()],
             Task::Export => vec!["export".to_string()],
+            Task::Replay => vec!["replay".to_string()],
         }
     }
 }

@@ -3,15 +3,17 @@
 use crate::classes::{of_length, row};
 use crate::entry::short_up_to;
 use crate::lines::Lines;
+use crate::log;
 use crate::program::Task;
 use second::cipher::{set_of, Set};
 use second::moving::Direction;
 use second::record::Form::{self, One, Two};
 
-/// What a task reads: records of a form, or entries of a set.
+/// What a task reads: records of a form, entries of a set, or a log.
 enum Read {
     Records(Form),
     Entries(&'static Set),
+    Log,
 }
 
 /// Gives what a task reads.
@@ -20,6 +22,7 @@ fn read_by(task: Task) -> Read {
         Task::Judge | Task::Move(Direction::Forward) | Task::Export => Read::Records(One),
         Task::Move(Direction::Back) => Read::Records(Two),
         Task::Import(set) => Read::Entries(set_of(set).expect("there is such a set")),
+        Task::Replay => Read::Log,
     }
 }
 
@@ -31,6 +34,7 @@ pub fn right_text(task: Task, count: usize) -> Vec<u8> {
             (0..count).flat_map(record).collect()
         }
         Read::Entries(set) => short_up_to(set, count),
+        Read::Log => log::many(count),
     }
 }
 
@@ -39,5 +43,6 @@ pub fn right_text_of_length(task: Task, length: usize) -> Vec<u8> {
     match read_by(task) {
         Read::Records(form) => row(form, length),
         Read::Entries(set) => of_length(set, length),
+        Read::Log => log::of_length(length),
     }
 }

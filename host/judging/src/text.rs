@@ -1,4 +1,4 @@
-//! Records and entries as lines that can be put wrong.
+//! Records and entries, of test files or of logs, as lines that can be put wrong.
 
 /// A kind of line, by what it tells.
 pub trait Kind: Copy + PartialEq + 'static {

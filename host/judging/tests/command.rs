@@ -281,6 +281,9 @@ fn names_of_files() {
         ("export", &["--", "export"]),
         ("export", &["judge", "export"]),
         ("export", &["./export"]),
+        ("replay", &["--", "replay"]),
+        ("replay", &["judge", "replay"]),
+        ("replay", &["./replay"]),
         ("1", &["1"]),
     ] {
         fs::write(folder.join(name), sample()).expect("a file for the test");
@@ -290,7 +293,7 @@ fn names_of_files() {
         assert!(output.stdout == judge_all(&sample()));
         ran += 1;
     }
-    assert_eq!(ran, 19);
+    assert_eq!(ran, 22);
     let file = named_sample("published.txt");
     for (task, name, words) in [
         (Task::Move(Forward), "forward", &["forward", "forward"][..]),
@@ -320,7 +323,7 @@ fn names_of_files() {
         assert!(output.stdout == Whole::of(task, bytes).report, "{words:?}");
         ran += 1;
     }
-    assert_eq!(ran, 34);
+    assert_eq!(ran, 37);
     // The word asks for a task, also where a file has its name.
     let mut command = bench("", &["import"]);
     command.current_dir(&folder);
@@ -474,6 +477,7 @@ fn help() {
             "\n       bench back [FILE]\n",
             "\n       bench import SET [FILE]\n",
             "\n       bench export [FILE]\n",
+            "\n       bench replay [FILE]\n",
             "bench: record 3: line 4, column 17",
             "bench: done: records=6",
             "bench: refused: answer=10 record=2 line=4 column=7",

@@ -1,9 +1,13 @@
 //! The program's memory: it doesn't grow with the input.
 
 use judging::classes::many;
-use judging::program::Tried;
+use judging::end::Whole;
+use judging::log::message;
+use judging::program::{Task, Tried};
 use judging::session::Session;
+use second::cipher::SETS;
 use second::judge::judge_all;
+use second::replay::right_log;
 
 const RECORDS: usize = 10_000;
 
@@ -45,6 +49,41 @@ fn it_does_not_grow() {
         "from {early} KiB to {late} KiB"
     );
     assert!(session.close().as_bytes() == wanted, "the reports differ");
+}
+
+/// How many messages of each set the log has, and after how many the memory is first looked at; a pipe holds little more than one of each.
+const MESSAGES: usize = 150;
+const FIRST_MESSAGES: usize = 5;
+
+/// Says that the program has as much memory after a log of more than 8,000,000 bytes as after the first of them, and tells that it agrees.
+#[test]
+fn a_replay_does_not_grow() {
+    let calls = SETS
+        .each_ref()
+        .map(|set| message(set, &[256; 10], &[256; 20]));
+    let part = right_log(&calls.concat());
+    let log = part.repeat(MESSAGES);
+    assert!(log.len() > 8_000_000, "{} bytes", log.len());
+
+    let mut session = Session::start_to(Tried::Program, Task::Replay);
+    let mut early = 0;
+    for number in 1..=MESSAGES {
+        session.feed(&part);
+        if number == FIRST_MESSAGES {
+            early = session.peak();
+        }
+    }
+    let late = session.peak();
+    println!(
+        "{early} KiB after {FIRST_MESSAGES} messages of each set, {late} KiB after {MESSAGES}"
+    );
+    assert!(
+        early > 0 && late - early < GROWTH,
+        "from {early} KiB to {late} KiB"
+    );
+    let wanted = Whole::of(Task::Replay, &log).report;
+    assert_eq!(session.close().as_bytes(), wanted);
+    assert_eq!(wanted, b"entry=9600\nverdict=agrees\nfield=none\n");
 }
 
 /// Gives the bytes in parts of so many lines.

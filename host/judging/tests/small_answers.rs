@@ -59,6 +59,8 @@ fn all_is_the_same() {
         (Task::Import(2), b"Count = 1\nKey = 0\n".to_vec()),
         (Task::Import(5), right_text(Task::Import(1), 2)),
         (Task::Export, many(20)),
+        (Task::Replay, right_text(Task::Replay, 26)),
+        (Task::Replay, b"call=start1\ndata=0".to_vec()),
     ] {
         let Whole { report, words, .. } = Whole::of(task, &records);
         let wanted = [String::from_utf8_lossy(&report).into_owned(), words];
@@ -71,5 +73,5 @@ fn all_is_the_same() {
         assert_eq!(nothing, [String::new(), String::new()]);
         ran += 1;
     }
-    assert_eq!(ran, 60);
+    assert_eq!(ran, 70);
 }

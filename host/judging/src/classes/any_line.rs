@@ -5,10 +5,10 @@ use crate::lines::{label, number, Lines};
 use second::record::{Form, Line};
 
 /// What is done to a line, and what then stands in its place, by its name and its value.
-type Way = (&'static str, fn(&[u8], &[u8]) -> Vec<u8>);
+pub type Way = (&'static str, fn(&[u8], &[u8]) -> Vec<u8>);
 
 #[rustfmt::skip]
-const WAYS: [Way; 26] = [
+pub const WAYS: [Way; 26] = [
     ("another name", |name, value| [b"x", &name[1..], b"=", value, b"\n"].concat()),
     ("longer name", |name, value| [name, b"s=", value, b"\n"].concat()),
     ("shorter name", |name, value| [&name[..name.len() - 1], b"=", value, b"\n"].concat()),

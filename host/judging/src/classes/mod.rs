@@ -11,6 +11,7 @@ mod form_2;
 mod in_a_row;
 mod largest;
 mod lengths;
+mod logs;
 mod mixed;
 mod moved;
 mod mutations;
@@ -97,6 +98,7 @@ pub fn classes_of(task: Task) -> Vec<Class> {
             None => vec![own(entries::OF_NO_SET)],
         },
         Task::Export => exported(),
+        Task::Replay => logs::OWN.map(own).into(),
     }
 }
 

@@ -1,18 +1,20 @@
-//! Right records and entries in which chance has changed a byte.
+//! Right records, entries and logs in which chance has changed a byte.
 
 use crate::entry::Entry;
 use crate::input::Input;
 use crate::lines::Lines;
+use crate::log::message;
 use second::cipher::{Set, SETS};
 use second::random::Random;
 use second::record::Form;
+use second::replay::right_log;
 
 const INPUTS: usize = 120;
 
 /// Bytes that a record could hold at another place, and some that it never holds.
 const BYTES: &[u8] = b"0123456789abcdefABF= \n\r\t\0gxst\x80\xff";
 
-/// Makes a right record or entry; the number is that of its place in the row, counted from 1.
+/// Makes a right record, entry or log of a message; the number is that of its place in the row, counted from 1.
 type Make<'a> = &'a dyn Fn(&mut Random, usize) -> Vec<u8>;
 
 /// Gives rows of up to four short records of these forms, one of them with a byte changed, removed, inserted or doubled.
@@ -23,6 +25,14 @@ pub fn mutated(forms: &[Form]) -> Vec<Input> {
 /// Gives such rows of entries of a set.
 pub fn mutated_entries(set: &Set) -> Vec<Input> {
     rows_of(&|random, place| Entry::right(set, place, random.below(41), random.below(41)).bytes())
+}
+
+/// Gives such rows of messages, of each the log.
+pub fn mutated_logs() -> Vec<Input> {
+    rows_of(&|random, _| {
+        let [data, text] = [random.below(41), random.below(41)];
+        right_log(&message(&SETS[random.below(2)], &[data, 0], &[text, 9]))
+    })
 }
 
 /// Gives rows of up to four of what is made, one of them mutated.

@@ -78,11 +78,21 @@ fn other_words() {
         &["exports"],
         &["expor"],
         &["export\n"],
+        &["Replay"],
+        &["replays"],
+        &["repla"],
+        &["replay\n"],
+        &["replay 1"],
+        &["replay", "1"],
+        &["replay", ""],
+        &["replay", "replay"],
+        &["import", "replay"],
+        &["replayreplayreplay"],
     ] {
         is_no_task("words", words);
         ran += 1;
     }
-    assert_eq!(ran, 32);
+    assert_eq!(ran, 42);
 }
 
 /// Says that a word which is no decimal of up to 2^64 - 1 is no set's number: the program has no such task.
