@@ -1,4 +1,4 @@
-//! Streams that fail, and what the program and the command then have to leave.
+//! Streams and programs that fail, and what the program and the command then have to leave.
 
 use crate::end::broken_off;
 use crate::program::{Task, Tried};
@@ -10,6 +10,17 @@ use std::process::{Command, Output};
 
 /// A script in which the signals for failed writes are ignored, as the command does by itself.
 pub const UNDISTURBED: &str = r#"trap "" PIPE XFSZ; exec "$@""#;
+
+/// How a program of a test ends wrongly, as its environment tells it: with a status, or by a signal.
+pub const WRONG_ENDS: [(&str, &str); 7] = [
+    ("STATUS", "1"),
+    ("STATUS", "2"),
+    ("STATUS", "127"),
+    ("STATUS", "255"),
+    ("SIGNAL", "KILL"),
+    ("SIGNAL", "TERM"),
+    ("SIGNAL", "USR1"),
+];
 
 /// Panics unless the program said why in one line, which the command passes on, and the run counts as broken off.
 pub fn broke_off(tried: Tried, task: Task, output: &Output, why: &str) {

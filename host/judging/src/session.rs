@@ -7,7 +7,7 @@ use std::io::{Read, Write};
 use std::mem::take;
 use std::process::{Child, Command, ExitStatus, Stdio};
 use std::sync::mpsc::{channel, Receiver};
-use std::thread::spawn;
+use std::thread::{sleep, spawn};
 use std::time::{Duration, Instant};
 
 /// What runs, and all that it has printed so far.
@@ -67,6 +67,19 @@ impl Session {
         let input = self.input.as_mut().expect("the input is still open");
         input.write_all(bytes).expect("the input is taken");
         self.fed.extend(bytes);
+    }
+
+    /// Hands over bytes in pieces of this length, with a pause behind each, a short one where the pieces are short; panics when anything is printed while the input is open.
+    pub fn feed_in_pieces(&mut self, bytes: &[u8], piece: usize, pause: Duration) {
+        for part in bytes.chunks(piece) {
+            self.feed(part);
+            if piece < 60 {
+                sleep(Duration::from_millis(1));
+            } else {
+                assert_eq!(self.after(pause), "", "the input is still open");
+            }
+        }
+        assert_eq!(self.after(pause), "", "the input is still open");
     }
 
     /// Waits until as many bytes are printed, or the limit is past, and gives how many are.

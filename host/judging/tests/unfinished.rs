@@ -2,7 +2,7 @@
 
 use judging::classes::many;
 use judging::end::broken_off;
-use judging::failing::full;
+use judging::failing::{full, WRONG_ENDS};
 use judging::layout::{file_of, lay_out, place};
 use judging::program::{run, run_on, Task, Tried};
 use second::judge::judge_all;
@@ -290,15 +290,7 @@ fn wrong_lines() {
 fn wrong_ends() {
     let command = lay_out("unfinished-ends", PROGRAM);
     let mut ran = 0;
-    for (name, value) in [
-        ("STATUS", "1"),
-        ("STATUS", "2"),
-        ("STATUS", "127"),
-        ("STATUS", "255"),
-        ("SIGNAL", "KILL"),
-        ("SIGNAL", "TERM"),
-        ("SIGNAL", "USR1"),
-    ] {
+    for (name, value) in WRONG_ENDS {
         for (task, said) in [
             (Task::Judge, RIGHT),
             (FORWARD, DONE),

@@ -72,44 +72,51 @@ pub fn each_character(form: Form) -> Vec<Input> {
     inputs
 }
 
-/// Gives rounds that have no right form; many would be the right number if read less strictly.
+/// Gives values that are no decimal of one to seven digits; many would be the right number if read less strictly.
+pub fn broken_decimals(right: u64) -> [(&'static str, String); 25] {
+    [
+        ("empty", String::new()),
+        ("00", "00".to_string()),
+        ("0000000", "0000000".to_string()),
+        ("a zero in front", format!("0{right}")),
+        ("zeros up to eight digits", format!("{right:08}")),
+        ("10000000", "10000000".to_string()),
+        ("99999999", "99999999".to_string()),
+        ("23 digits", "12345678901234567890123".to_string()),
+        ("more by 2 to the 24", (right + (1 << 24)).to_string()),
+        ("more by 2 to the 32", (right + (1 << 32)).to_string()),
+        (
+            "more by 2 to the 64",
+            (u128::from(right) + (1 << 64)).to_string(),
+        ),
+        ("plus", format!("+{right}")),
+        ("minus", format!("-{right}")),
+        ("a blank before", format!(" {right}")),
+        ("a blank after", format!("{right} ")),
+        ("a tab before", format!("\t{right}")),
+        ("a point after", format!("{right}.")),
+        ("hex letters", "ff".to_string()),
+        ("a letter after", format!("{right}a")),
+        ("a letter before", format!("a{right}")),
+        ("hex with its sign", format!("{right:#x}")),
+        ("a colon", "4:".to_string()),
+        ("a slash", "4/".to_string()),
+        ("a zero byte after", format!("{right}\0")),
+        ("digits of another script", "\u{664}\u{668}".to_string()),
+    ]
+}
+
+/// Gives rounds that have no right form.
 pub fn rounds_broken(form: Form) -> Vec<Input> {
     let mut inputs = Vec::new();
     for set in &SETS {
         let lines = Lines::right(form, set, 9, 20);
         let right = rounds_of(&lines);
-        for (what, value) in [
-            ("empty", String::new()),
-            ("00", "00".to_string()),
-            ("0000000", "0000000".to_string()),
-            ("a zero in front", format!("0{right}")),
+        let own = [
             ("zeros up to seven digits", format!("{right:07}")),
-            ("zeros up to eight digits", format!("{right:08}")),
-            ("10000000", "10000000".to_string()),
-            ("99999999", "99999999".to_string()),
-            ("23 digits", "12345678901234567890123".to_string()),
-            ("more by 2 to the 24", (right + (1 << 24)).to_string()),
-            ("more by 2 to the 32", (right + (1 << 32)).to_string()),
-            (
-                "more by 2 to the 64",
-                (u128::from(right) + (1 << 64)).to_string(),
-            ),
-            ("plus", format!("+{right}")),
-            ("minus", format!("-{right}")),
-            ("a blank before", format!(" {right}")),
-            ("a blank after", format!("{right} ")),
             ("a blank inside", "4 8".to_string()),
-            ("a tab before", format!("\t{right}")),
-            ("a point after", format!("{right}.")),
-            ("hex letters", "ff".to_string()),
-            ("a letter after", format!("{right}a")),
-            ("a letter before", format!("a{right}")),
-            ("hex with its sign", format!("{right:#x}")),
-            ("a colon", "4:".to_string()),
-            ("a slash", "4/".to_string()),
-            ("a zero byte after", format!("{right}\0")),
-            ("digits of another script", "\u{664}\u{668}".to_string()),
-        ] {
+        ];
+        for (what, value) in broken_decimals(right).into_iter().chain(own) {
             let what = format!("set {} {what}", set.number);
             let number = lines.number(Line::Rounds);
             let lines = lines.with_value(Line::Rounds, value);

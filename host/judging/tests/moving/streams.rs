@@ -213,15 +213,7 @@ fn pieces_and_pauses() {
             (&broken, 64),
         ] {
             let mut session = Session::start_to(tried, task);
-            for part in bytes.chunks(piece) {
-                session.feed(part);
-                if piece < 64 {
-                    sleep(Duration::from_millis(1));
-                } else {
-                    assert_eq!(session.after(PAUSE), "", "the input is still open");
-                }
-            }
-            assert_eq!(session.after(PAUSE), "", "the input is still open");
+            session.feed_in_pieces(bytes, piece, PAUSE);
             let wanted = Whole::of(task, bytes).report;
             assert_eq!(session.close().as_bytes(), wanted);
             ran += 1;

@@ -1,7 +1,7 @@
 //! The command with programs that do not replay as the program does: only a whole and right report with the right last words gives a status below 2, and is printed.
 
 use judging::end::NOT_REPLAYED;
-use judging::failing::full;
+use judging::failing::{full, WRONG_ENDS};
 use judging::layout::{lay_out, place};
 use judging::program::{run, run_on};
 use std::fs::File;
@@ -414,15 +414,7 @@ fn reports_on_the_wrong_stream() {
 fn wrong_statuses() {
     let command = lay_out("replay-statuses", PROGRAM);
     let mut ran = 0;
-    for (name, value) in [
-        ("STATUS", "1"),
-        ("STATUS", "2"),
-        ("STATUS", "127"),
-        ("STATUS", "255"),
-        ("SIGNAL", "KILL"),
-        ("SIGNAL", "TERM"),
-        ("SIGNAL", "USR1"),
-    ] {
+    for (name, value) in WRONG_ENDS {
         for both in [AGREES, DIFFERS, UNREAD, ["", ""]] {
             let mut command = leaving(&command, both);
             command.env(name, value);

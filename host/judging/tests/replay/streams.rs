@@ -215,15 +215,7 @@ fn pieces_and_pauses() {
     for tried in Tried::BOTH {
         for piece in [1, 2, 7, 61, 200] {
             let mut session = Session::start_to(tried, Task::Replay);
-            for part in log.chunks(piece) {
-                session.feed(part);
-                if piece < 60 {
-                    sleep(Duration::from_millis(1));
-                } else {
-                    assert_eq!(session.after(PAUSE), "", "the log may go on");
-                }
-            }
-            assert_eq!(session.after(PAUSE), "", "the log may go on");
+            session.feed_in_pieces(&log, piece, PAUSE);
             let wanted = Whole::of(Task::Replay, &log).report;
             assert_eq!(session.close().as_bytes(), wanted);
             ran += 1;
