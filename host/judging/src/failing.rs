@@ -3,10 +3,10 @@
 use crate::end::broken_off;
 use crate::program::{Task, Tried};
 use std::fs::File;
-use std::io::Write;
+use std::io::{pipe, Write};
 use std::os::fd::OwnedFd;
 use std::os::unix::net::UnixStream;
-use std::process::{Command, Output};
+use std::process::{Command, Output, Stdio};
 
 /// A script in which the signals for failed writes are ignored, as the command does by itself.
 pub const UNDISTURBED: &str = r#"trap "" PIPE XFSZ; exec "$@""#;
@@ -42,6 +42,14 @@ pub fn broke_off(tried: Tried, task: Task, output: &Output, why: &str) {
 pub fn full() -> File {
     let device = File::options().write(true).open("/dev/full");
     device.expect("the device opens")
+}
+
+/// Gives streams that take no write: a full one, one to be read alone, and one whose reader is gone.
+pub fn unwritable() -> [Stdio; 3] {
+    let read_only = File::open("Cargo.toml").expect("the file opens");
+    let (reader, gone) = pipe().expect("a pipe");
+    drop(reader);
+    [full().into(), read_only.into(), gone.into()]
 }
 
 /// Gives an input whose reads give these bytes and then fail, once.

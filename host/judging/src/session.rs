@@ -1,14 +1,18 @@
 //! The program or the command at work, with its streams in our hands.
 
-use crate::end::ends_whole;
+use crate::end::{broken_off, ends_whole};
 use crate::program::{ended, Task, Tried, LIMIT};
 use std::fs::{read_dir, read_to_string};
 use std::io::{Read, Write};
 use std::mem::take;
+use std::os::unix::process::ExitStatusExt;
 use std::process::{Child, Command, ExitStatus, Stdio};
 use std::sync::mpsc::{channel, Receiver};
 use std::thread::{sleep, spawn};
 use std::time::{Duration, Instant};
+
+/// Signals that end a program, with their numbers.
+pub const SIGNALS: [(&str, i32); 3] = [("KILL", 9), ("TERM", 15), ("USR1", 10)];
 
 /// What runs, and all that it has printed so far.
 pub struct Session {
@@ -140,6 +144,24 @@ impl Session {
     /// Sends a signal to what was started, and to nothing that this started in turn.
     pub fn signal(&self, name: &str) {
         send(name, &self.child.id().to_string());
+    }
+
+    /// Ends the program by a signal, panics unless that is how it ended and the command says so and tells no end, and gives all that was printed.
+    pub fn ended_by(self, (name, number): (&str, i32)) -> String {
+        let (tried, end) = (self.tried, broken_off(self.task));
+        self.signal_program(name);
+        let (status, printed, said) = self.end();
+        match tried {
+            Tried::Program => assert_eq!((status.signal(), &said[..]), (Some(number), "")),
+            Tried::Command => {
+                let why = format!("the program ended with status {}", 128 + number);
+                assert!(said.ends_with(&format!("{end}: {why}\n")), "{said}");
+                let told = ["records", "done"].map(|word| said.contains(word));
+                assert_eq!(told, [false, false], "{said}");
+                assert_eq!(status.code(), Some(2), "{said}");
+            }
+        }
+        printed
     }
 
     /// Closes the input, panics unless the run then ends as a whole one on all that was fed does, and gives all that it printed.

@@ -1,11 +1,11 @@
 //! How the program and the command end: with the end's line behind every report, and never with it when they were broken off.
 
 use judging::classes::many;
-use judging::end::{ends_whole, Whole, NOT_WHOLE};
+use judging::end::{ends_whole, Whole};
 use judging::layout::file_of;
 use judging::lines::Lines;
 use judging::program::{run_on, Task, Tried};
-use judging::session::Session;
+use judging::session::{Session, SIGNALS};
 use second::cipher::SETS;
 use second::judge::judge_all;
 use second::record::Form::One;
@@ -69,25 +69,12 @@ fn the_line_comes_last() {
 fn a_program_ended_in_the_middle() {
     let mut ran = 0;
     for tried in Tried::BOTH {
-        for (name, number) in [("KILL", 9), ("TERM", 15), ("USR1", 10)] {
+        for signal in SIGNALS {
             let mut session = Session::start(tried);
             session.feed(&record());
             session.feed(&record()[..50]);
             assert_eq!(session.printed(EQUAL.len()), EQUAL);
-            session.signal_program(name);
-            let (status, printed, said) = session.end();
-            assert_eq!(printed, EQUAL);
-            match tried {
-                Tried::Program => assert_eq!((status.signal(), &said[..]), (Some(number), "")),
-                Tried::Command => {
-                    let end = format!(
-                        "{NOT_WHOLE}: the program ended with status {}\n",
-                        128 + number
-                    );
-                    assert_eq!(status.code(), Some(2), "{said}");
-                    assert!(said.ends_with(&end) && !said.contains("records"), "{said}");
-                }
-            }
+            assert_eq!(session.ended_by(signal), EQUAL);
             ran += 1;
         }
     }

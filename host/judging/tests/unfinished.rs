@@ -2,13 +2,12 @@
 
 use judging::classes::many;
 use judging::end::broken_off;
-use judging::failing::{full, WRONG_ENDS};
+use judging::failing::{unwritable, WRONG_ENDS};
 use judging::layout::{file_of, lay_out, place};
 use judging::program::{run, run_on, Task, Tried};
 use second::judge::judge_all;
 use second::moving::Direction::{Back, Forward};
 use std::fs::File;
-use std::io::pipe;
 use std::path::PathBuf;
 use std::process::{Command, Output, Stdio};
 
@@ -314,14 +313,7 @@ fn lines_that_cannot_be_passed_on() {
     let command = lay_out("unfinished-passing", PROGRAM);
     let mut ran = 0;
     for (task, said) in [(Task::Judge, RIGHT), (BACK, DONE), (IMPORT, NO_SET)] {
-        let read_only = File::open("Cargo.toml").expect("the file opens");
-        let (reader, gone) = pipe().expect("a pipe");
-        drop(reader);
-        for stderr in [
-            Stdio::from(full()),
-            Stdio::from(read_only),
-            Stdio::from(gone),
-        ] {
+        for stderr in unwritable() {
             let command = saying_to(task, &command, said);
             let output = run_on(command, Stdio::null(), Stdio::null(), stderr).expect("it ends");
             assert_eq!(output.status.code(), Some(2));

@@ -1,11 +1,11 @@
 //! Every task that gives a text for a text, on streams that fail, stall or trickle, and with signals in between: all is moved, or it is said that it was not.
 
-use judging::end::{broken_off, ends_whole, Whole};
+use judging::end::{ends_whole, Whole};
 use judging::failing::{broke_off, full, reset_after, undisturbed, UNDISTURBED};
 use judging::layout::{file_of, place};
 use judging::program::{run, run_on, Task, Tried};
 use judging::right_texts::right_text;
-use judging::session::Session;
+use judging::session::{Session, SIGNALS};
 use std::fs::{self, File};
 use std::io::{pipe, Read, Write};
 use std::os::fd::OwnedFd;
@@ -252,24 +252,11 @@ fn the_line_comes_last() {
 fn a_program_ended_in_the_middle() {
     let mut ran = 0;
     for (tried, task) in all() {
-        for (name, number) in [("KILL", 9), ("TERM", 15), ("USR1", 10)] {
+        for signal in SIGNALS {
             let mut session = Session::start_to(tried, task);
             session.feed(&more_than_fit(task));
             assert_eq!(session.after(PAUSE), "");
-            session.signal_program(name);
-            let (status, printed, said) = session.end();
-            assert_eq!(printed, "");
-            match tried {
-                Tried::Program => assert_eq!((status.signal(), &said[..]), (Some(number), "")),
-                Tried::Command => {
-                    let why = format!("the program ended with status {}", 128 + number);
-                    assert!(
-                        said.ends_with(&format!("{}: {why}\n", broken_off(task))),
-                        "{said}"
-                    );
-                    assert_eq!((status.code(), said.contains("records=")), (Some(2), false));
-                }
-            }
+            assert_eq!(session.ended_by(signal), "");
             ran += 1;
         }
     }

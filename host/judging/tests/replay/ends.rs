@@ -1,7 +1,7 @@
 //! The command with programs that do not replay as the program does: only a whole and right report with the right last words gives a status below 2, and is printed.
 
 use judging::end::NOT_REPLAYED;
-use judging::failing::{full, WRONG_ENDS};
+use judging::failing::{unwritable, WRONG_ENDS};
 use judging::layout::{lay_out, place};
 use judging::program::{run, run_on};
 use std::fs::File;
@@ -432,14 +432,7 @@ fn what_cannot_be_passed_on() {
     let mut ran = 0;
     for both in [AGREES, DIFFERS, UNREAD] {
         for stream in [1, 2] {
-            let read_only = File::open("Cargo.toml").expect("the file opens");
-            let (reader, gone) = pipe().expect("a pipe");
-            drop(reader);
-            for closed in [
-                Stdio::from(full()),
-                Stdio::from(read_only),
-                Stdio::from(gone),
-            ] {
+            for closed in unwritable() {
                 let command = leaving(&command, both);
                 let output = match stream {
                     1 => run(command, Stdio::null(), closed),

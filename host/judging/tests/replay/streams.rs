@@ -1,11 +1,11 @@
 //! Replays on streams that fail, stall or trickle, and with signals in between: a report is printed whole, or it is said that there is none.
 
-use judging::end::{ends_whole, Whole, NOT_REPLAYED};
+use judging::end::{ends_whole, Whole};
 use judging::failing::{broke_off, full, reset_after, undisturbed, UNDISTURBED};
 use judging::layout::{file_of, place};
 use judging::log::{bytes_of, logged, many, message, Line, Logged, LINES};
 use judging::program::{run, run_on, Task, Tried};
-use judging::session::Session;
+use judging::session::{Session, SIGNALS};
 use second::cipher::SETS;
 use second::log::read;
 use std::fs::{self, File};
@@ -337,22 +337,11 @@ fn the_line_comes_last() {
 fn a_program_ended_in_the_middle() {
     let mut ran = 0;
     for tried in Tried::BOTH {
-        for (name, number) in [("KILL", 9), ("TERM", 15), ("USR1", 10)] {
+        for signal in SIGNALS {
             let mut session = Session::start_to(tried, Task::Replay);
             session.feed(&many(3_000));
             assert_eq!(session.after(PAUSE), "");
-            session.signal_program(name);
-            let (status, printed, said) = session.end();
-            assert_eq!(printed, "");
-            match tried {
-                Tried::Program => assert_eq!((status.signal(), &said[..]), (Some(number), "")),
-                Tried::Command => {
-                    let why = format!("the program ended with status {}", 128 + number);
-                    let end = format!("{NOT_REPLAYED}: {why}\n");
-                    assert!(said.ends_with(&end) && !said.contains("done"), "{said}");
-                    assert_eq!(status.code(), Some(2));
-                }
-            }
+            assert_eq!(session.ended_by(signal), "");
             ran += 1;
         }
     }
