@@ -11,6 +11,9 @@ use stream::Stream;
 // How many cuttings are tried in each set and direction.
 const CUTTINGS: usize = 216;
 
+// The largest limit of a stream's text.
+const LIMIT: u64 = 1048576;
+
 // How many calls follow a start.
 const CALLS: u64 = 15;
 
@@ -103,7 +106,7 @@ fn after(walk: Walk, o: Outcome, answer: u64) -> Walk {
 
 // A walk at its start, with a tag to check.
 fn started(direction: Direction, set: u64, key: &[u8], nonce: &[u8], tag: [u8; 16]) -> Walk {
-    let o = Stream::start(direction, set, key, nonce);
+    let o = Stream::start(direction, set, LIMIT, key, nonce);
     let stream = o.next;
     Walk {
         out: [0; 53],
@@ -365,11 +368,11 @@ fn try_starts(key: &[u8], nonce: &[u8]) {
     let few = part(key, 0, 15);
     say_answer(
         b"key of 15 bytes=",
-        Stream::start(Direction::Sealing, 1, few, nonce),
+        Stream::start(Direction::Sealing, 1, LIMIT, few, nonce),
     );
     say_answer(
         b"key of 15 bytes, nonce of 15=",
-        Stream::start(Direction::Sealing, 1, few, part(nonce, 0, 15)),
+        Stream::start(Direction::Sealing, 1, LIMIT, few, part(nonce, 0, 15)),
     );
 }
 

@@ -7,7 +7,7 @@ use Prim.Native.Nat.{ℕ, _+_, _-_, _≤_}
 use native.Mathlib.Omega.{arith}
 use lib.ListN.{length, length-append}
 use lib.Seq.{take-at}
-use Rattle.answers.specs.declared.Answer.the-variants.{Done, TagDiffers}
+use Rattle.answers.specs.declared.Answer.the-variants.{Done, PastLimit, TagDiffers}
 use Rattle.answers.specs.Numbers.{isDone}
 use Rattle.permutation.specs.Runs.{constants, constantsOf, roundsOf}
 use Rattle.permutation.specs.Strings.{wordsOfString, zeros, same}
@@ -25,15 +25,15 @@ use Rattle.stream.specs.declared.Phase.the-variants.{Ad, Text}
 use Rattle.stream.specs.declared.Stream.{Stream}
 use Rattle.stream.specs.declared.Outcome.{Outcome}
 use Rattle.stream.specs.State.{isDirection, wayOf, givesText, isAd, isOpen, fits, isSound}
-use Rattle.stream.specs.Calls.{closingRounds, finishTest, Start, textWords, tookText, ownTag, finishCall}
+use Rattle.stream.specs.Calls.{closingRounds, textTest, finishTest, Start, textWords, tookText, ownTag, finishCall}
 use Rattle.stream.proofs.Tests.{own-direction}
-use Rattle.history.specs.History.{ours, Call, giveAd, giveText, finish, reply, History, begun, next, after, BytesIn, Started, stateAt, roundsAt, Fitting.ad-fits, Fitting.text-fits, NeverRefused}
-use Rattle.history.specs.Cuts.{RefusedCall, TextCut, TextCut.text-end, TextCut.text-refusal, TextCut.text-piece, Cut, Cut.ad-end, Cut.ad-refusal, Cut.ad-piece, Message, SealedWhole, CheckedWhole, CuttingDoesNotMatter}
+use Rattle.history.specs.History.{Streams, ours, Call, giveAd, giveText, finish, reply, History, begun, next, after, BytesIn, Started, stateAt, roundsAt, Fitting.ad-fits, Fitting.text-fits, NeverRefused, PastRefused}
+use Rattle.history.specs.Cuts.{RefusedCall, TextCut, TextCut.text-end, TextCut.text-refusal, TextCut.text-piece, Cut, Cut.ad-end, Cut.ad-refusal, Cut.ad-piece, Message, MessageWithin, SealedWhole, CheckedWhole, CuttingDoesNotMatter, CuttingBefore}
 use Rattle.sponge.proofs.Fronts.{stood, tag-is, l₁, b₁, sealed-end, checked-end}
 use Rattle.history.proofs.Rounds.{rounds-whole}
 use Rattle.history.proofs.Replies.{doneOf, reply-refused, reply-done, tag-left, next-is, refused-next}
 use Rattle.history.proofs.History.{Reached, Ready, ready, advance, reached, told, history-law, start-state, fit, key, stoodAt}
-use Rattle.history.proofs.Accepted.{fits-piece, fits-text, fits-finish, reached-sound}
+use Rattle.history.proofs.Accepted.{fits-piece, fits-text, past-text, fits-finish, reached-sound}
 
 -- ---- following a cutting
 
@@ -58,7 +58,7 @@ fits-own : (d : Direction) (s : Stream) → isOpen (s .phase) ≡ true → s .di
 fits-own d s o e = ap₂ _&&_ o (ap (isDirection d) e ∙ own-direction d)
 
 text-reply : (d : Direction) (s : Stream) (piece out : List ℕ) → isSound s ≡ true → isOpen (s .phase) ≡ true → s .direction ≡ d
-    → s .text + length piece ≤ textLimit → (givesText d ≡ true → length piece ≤ length out)
+    → s .text + length piece ≤ s .limit → (givesText d ≡ true → length piece ≤ length out)
     → reply ours s (giveText d piece out) ≡ doneOf s (giveText d piece out)
 text-reply d s piece out sound o e l m =
     reply-done s (giveText d piece out) (fits-text d s (length piece) (length out) sound (fits-own d s o e) l m)
@@ -75,7 +75,7 @@ ad-taken h piece sound e l =
     record { phase-is = ap (λ (g : History). g .stream .phase) to ∙ e; ad-is = ap (λ (g : History). g .ad) to; text-is = ap (λ (g : History). g .text) to }
 
 text-taken : (d : Direction) (h : History) (piece out : List ℕ) → isSound (h .stream) ≡ true → isOpen (h .stream .phase) ≡ true → h .stream .direction ≡ d
-    → h .stream .text + length piece ≤ textLimit → (givesText d ≡ true → length piece ≤ length out) → Taken h (next ours h (giveText d piece out)) [] piece Text
+    → h .stream .text + length piece ≤ h .stream .limit → (givesText d ≡ true → length piece ≤ length out) → Taken h (next ours h (giveText d piece out)) [] piece Text
 unfolding tookText
 text-taken d h piece out sound o e l m =
     let to = next-is h (giveText d piece out) (doneOf (h .stream) (giveText d piece out)) true (text-reply d (h .stream) piece out sound o e l m) refl in
@@ -92,7 +92,18 @@ never-refused start begins calls b o call (text-fits piece out l m) =
     let h : History = after ours (begun ours start) calls in
     let r : Reached start begins h = reached start begins calls b in
     let y : Ready start begins h = ready start begins h r o in
-    ap (λ (x : Outcome). x .answer) (text-reply (start .direction) (h .stream) piece out (reached-sound start begins h r o) o (y .direction-is) (rw (y .text-is) l) m)
+    ap (λ (x : Outcome). x .answer) (text-reply (start .direction) (h .stream) piece out (reached-sound start begins h r o) o (y .direction-is) (rw (y .text-is, y .limit-is) l) m)
+
+pub past-refused : PastRefused ours
+past-refused start begins calls b o piece out past =
+    let h : History = after ours (begun ours start) calls in
+    let s : Stream = h .stream in
+    let d : Direction = start .direction in
+    let r : Reached start begins h = reached start begins calls b in
+    let y : Ready start begins h = ready start begins h r o in
+    let test : textTest d s (length piece) (length out) ≡ PastLimit =
+    past-text d s (length piece) (length out) (reached-sound start begins h r o) (fits-own d s o (y .direction-is)) (rw (y .text-is, y .limit-is) past) in
+    ap (λ (x : Outcome). x .answer) (reply-refused s (giveText d piece out) (ap isDone test)) ∙ test
 
 module _ (start : Start) (begins : Started ours start) where
   abbrev d : Direction
@@ -105,12 +116,12 @@ module _ (start : Start) (begins : Started ours start) where
   N = start .nonce
 
   follow-text : {s : Stream} {T : List ℕ} {calls : List Call} → TextCut ours d s T calls → (h : History) → h .stream ≡ s → Reached start begins h
-      → isOpen (h .stream .phase) ≡ true → BytesIn calls → length (h .text) + length T ≤ textLimit → Followed (after ours h calls) (h .ad) (h .text ++ T)
+      → isOpen (h .stream .phase) ≡ true → BytesIn calls → length (h .text) + length T ≤ start .limit → Followed (after ours h calls) (h .ad) (h .text ++ T)
   follow-text text-end h e r o b l = record { open-still = o; ad-is = refl; text-is = sym (append-nil (h .text)) }
   follow-text (text-refusal {T = T} {calls = calls} call f cut) h e r o b l =
       let same-h : next ours h call ≡ h = refused-next h call (subst (λ (x : Stream). RefusedCall ours x call) (sym e) f) in
       let g = follow-text cut (next ours h call) (ap (λ (x : History). x .stream) same-h ∙ e) (advance start begins h call (b .0) (b .1) r)
-      (ap (λ (x : History). isOpen (x .stream .phase)) same-h ∙ o) (b .2) (subst (λ (x : History). length (x .text) + length T ≤ textLimit) (sym same-h) l) in
+      (ap (λ (x : History). isOpen (x .stream .phase)) same-h ∙ o) (b .2) (subst (λ (x : History). length (x .text) + length T ≤ start .limit) (sym same-h) l) in
       record {
         open-still = g .open-still;
         ad-is = g .ad-is ∙ ap (λ (x : History). x .ad) same-h;
@@ -120,7 +131,7 @@ module _ (start : Start) (begins : Started ours start) where
       let call : Call = giveText d piece out in
       let y = ready start begins h r o in
       let lt : length (piece ++ T) ≡ length piece + length T = length-append piece T in
-      let t = text-taken d h piece out (reached-sound start begins h r o) o (y .direction-is) (rw (y .text-is) (omega arith)) m in
+      let t = text-taken d h piece out (reached-sound start begins h r o) o (y .direction-is) (rw (y .text-is, y .limit-is) (omega arith)) m in
       let lh : length (next ours h call .text) ≡ length (h .text) + length piece = ap length (t .text-is) ∙ length-append (h .text) piece in
       let g = follow-text cut (next ours h call) (next-stream h call e) (advance start begins h call (b .0) (b .1) r) (ap isOpen (t .phase-is)) (b .2) (omega arith) in
       record {
@@ -130,9 +141,9 @@ module _ (start : Start) (begins : Started ours start) where
       }
 
   follow : {s : Stream} {A T : List ℕ} {calls : List Call} → Cut ours d s A T calls → (h : History) → h .stream ≡ s → Reached start begins h
-      → h .stream .phase ≡ Ad → h .text ≡ [] → BytesIn calls → length (h .ad) + length A ≤ adLimit → length T ≤ textLimit → Followed (after ours h calls) (h .ad ++ A) T
+      → h .stream .phase ≡ Ad → h .text ≡ [] → BytesIn calls → length (h .ad) + length A ≤ adLimit → length T ≤ start .limit → Followed (after ours h calls) (h .ad ++ A) T
   follow (ad-end {T = T} {calls = calls} cut) h e r o z b l m =
-      let g = follow-text cut h e r (ap isOpen o) b (subst (λ (x : List ℕ). length x + length T ≤ textLimit) (sym z) (omega arith)) in
+      let g = follow-text cut h e r (ap isOpen o) b (subst (λ (x : List ℕ). length x + length T ≤ start .limit) (sym z) (omega arith)) in
       record { open-still = g .open-still; ad-is = g .ad-is ∙ sym (append-nil (h .ad)); text-is = g .text-is ∙ ap (λ (x : List ℕ). x ++ T) z }
   follow (ad-refusal {A = A} {T = T} {calls = calls} call f cut) h e r o z b l m =
       let same-h : next ours h call ≡ h = refused-next h call (subst (λ (x : Stream). RefusedCall ours x call) (sym e) f) in
@@ -154,7 +165,7 @@ module _ (start : Start) (begins : Started ours start) where
       }
 
   -- the whole cutting, from the start
-  followed : (A T : List ℕ) (calls : List Call) → BytesIn calls → length A ≤ adLimit → length T ≤ textLimit → Cut ours d (begun ours start .stream) A T calls
+  followed : (A T : List ℕ) (calls : List Call) → BytesIn calls → length A ≤ adLimit → length T ≤ start .limit → Cut ours d (begun ours start .stream) A T calls
       → Followed (after ours (begun ours start) calls) A T
   unfolding stateAt
   followed A T calls b l m cut =
@@ -326,3 +337,14 @@ cutting-does-not-matter =
           ∙ ap₂ (λ (x y : List ℕ). stateAt start (k .stream .phase) x y) ad text
           ∙ sym (history-law start begins other c .state);
     }
+
+-- the demand of before is its case of the largest limit
+pub cutting-before : (m : Streams) → CuttingDoesNotMatter m → CuttingBefore m
+cutting-before m cutting =
+    record {
+      seals = λ start A P calls tag largest sealing message size. cutting .seals start A P calls tag sealing (own start A P calls largest message) size;
+      checks = λ start A C calls tag largest checking message. cutting .checks start A C calls tag checking (own start A C calls largest message);
+    }
+  where
+    own : (start : Start) (A T : List ℕ) (calls : List Call) → start .limit ≡ textLimit → MessageWithin m textLimit start A T calls → Message m start A T calls
+    own start A T calls largest message = subst (λ (limit : ℕ). MessageWithin m limit start A T calls) (sym largest) message

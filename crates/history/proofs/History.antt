@@ -11,7 +11,7 @@ use Rattle.answers.specs.Numbers.{isDone}
 use Rattle.permutation.specs.Runs.{roundsOf}
 use Rattle.permutation.specs.Strings.{Bytes, wordsOfString, zeros}
 use Rattle.permutation.proofs.Strings.{bytes-append, bytes-none}
-use Rattle.ascon.specs.Sets.{ParameterSet, rowOf, adLimit, textLimit}
+use Rattle.ascon.specs.Sets.{ParameterSet, rowOf, adLimit}
 use Rattle.ascon.specs.Mode.{p, initialise, beforeText, sealed}
 use Rattle.ascon.specs.Bytewise.{At, at, outs}
 use Rattle.ascon.proofs.Sealing.{Fits}
@@ -25,21 +25,20 @@ use Rattle.stream.specs.declared.Phase.{Phase}
 use Rattle.stream.specs.declared.Phase.the-variants.{Ad, Text, Ended}
 use Rattle.stream.specs.declared.Stream.{Stream}
 use Rattle.stream.specs.State.{isDirection, wayOf, givesText, isAd, isOpen, ended}
-use Rattle.sets.specs.Start.{startTest}
-use Rattle.stream.specs.Calls.{filledRounds, closingRounds, pieceTest, Start, startCall, tookAd, textWords, tookText}
-use Rattle.sets.proofs.Start.{StartPassed, start-passed}
-use Rattle.stream.proofs.Tests.{both-true, one-direction, piece-passed, text-passed}
+use Rattle.stream.specs.Calls.{filledRounds, closingRounds, limitedStartTest, pieceTest, Start, startCall, tookAd, textWords, tookText}
+use Rattle.stream.proofs.Sound.{both-true}
+use Rattle.stream.proofs.Tests.{one-direction, LimitedStartPassed, limited-start-passed, piece-passed, text-passed, finish-passed}
 use Rattle.history.specs.History.{ours, Call, giveAd, giveText, finish, reply, adOf, textOf, outOf, History, begun, next, after, BytesIn, Started, stateAt, roundsAt, Told, HistoryLaw, Limited}
 use Rattle.sponge.proofs.Fronts.{stood, absorbed-more, given-more, l₀, b₀, closed-is, l₁, b₁, sealed-out}
 use Rattle.history.proofs.Rounds.{rounds-ad, rounds-text}
-use Rattle.history.proofs.Replies.{testOf, reply-done, out-given, next-is, next-refused, unfit-piece, shut-ad}
+use Rattle.history.proofs.Replies.{testOf, doneOf, reply-done, out-given, next-is, next-refused, unfit-piece, shut-ad}
 
 -- a start that answers done passed its tests
-start-tested : (start : Start) → isDone (startCall start .answer) ≡ true → isDone (startTest (start .set) (length (start .key)) (length (start .nonce))) ≡ true
+start-tested : (start : Start) → isDone (startCall start .answer) ≡ true → isDone (limitedStartTest (start .set) (length (start .key)) (length (start .nonce)) (start .limit)) ≡ true
 unfolding startCall
-start-tested start e = go (isDone (startTest (start .set) (length (start .key)) (length (start .nonce)))) refl
+start-tested start e = go (isDone (limitedStartTest (start .set) (length (start .key)) (length (start .nonce)) (start .limit))) refl
   where
-    go : (t : Bool) → isDone (startTest (start .set) (length (start .key)) (length (start .nonce))) ≡ t → t ≡ true
+    go : (t : Bool) → isDone (limitedStartTest (start .set) (length (start .key)) (length (start .nonce)) (start .limit)) ≡ t → t ≡ true
     go true f = refl
     go false f = let no : isDone (startCall start .answer) ≡ false = rw f f in absurd (false≢true (sym no ∙ e))
 
@@ -75,11 +74,14 @@ module _ (start : Start) (begins : Started ours start) where
   pub fit : Fits row
   fit = row-fits set
 
-  pub passed : StartPassed set (length K) (length N)
-  passed = start-passed set (length K) (length N) (start-tested start (begins .done))
+  abbrev limit : ℕ
+  limit = start .limit
+
+  pub passed : LimitedStartPassed set (length K) (length N) limit
+  passed = limited-start-passed set (length K) (length N) limit (start-tested start (begins .done))
 
   pub key : length K ≡ row .key
-  key = passed .key-fits
+  key = passed .start .key-fits
 
   -- the state at the start
   pub start-state : startCall start .next ≡ stateAt start Ad [] []
@@ -96,6 +98,7 @@ module _ (start : Start) (begins : Started ours start) where
         ad = 0;
         text = 0;
         place = none j;
+        limit = limit;
       })
 
   start-rounds : startCall start .rounds ≡ 12
@@ -132,14 +135,15 @@ module _ (start : Start) (begins : Started ours start) where
         ad = n j;
         text = 0;
         place = n j % row .block;
+        limit = limit;
       }
 
   -- a piece of text, from either phase
-  text-moves : (s : Stream) (A T piece : List ℕ) → Bytes T → s .set ≡ set → s .direction ≡ direction → s .key ≡ K ++ zeros (16 - length K) → s .ad ≡ length A → s .text ≡ length T
+  text-moves : (s : Stream) (A T piece : List ℕ) → Bytes T → s .set ≡ set → s .direction ≡ direction → s .key ≡ K ++ zeros (16 - length K) → s .ad ≡ length A → s .text ≡ length T → s .limit ≡ limit
       → textWords s ≡ wordsOfString (stoodAt A T .state)
       → tookText s (absorbed (rowOf (s .set)) way (textWords s) (s .text) piece) (length piece) .next ≡ stateAt start Text A (T ++ piece)
   unfolding tookText stateAt
-  text-moves s A T piece h es ed ek ea et ew =
+  text-moves s A T piece h es ed ek ea et el ew =
       let n : s .text + length piece ≡ length (T ++ piece) = ap (λ (k : ℕ). k + length piece) et ∙ sym (length-append T piece) in
       let words : absorbed (rowOf (s .set)) way (textWords s) (s .text) piece ≡ wordsOfString (stoodAt A (T ++ piece) .state) =
       ap (λ (k : ℕ). absorbed (rowOf k) way (textWords s) (s .text) piece) es
@@ -154,6 +158,7 @@ module _ (start : Start) (begins : Started ours start) where
         ad = ea j;
         text = n j;
         place = n j % rowOf (es j) .block;
+        limit = el j;
       }
 
   -- the words at the text, from the data phase and in the text phase
@@ -172,8 +177,8 @@ module _ (start : Start) (begins : Started ours start) where
         → Bounded (h .ad) adLimit → Reached h
     in-text : h .stream ≡ stateAt start Text (h .ad) (h .text)
         → (givesText direction ≡ true → h .out ≡ outAt (h .ad) (h .text))
-        → h .rounds ≡ roundsAt row Text (length (h .ad)) (length (h .text)) → Bounded (h .ad) adLimit → Bounded (h .text) textLimit → Reached h
-    over : h .stream ≡ ended → Reached h
+        → h .rounds ≡ roundsAt row Text (length (h .ad)) (length (h .text)) → Bounded (h .ad) adLimit → Bounded (h .text) limit → Reached h
+    over : h .stream ≡ ended → Bounded (h .ad) adLimit → Bounded (h .text) limit → Reached h
 
   -- the ended state is not open
   shut : {s : Stream} → s ≡ ended → isOpen (s .phase) ≡ false
@@ -195,11 +200,12 @@ module _ (start : Start) (begins : Started ours start) where
     pub key-is : h .stream .key ≡ K ++ zeros (16 - length K)
     pub ad-is : h .stream .ad ≡ length (h .ad)
     pub text-is : h .stream .text ≡ length (h .text)
+    pub limit-is : h .stream .limit ≡ limit
     pub words-is : textWords (h .stream) ≡ wordsOfString (stoodAt (h .ad) (h .text) .state)
     pub rounds-is : h .rounds + closingRounds (h .stream) ≡ roundsAt row Text (length (h .ad)) (length (h .text))
     pub out-is : givesText direction ≡ true → h .out ≡ outAt (h .ad) (h .text)
     pub ad-bounded : Bounded (h .ad) adLimit
-    pub text-bounded : Bounded (h .text) textLimit
+    pub text-bounded : Bounded (h .text) limit
 
   -- the closing of the data, where the text is empty
   closing-first : (A : List ℕ) → roundsAt row Ad (length A) 0 + closingRounds (stateAt start Ad A []) ≡ roundsAt row Text (length A) 0
@@ -225,18 +231,19 @@ module _ (start : Start) (begins : Started ours start) where
         key-is = ap (λ (s : Stream). s .key) es;
         ad-is = ap (λ (s : Stream). s .ad) es;
         text-is = ap (λ (s : Stream). s .text) es ∙ ap length (sym et);
+        limit-is = ap (λ (s : Stream). s .limit) es;
         words-is = ap textWords es ∙ words-from-ad (h .ad) (ab .bytes) ∙ ap words (sym et);
         rounds-is =
             ap₂ (λ (n k : ℕ). n + k) er (ap closingRounds es) ∙ closing-first (h .ad)
             ∙ ap (λ (T : List ℕ). roundsAt row Text (length (h .ad)) (length T)) (sym et);
         out-is = λ x. eo ∙ ap (λ (T : List ℕ). outAt (h .ad) T) (sym et);
         ad-bounded = ab;
-        text-bounded = rw et (bounded-none textLimit);
+        text-bounded = rw et (bounded-none limit);
       }
 
   open-in-text : (h : History) → h .stream ≡ stateAt start Text (h .ad) (h .text)
       → (givesText direction ≡ true → h .out ≡ outAt (h .ad) (h .text))
-      → h .rounds ≡ roundsAt row Text (length (h .ad)) (length (h .text)) → Bounded (h .ad) adLimit → Bounded (h .text) textLimit → Ready h
+      → h .rounds ≡ roundsAt row Text (length (h .ad)) (length (h .text)) → Bounded (h .ad) adLimit → Bounded (h .text) limit → Ready h
   unfolding stateAt
   open-in-text h es eo er ab tb =
       record {
@@ -245,6 +252,7 @@ module _ (start : Start) (begins : Started ours start) where
         key-is = ap (λ (s : Stream). s .key) es;
         ad-is = ap (λ (s : Stream). s .ad) es;
         text-is = ap (λ (s : Stream). s .text) es;
+        limit-is = ap (λ (s : Stream). s .limit) es;
         words-is = ap textWords es ∙ words-in-text (h .ad) (h .text);
         rounds-is = ap (λ (n : ℕ). h .rounds + n) (ap closingRounds es ∙ closing-none (h .ad) (h .text)) ∙ add-zero (h .rounds) ∙ er;
         out-is = eo;
@@ -255,7 +263,7 @@ module _ (start : Start) (begins : Started ours start) where
   pub ready : (h : History) → Reached h → isOpen (h .stream .phase) ≡ true → Ready h
   ready h (in-ad es et eo er ab) o = open-in-ad h es et eo er ab
   ready h (in-text es eo er ab tb) o = open-in-text h es eo er ab tb
-  ready h (over e) o = absurd (false≢true (sym (shut e) ∙ o))
+  ready h (over e ab tb) o = absurd (false≢true (sym (shut e) ∙ o))
 
   -- the rounds and the output of a piece of text
   text-rounds : (h : History) (piece : List ℕ) → Ready h
@@ -279,7 +287,7 @@ module _ (start : Start) (begins : Started ours start) where
       ∙ given-more row fit way (S₁ (h .ad)) (l₁ row fit K N key (begins .key-bytes) (h .ad)) (b₁ row fit K N key (begins .key-bytes) (h .ad)) (h .text) piece (o .text-bounded .bytes)
 
   -- a piece of text that is taken
-  takes-text : (h : History) (call : Call) (piece : List ℕ) → Ready h → Bytes piece → h .stream .text + length piece ≤ textLimit → adOf call ≡ [] → textOf call ≡ piece
+  takes-text : (h : History) (call : Call) (piece : List ℕ) → Ready h → Bytes piece → h .stream .text + length piece ≤ h .stream .limit → adOf call ≡ [] → textOf call ≡ piece
       → reply ours (h .stream) call ≡ tookText (h .stream) (absorbed (rowOf (h .stream .set)) way (textWords (h .stream)) (h .stream .text) piece) (length piece)
       → (givesText direction ≡ true → outOf ours (h .stream) call ≡ given (rowOf (h .stream .set)) way (textWords (h .stream)) (h .stream .text) piece)
       → Reached (next ours h call)
@@ -293,14 +301,14 @@ module _ (start : Start) (begins : Started ours start) where
       let to : next ours h call ≡ g =
       next-is h call _ true er refl
       ∙ (λ j. record {
-        stream = text-moves s A T piece (o .text-bounded .bytes) (o .set-is) (o .direction-is) (o .key-is) (o .ad-is) (o .text-is) (o .words-is) j;
+        stream = text-moves s A T piece (o .text-bounded .bytes) (o .set-is) (o .direction-is) (o .key-is) (o .ad-is) (o .text-is) (o .limit-is) (o .words-is) j;
         ad = (ap (λ (x : List ℕ). A ++ x) ea ∙ append-nil A) j;
         text = T ++ et j;
         out = h .out ++ outOf ours s call;
         rounds = h .rounds + (closingRounds s + f);
       }) in
       moved (next ours h call) g to
-      (in-text refl (λ x. text-out h call piece o x (eo x)) (text-rounds h piece o) (o .ad-bounded) (bounded-more T piece textLimit (o .text-bounded) pb (rw (← o .text-is) w)))
+      (in-text refl (λ x. text-out h call piece o x (eo x)) (text-rounds h piece o) (o .ad-bounded) (bounded-more T piece limit (o .text-bounded) pb (rw (← o .text-is, ← o .limit-is) w)))
 
   -- ---- one call more
 
@@ -351,6 +359,23 @@ module _ (start : Start) (begins : Started ours start) where
       ∙ ap (λ (x : Direction). cond (givesText x) (given (rowOf (s .set)) (wayOf x) (textWords s) (s .text) piece) []) same-d
       ∙ ap (λ (t : Bool). cond t (given (rowOf (s .set)) way (textWords s) (s .text) piece) []) y)
 
+  -- a finish whose test is passed ends the stream, and takes nothing
+  ends : (h : History) (d : Direction) (tag : List ℕ) → Reached h → isDone (testOf (h .stream) (finish d tag)) ≡ true → Reached (next ours h (finish d tag))
+  ends h d tag r e =
+      let s : Stream = h .stream in
+      let o = ready h r (both-true (isOpen (s .phase)) (isDirection d (s .direction)) (finish-passed d s (length tag) e .in-phase) .0) in
+      let done : Bool = isDone (doneOf s (finish d tag) .answer) in
+      let to = next-is h (finish d tag) _ done (reply-done s (finish d tag) e) refl in
+      let same-ad : next ours h (finish d tag) .ad ≡ h .ad = ap (λ (g : History). g .ad) to ∙ nothing (h .ad) done in
+      let same-text : next ours h (finish d tag) .text ≡ h .text = ap (λ (g : History). g .text) to ∙ nothing (h .text) done in
+      over (ap (λ (g : History). g .stream) to)
+      (subst (λ (x : List ℕ). Bounded x adLimit) (sym same-ad) (o .ad-bounded))
+      (subst (λ (x : List ℕ). Bounded x limit) (sym same-text) (o .text-bounded))
+    where
+      nothing : (x : List ℕ) (b : Bool) → x ++ cond b [] [] ≡ x
+      nothing x true = append-nil x
+      nothing x false = append-nil x
+
   -- no data, no rounds but the start's
   rounds-none : 12 ≡ roundsAt row Ad 0 0
   unfolding roundsAt
@@ -364,9 +389,9 @@ module _ (start : Start) (begins : Started ours start) where
   unfolding stateAt
   passes h (giveAd piece) pb tb (in-ad es et eo er ab) e = takes-ad h piece es et eo er ab pb e
   passes h (giveAd piece) pb tb (in-text es eo er ab tt′) e = refuses-ad h piece (ap (λ (s : Stream). isAd (s .phase)) es) (in-text es eo er ab tt′)
-  passes h (giveAd piece) pb tb (over end) e = refuses-ad h piece (shut-ad (h .stream .phase) (shut end)) (over end)
+  passes h (giveAd piece) pb tb (over end ab tt′) e = refuses-ad h piece (shut-ad (h .stream .phase) (shut end)) (over end ab tt′)
   passes h (giveText d piece out) pb tb r e = takes-passed h d piece out tb r e
-  passes h (finish d tag) pb tb r e = over (ap (λ (g : History). g .stream) (next-is h (finish d tag) _ _ (reply-done (h .stream) (finish d tag) e) refl))
+  passes h (finish d tag) pb tb r e = ends h d tag r e
 
   pub advance : (h : History) (call : Call) → Bytes (adOf call) → Bytes (textOf call) → Reached h → Reached (next ours h call)
   advance h call pb tb r = go (isDone (testOf (h .stream) call)) refl
@@ -400,7 +425,7 @@ module _ (start : Start) (begins : Started ours start) where
         state = es ∙ ap₂ (λ (phase : Phase) (T : List ℕ). stateAt start phase (h .ad) T) (sym e) (sym et);
         out = λ o x. eo ∙ ap (λ (T : List ℕ). outAt (h .ad) T) (sym et) ∙ seals h x;
         rounds = λ o. er ∙ ap₂ (λ (phase : Phase) (n : ℕ). roundsAt row phase (length (h .ad)) n) (sym e) (ap length (sym et));
-        within = λ o. (ab .within, rw et (omega arith));
+        within = (ab .within, rw et (omega arith));
       }
   told h (in-text es eo er ab tb) =
       let e : h .stream .phase ≡ Text = ap (λ (s : Stream). s .phase) es in
@@ -408,21 +433,29 @@ module _ (start : Start) (begins : Started ours start) where
         state = es ∙ ap (λ (phase : Phase). stateAt start phase (h .ad) (h .text)) (sym e);
         out = λ o x. eo (ap givesText x) ∙ seals h x;
         rounds = λ o. er ∙ ap (λ (phase : Phase). roundsAt row phase (length (h .ad)) (length (h .text))) (sym e);
-        within = λ o. (ab .within, tb .within);
+        within = (ab .within, tb .within);
       }
-  told h (over e) =
+  told h (over e ab tb) =
       let phase : h .stream .phase ≡ Ended = ap (λ (s : Stream). s .phase) e in
       record {
         state = e ∙ ap (λ (x : Phase). stateAt start x (h .ad) (h .text)) (sym phase);
         out = λ o. absurd (false≢true (sym (shut e) ∙ o));
         rounds = λ o. absurd (false≢true (sym (shut e) ∙ o));
-        within = λ o. absurd (false≢true (sym (shut e) ∙ o));
+        within = (ab .within, tb .within);
       }
 
 pub history-law : HistoryLaw ours
 history-law start begins calls b = told start begins (after ours (begun ours start) calls) (reached start begins calls b)
 
 pub limited : Limited ours
-limited start begins calls b o =
-    let y = ready start begins (after ours (begun ours start) calls) (reached start begins calls b) o in
-    (y .ad-is, y .text-is, y .ad-bounded .within, y .text-bounded .within)
+limited start begins calls b =
+    let h : History = after ours (begun ours start) calls in
+    let open-still : isOpen (h .stream .phase) ≡ true → Ready start begins h = ready start begins h (reached start begins calls b) in
+    let bounds = history-law start begins calls b .within in
+    record {
+      ad-within = bounds .0;
+      text-within = bounds .1;
+      ad = λ o. open-still o .ad-is;
+      text = λ o. open-still o .text-is;
+      limit = λ o. open-still o .limit-is;
+    }

@@ -37,13 +37,17 @@ module _ (m : Streams) where
     ad-piece : {s : Stream} {A T : List ℕ} {calls : List Call} (piece : List ℕ)
         → Cut d (reply m s (giveAd piece) .next) A T calls → Cut d s (piece ++ A) T (giveAd piece ∷ calls)
 
-  -- a message within the limits, and a cutting of it on a stream that a done start gave
-  pub record Message (start : Start) (A T : List ℕ) (calls : List Call) : Type 0 where
+  -- a message, its data within the limit of data and its text within some limit, and a cutting of it on a stream that a done start gave
+  pub record MessageWithin (limit : ℕ) (start : Start) (A T : List ℕ) (calls : List Call) : Type 0 where
     pub started : Started m start
     pub bytes : BytesIn calls
     pub ad-within : length A ≤ adLimit
-    pub text-within : length T ≤ textLimit
+    pub text-within : length T ≤ limit
     pub cut : Cut (start .direction) (begun m start .stream) A T calls
+
+  -- with its text within the limit that the start chose
+  abbrev pub Message : Start → List ℕ → List ℕ → List Call → Type 0
+  Message start A T calls = MessageWithin (start .limit) start A T calls
 
   -- sealing: the joined output and the tag are the published ones, and all the rounds add up to the whole message's
   pub record SealedWhole (start : Start) (A P : List ℕ) (h : History) (tag : List ℕ) : Type 0 where
@@ -71,3 +75,10 @@ module _ (m : Streams) where
         → let h = after m (begun m start) calls in
         let k = after m (begun m start) other in
         h .stream .phase ≡ k .stream .phase → h .ad ≡ k .ad → h .text ≡ k .text → h .stream ≡ k .stream
+
+  -- the demand as it stood before a start chose a limit: on a stream of the largest one, for every text that the rules allow
+  pub record CuttingBefore : Type 0 where
+    pub seals : (start : Start) (A P : List ℕ) (calls : List Call) (tag : List ℕ) → start .limit ≡ textLimit → start .direction ≡ Sealing
+        → MessageWithin textLimit start A P calls → length tag ≡ rowOf (start .set) .key → SealedWhole start A P (after m (begun m start) calls) tag
+    pub checks : (start : Start) (A C : List ℕ) (calls : List Call) (tag : List ℕ) → start .limit ≡ textLimit → start .direction ≡ Checking
+        → MessageWithin textLimit start A C calls → CheckedWhole start A C (after m (begun m start) calls) tag

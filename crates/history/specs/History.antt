@@ -2,14 +2,14 @@
 use mathlib.Core.Bool.{true, cond}
 use mathlib.Core.List.{List, [], _∷_, _++_}
 use mathlib.Core.Path.{_≡_}
-use Prim.Native.Nat.{ℕ, _+_, _-_, _*_, _/_, _%_, _≤_}
+use Prim.Native.Nat.{ℕ, _+_, _-_, _*_, _/_, _%_, _≤_, _<_}
 use lib.Dec.{eqb}
 use lib.ListN.{length, take}
-use Rattle.answers.specs.declared.Answer.the-variants.{Done}
+use Rattle.answers.specs.declared.Answer.the-variants.{Done, PastLimit}
 use Rattle.answers.specs.Numbers.{isDone}
 use Rattle.permutation.specs.Runs.{roundsOf}
 use Rattle.permutation.specs.Strings.{Bytes, zeros, wordsOfString}
-use Rattle.ascon.specs.Sets.{ParameterSet, rowOf, adLimit, textLimit}
+use Rattle.ascon.specs.Sets.{ParameterSet, rowOf, adLimit}
 use Rattle.ascon.specs.Mode.{p, initialise, beforeText, sealed}
 use Rattle.ascon.specs.Bytewise.{at, sealing, steps}
 use Rattle.sponge.specs.Sponge.{keepOf}
@@ -119,6 +119,7 @@ module _ (start : Start) where
         ad = length A;
         text = 0;
         place = length A % row .block;
+        limit = start .limit;
       }
   stateAt Text A T =
       let row = rowOf (start .set) in
@@ -131,6 +132,7 @@ module _ (start : Start) where
         ad = length A;
         text = length T;
         place = length T % row .block;
+        limit = start .limit;
       }
   stateAt Ended A T = ended
 
@@ -141,31 +143,44 @@ roundsAt row Text a t =
     12 + roundsOf (row .between) * (a / row .block) + cond (eqb a 0) 0 (roundsOf (row .between)) + roundsOf (row .between) * (t / row .block)
 roundsAt row Ended a t = 0
 
--- what holds of a history: its state in every phase; its output, its rounds and its lengths while it is not ended
+-- what holds of a history: its state and its lengths in every phase; its output and its rounds while it is not ended
 pub record Told (start : Start) (h : History) : Type 0 where
   pub state : h .stream ≡ stateAt start (h .stream .phase) (h .ad) (h .text)
   pub out : isOpen (h .stream .phase) ≡ true → start .direction ≡ Sealing → h .out ≡ sealed (rowOf (start .set)) (start .key) (start .nonce) (h .ad) (h .text) .cipher
   pub rounds : isOpen (h .stream .phase) ≡ true → h .rounds ≡ roundsAt (rowOf (start .set)) (h .stream .phase) (length (h .ad)) (length (h .text))
-  pub within : isOpen (h .stream .phase) ≡ true → (length (h .ad) ≤ adLimit) × (length (h .text) ≤ textLimit)
+  pub within : (length (h .ad) ≤ adLimit) × (length (h .text) ≤ start .limit)
 
 -- the history law: any calls at all, in any order, after a done start
 abbrev pub HistoryLaw : Streams → Type 0
 HistoryLaw m = (start : Start) → Started m start → (calls : List Call) → BytesIn calls → Told start (after m (begun m start) calls)
 
--- a piece in its phase and direction, within the limits and with room
-pub data Fitting (d : Direction) (h : History) : Call → Type 0 where
-  ad-fits : (piece : List ℕ) → h .stream .phase ≡ Ad → length (h .ad) + length piece ≤ adLimit → Fitting d h (giveAd piece)
-  text-fits : (piece out : List ℕ) → length (h .text) + length piece ≤ textLimit → (givesText d ≡ true → length piece ≤ length out) → Fitting d h (giveText d piece out)
+-- a piece in its phase and direction: of data, within the limit of data; of text, within the limit that the start chose and with room
+pub data Fitting (start : Start) (h : History) : Call → Type 0 where
+  ad-fits : (piece : List ℕ) → h .stream .phase ≡ Ad → length (h .ad) + length piece ≤ adLimit → Fitting start h (giveAd piece)
+  text-fits : (piece out : List ℕ) → length (h .text) + length piece ≤ start .limit → (givesText (start .direction) ≡ true → length piece ≤ length out)
+      → Fitting start h (giveText (start .direction) piece out)
 
 -- the other half: such a piece is never refused
 abbrev pub NeverRefused : Streams → Type 0
 NeverRefused m =
     (start : Start) → Started m start → (calls : List Call) → BytesIn calls → let h = after m (begun m start) calls in
-    isOpen (h .stream .phase) ≡ true → (call : Call) → Fitting (start .direction) h call → reply m (h .stream) call .answer ≡ Done
+    isOpen (h .stream .phase) ≡ true → (call : Call) → Fitting start h call → reply m (h .stream) call .answer ≡ Done
 
--- what an open stream has taken is counted, and within the limits
-abbrev pub Limited : Streams → Type 0
-Limited m =
+-- and a piece of text past the limit that the start chose is refused with 5, whatever its room
+abbrev pub PastRefused : Streams → Type 0
+PastRefused m =
     (start : Start) → Started m start → (calls : List Call) → BytesIn calls → let h = after m (begun m start) calls in
-    isOpen (h .stream .phase) ≡ true
-    → (h .stream .ad ≡ length (h .ad)) × (h .stream .text ≡ length (h .text)) × (length (h .ad) ≤ adLimit) × (length (h .text) ≤ textLimit)
+    isOpen (h .stream .phase) ≡ true → (piece out : List ℕ) → start .limit < length (h .text) + length piece
+    → reply m (h .stream) (giveText (start .direction) piece out) .answer ≡ PastLimit
+
+-- what a stream has taken, open or ended, is data within the limit of data and text within the limit that the start chose; while it is open, it counts both, and has
+-- that limit
+pub record Counted (start : Start) (h : History) : Type 0 where
+  pub ad-within : length (h .ad) ≤ adLimit
+  pub text-within : length (h .text) ≤ start .limit
+  pub ad : isOpen (h .stream .phase) ≡ true → h .stream .ad ≡ length (h .ad)
+  pub text : isOpen (h .stream .phase) ≡ true → h .stream .text ≡ length (h .text)
+  pub limit : isOpen (h .stream .phase) ≡ true → h .stream .limit ≡ start .limit
+
+abbrev pub Limited : Streams → Type 0
+Limited m = (start : Start) → Started m start → (calls : List Call) → BytesIn calls → Counted start (after m (begun m start) calls)

@@ -9,7 +9,9 @@ use Rattle.sets.proofs.Rows.{row-fits}
 use Rattle.ascon.proofs.Rounds.{runs-total}
 use Rattle.ascon.proofs.Marks.{runs-marked}
 use Rattle.history.specs.History.{HistoryLaw}
+use Rattle.stream.proofs.Before.{as-before}
 use Rattle.history.proofs.History.{history-law}
+use Rattle.history.proofs.Cuts.{cutting-before}
 use Rattle.lines.proofs.Laws.{reads-lines}
 use Rattle.record.proofs.Known as record-crate
 use Rattle.record.proofs.Laws.{reads-and-writes}
@@ -40,6 +42,8 @@ letter =
       second = second-demand;
       third = third-demand;
       history = of-kept (λ m. HistoryLaw (m .streams)) history-law;
+      third-before = cutting-before;
+      streams-before = as-before;
       reported = of-kept Reported reported;
       some-model = keeps;
       cases = cases;

@@ -17,7 +17,6 @@ use Rattle.permutation.specs.Strings.{zeros, same, wordsOfString}
 use Rattle.ascon.specs.Sets.{ParameterSet, rowOf, adLimit}
 use Rattle.ascon.specs.Mode.{p, initialise}
 use Rattle.ascon.proofs.Bytewise.{length-outs}
-use Rattle.sets.specs.Start.{startFaults, startTest}
 use Rattle.sponge.specs.Sponge.{keepOf, frontOf, absorbed, given}
 use Rattle.stream.specs.declared.Direction.{Direction}
 use Rattle.stream.specs.declared.Direction.the-variants.{Sealing, Checking}
@@ -25,7 +24,7 @@ use Rattle.stream.specs.declared.Stream.{Stream}
 use Rattle.stream.specs.declared.Outcome.{Outcome}
 use Rattle.stream.specs.declared.Phase.the-variants.{Ad, Text}
 use Rattle.stream.specs.State.{wayOf, givesText, givesTag, isAd, ended}
-use Rattle.stream.specs.Calls.{refused, decided, pieceFaults, pieceTest, textFaults, textTest, finishFaults, finishTest, tagFaults, filledRounds, closingRounds, Start, startCall, tookAd, adCall, textWords, tookText, Called, called, givenText, textCall, ownTag, finishedWith, finishCall}
+use Rattle.stream.specs.Calls.{refused, decided, limitedStartFaults, limitedStartTest, pieceFaults, pieceTest, textFaults, textTest, finishFaults, finishTest, tagFaults, filledRounds, closingRounds, Start, startCall, tookAd, adCall, textWords, tookText, Called, called, givenText, textCall, ownTag, finishedWith, finishCall}
 use Rattle.stream.proofs.Tests.{text-passed}
 use Rattle.history.specs.History.{Streams, ours}
 use Rattle.stream.proofs as stream
@@ -57,7 +56,7 @@ finish-is s tag = go (isDone (finishTest Checking s (length tag))) _ _
 pub is-ours : (m : Streams) → Keeps m → m ≡ ours
 is-ours m k =
     λ j. record {
-      start = λ start. k .start (start .direction) (start .set) (lent (start .key)) (lent (start .nonce)) (lifetimes 2) j;
+      start = λ start. k .start (start .direction) (start .set) (start .limit) (lent (start .key)) (lent (start .nonce)) (lifetimes 2) j;
       ad = λ s piece. k .ad s (lent piece) (lifetimes 1) j;
       text = λ d s piece out. texts d s piece out j;
       finish = λ d s tag. finishes d s tag j;
@@ -77,7 +76,7 @@ is-ours m k =
 pub keeps : Keeps ours
 keeps =
     record {
-      start = λ d set key nonce κ. refl;
+      start = λ d set limit key nonce κ. refl;
       ad = λ s piece κ. refl;
       seal-piece = λ s piece out κ. refl;
       check = λ s piece out. let e = check-is s (piece .now) out in (λ κ. ap (λ (c : Called). c .outcome) e, ap (λ (c : Called). c .lent) e);
@@ -112,9 +111,9 @@ decided-says answer before done e = go (isDone answer) refl
 
 -- a start
 start-said : (start : Start) → let outcome = startCall start in
-    Says (outcome .answer) (first Done (startFaults (start .set) (length (start .key)) (length (start .nonce)))) ((outcome .next ≡ ended) × (outcome .rounds ≡ 0))
-unfolding startCall startTest
-start-said start = decided-says (first Done (startFaults (start .set) (length (start .key)) (length (start .nonce)))) ended _ refl
+    Says (outcome .answer) (first Done (limitedStartFaults (start .set) (length (start .key)) (length (start .nonce)) (start .limit))) ((outcome .next ≡ ended) × (outcome .rounds ≡ 0))
+unfolding startCall limitedStartTest
+start-said start = decided-says (first Done (limitedStartFaults (start .set) (length (start .key)) (length (start .nonce)) (start .limit))) ended _ refl
 
 -- a piece of data
 ad-said : (s : Stream) (piece : List ℕ) → let outcome = adCall s piece in
@@ -194,7 +193,8 @@ decided-done answer s done e = go (isDone answer) refl e
     go false f e = absurd (false≢true (sym f ∙ ap isDone e))
 
 -- a start
-start-reports : (start : Start) → let outcome = startCall start in outcome .answer ≡ Done → (outcome .rounds ≡ 12) × (outcome .next .phase ≡ Ad)
+start-reports : (start : Start) → let outcome = startCall start in
+    outcome .answer ≡ Done → (outcome .rounds ≡ 12) × (outcome .next .phase ≡ Ad) × (outcome .next .limit ≡ start .limit)
 unfolding startCall
 start-reports start e =
     let begun : Outcome = record {
@@ -209,16 +209,19 @@ start-reports start e =
         ad = 0;
         text = 0;
         place = 0;
+        limit = start .limit;
       };
     } in
-    let done = decided-done (startTest (start .set) (length (start .key)) (length (start .nonce))) ended begun e in
-    (ap (λ (x : Outcome). x .rounds) done, ap (λ (x : Outcome). x .next .phase) done)
+    let done = decided-done (limitedStartTest (start .set) (length (start .key)) (length (start .nonce)) (start .limit)) ended begun e in
+    (ap (λ (x : Outcome). x .rounds) done, ap (λ (x : Outcome). x .next .phase) done, ap (λ (x : Outcome). x .next .limit) done)
 
 -- a piece of data
-ad-reports : (s : Stream) (piece : List ℕ) → adCall s piece .answer ≡ Done → adCall s piece .rounds ≡ filledRounds (rowOf (s .set)) (s .ad) (length piece)
+ad-reports : (s : Stream) (piece : List ℕ) → let outcome = adCall s piece in
+    outcome .answer ≡ Done → (outcome .rounds ≡ filledRounds (rowOf (s .set)) (s .ad) (length piece)) × (outcome .next .limit ≡ s .limit)
 unfolding adCall
 ad-reports s piece e =
-    ap (λ (x : Outcome). x .rounds) (decided-done (pieceTest s (isAd (s .phase)) (s .ad) (length piece) adLimit) s (tookAd s piece) e)
+    let done = decided-done (pieceTest s (isAd (s .phase)) (s .ad) (length piece) adLimit) s (tookAd s piece) e in
+    (ap (λ (x : Outcome). x .rounds) done, ap (λ (x : Outcome). x .next .limit) done)
 
 -- what a done piece gives keeps the place's length and the bytes beyond
 given-keeps : (d : Direction) (s : Stream) (piece out : List ℕ) → isDone (textTest d s (length piece) (length out)) ≡ true
@@ -248,6 +251,7 @@ text-reports : (d : Direction) (s : Stream) (piece out : List ℕ) → let leave
     leaves .outcome .answer ≡ Done
     → (leaves .outcome .rounds ≡ closingRounds s + filledRounds (rowOf (s .set)) (s .text) (length piece))
     × (leaves .outcome .next .phase ≡ Text)
+    × (leaves .outcome .next .limit ≡ s .limit)
     × (length (leaves .lent) ≡ length out)
     × (drop (length piece) (leaves .lent) ≡ drop (length piece) out)
 unfolding textCall tookText
@@ -261,9 +265,10 @@ text-reports d s piece out = go (isDone (textTest d s (length piece) (length out
         leaves .outcome .answer ≡ Done
         → (leaves .outcome .rounds ≡ closingRounds s + filledRounds (rowOf (s .set)) (s .text) (length piece))
         × (leaves .outcome .next .phase ≡ Text)
+        × (leaves .outcome .next .limit ≡ s .limit)
         × (length (leaves .lent) ≡ length out)
         × (drop (length piece) (leaves .lent) ≡ drop (length piece) out)
-    go true f e = let kept-all = given-keeps d s piece out f in (refl, refl, kept-all .0, kept-all .1)
+    go true f e = let kept-all = given-keeps d s piece out f in (refl, refl, refl, kept-all .0, kept-all .1)
     go false f e = absurd (false≢true (sym f ∙ ap isDone e))
 
 -- a refused finish is not through

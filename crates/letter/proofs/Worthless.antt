@@ -19,18 +19,20 @@ use Rattle.answers.specs.declared.Answer.the-variants.{Done, PastLimit, NoRoom,
 use Rattle.answers.specs.Numbers.{numberOf, isDone}
 use Rattle.answers.proofs.Numbers.{done-is}
 use Rattle.answers.proofs.Order.{none-holds}
-use Rattle.ascon.specs.Sets.{table, isSet, rowOf, textLimit}
+use Rattle.ascon.specs.Sets.{table, isSet, rowOf}
 use Rattle.ascon.specs.Mode.{p, count, pad, firstBlock, initialise, separate, beforeText, encrypted, decrypted, finalise, Processed, Sealed, sealed, opened}
 use Rattle.ascon.specs.Rounds.{adBlocks, textBlocks, messageRounds}
 use Rattle.ascon.proofs.Sealing.{decrypt-encrypted, open-sealed}
 use Rattle.sets.proofs.Rows.{row-fits, row-sizes}
+use Rattle.stream.specs.declared.Direction.{Direction}
 use Rattle.stream.specs.declared.Direction.the-variants.{Sealing, Checking}
 use Rattle.stream.specs.declared.Phase.{Phase}
-use Rattle.stream.specs.declared.Phase.the-variants.{Ad, Ended}
+use Rattle.stream.specs.declared.Phase.the-variants.{Ad, Text, Ended}
 use Rattle.stream.specs.declared.Stream.{Stream}
 use Rattle.stream.specs.State.{isDirection, isOpen, fits, ended, isSoundOpen, isSound}
-use Rattle.stream.specs.Calls.{Start, Called, finishFaults, tagFaults}
-use Rattle.stream.proofs.Tests.{both-true}
+use Rattle.stream.specs.Calls.{Start, Called, textFaults, finishFaults, tagFaults}
+use Rattle.stream.proofs.Sound.{both-true}
+use Rattle.stream.proofs.Tests.{own-direction}
 use Rattle.history.specs.History.{Streams, Call, giveText, next, BytesIn}
 use Rattle.history.specs.Cuts.{TextCut, TextCut.text-end, TextCut.text-piece, Cut.ad-end, Message}
 use Rattle.message.specs.Message.{SealLeaves, isNone}
@@ -41,7 +43,7 @@ use Rattle.letter.specs.Messages as messages
 use Rattle.letter.specs.Streams as streams
 use Rattle.letter.specs.Second.{Unrefused, Second}
 use Rattle.letter.specs.Third.{Third}
-use Rattle.letter.specs.Worthless.{NeverSeals, NeverOpens, NeverStarts, SealsBlindly, Copies, CopiesOpenings, CopiesLater, EmptyEnds, ForgetsText, OpensAnyTag, AgreesToAnyTag, SameRounds, SameStreamRounds, ReportsLate, StaysOpen, WritesBeyond, Worthless}
+use Rattle.letter.specs.Worthless.{NeverSeals, NeverOpens, NeverStarts, SealsBlindly, Copies, CopiesOpenings, CopiesLater, EmptyEnds, ForgetsText, ForgetsLimit, IgnoresLimit, OpensAnyTag, AgreesToAnyTag, SameRounds, SameStreamRounds, ReportsLate, StaysOpen, WritesBeyond, Worthless}
 
 -- a key, a nonce and a place for a tag, of set 1
 abbrev sixteen : List ℕ
@@ -105,9 +107,9 @@ refuses : (m : messages.Model) → NeverSeals m → messages.Listed m → ⊥
 unfolding isSet rowOf table
 refuses m undone l = undone 1 sixteen sixteen [] [] [] sixteen (l .seal 1 sixteen sixteen [] [] [] sixteen)
 
--- a start of set 1 under zeros
+-- a start of set 1 under zeros, with a limit of eight bytes
 abbrev begin : Start
-begin = record { direction = Sealing; set = 1; key = sixteen; nonce = sixteen }
+begin = record { direction = Sealing; set = 1; limit = 8; key = sixteen; nonce = sixteen }
 
 -- and so is a good start
 refuses-streams : (m : Streams) → NeverStarts m → streams.Listed m → ⊥
@@ -219,7 +221,7 @@ makes-up m n same l r =
 -- ---- streams
 
 -- a text of set 1 under zeros, with no data, and a cutting of it
-message : (m : Streams) → streams.Listed m → (P : List ℕ) (calls : List Call) → BytesIn calls → length P ≤ textLimit
+message : (m : Streams) → streams.Listed m → (P : List ℕ) (calls : List Call) → BytesIn calls → length P ≤ begin .limit
     → TextCut m Sealing (m .start begin .next) P calls → Message m begin [] P calls
 unfolding isSet rowOf table
 message m l P calls b few cut = record {
@@ -305,16 +307,33 @@ two-taken m l t =
     let alone = t .cutting .seals begin [] (zeros 2) (two ∷ []) sixteen refl (two-whole m l) row-one in
     done-is (given .outcome .answer) (gave (isDone (given .outcome .answer)) 2 (given .lent) (0x27 ∷ 0xe6 ∷ []) (alone .out ∙ two-zeros) (lit< tt))
 
--- and counted
+-- and leave the stream open
+two-open : (m : Streams) → streams.Listed m → Third m → isOpen (m .text Sealing (m .start begin .next) (zeros 2) (zeros 2) .outcome .next .phase) ≡ true
+unfolding next
+two-open m l t =
+    let end : Stream = m .text Sealing (m .start begin .next) (zeros 2) (zeros 2) .outcome .next in
+    let alone = t .cutting .seals begin [] (zeros 2) (two ∷ []) sixteen refl (two-whole m l) row-one in
+    let passed = none-holds (finishFaults Sealing end 16 ++ tagFaults Sealing end sixteen) refl (ap isDone (sym (l .finish Sealing end sixteen) ∙ alone .answer)) in
+    both-true (isOpen (end .phase)) _ (not-false (fits Sealing end) (passed .1 .0)) .0
+
+-- with the limit that it had
+forgets-limit : (m : Streams) → ForgetsLimit m → streams.Listed m → Third m → ⊥
+unfolding next
+forgets-limit m changes l t =
+    let s : Stream = m .start begin .next in
+    let taken = two-taken m l t in
+    let passed = none-holds (textFaults Sealing s 2 2) refl (ap isDone (sym (l .text Sealing s (zeros 2) (zeros 2)) ∙ taken)) in
+    let open-first = both-true (isOpen (s .phase)) _ (not-false (fits Sealing s) (passed .1 .0)) .0 in
+    let first-limit = t .limited begin (two-whole m l .started) [] tt .limit open-first in
+    let last-limit = t .limited begin (two-whole m l .started) (two ∷ []) (two-whole m l .bytes) .limit (two-open m l t) in
+    changes s (zeros 2) (zeros 2) taken (last-limit ∙ sym first-limit)
+
+-- and they are counted
 forgets : (m : Streams) → ForgetsText m → streams.Listed m → Third m → ⊥
 unfolding next
 forgets m none l t =
     let s : Stream = m .start begin .next in
-    let end : Stream = m .text Sealing s (zeros 2) (zeros 2) .outcome .next in
-    let alone = t .cutting .seals begin [] (zeros 2) (two ∷ []) sixteen refl (two-whole m l) row-one in
-    let passed = none-holds (finishFaults Sealing end 16 ++ tagFaults Sealing end sixteen) refl (ap isDone (sym (l .finish Sealing end sixteen) ∙ alone .answer)) in
-    let open-still = both-true (isOpen (end .phase)) _ (not-false (fits Sealing end) (passed .1 .0)) .0 in
-    let counted = t .limited begin (two-whole m l .started) (two ∷ []) (two-whole m l .bytes) open-still .1 in
+    let counted = t .limited begin (two-whole m l .started) (two ∷ []) (two-whole m l .bytes) .text (two-open m l t) in
     let taken = ap (λ (a : Answer). length ([] ++ cond (isDone a) (zeros 2) [])) (two-taken m l t) in
     let zero-is-two : _≡_ {A = ℕ} 0 2 = sym (none s (zeros 2) (zeros 2) (two-taken m l t)) ∙ counted ∙ taken in
     omega (arith, zero-is-two)
@@ -326,11 +345,11 @@ ends-early m ends l t =
     let s : Stream = m .start begin .next in
     let taken = two-taken m l t in
     let empty : m .text Sealing s [] [] .outcome .answer ≡ Done =
-    l .text Sealing s [] [] ∙ empty-taken (isSound s) (fits Sealing s) (s .text) 2 textLimit true (sym (l .text Sealing s (zeros 2) (zeros 2)) ∙ taken) in
+    l .text Sealing s [] [] ∙ empty-taken (isSound s) (fits Sealing s) (s .text) 2 (s .limit) true (sym (l .text Sealing s (zeros 2) (zeros 2)) ∙ taken) in
     let end : Stream = m .text Sealing s [] [] .outcome .next in
     let refused : isDone (m .text Sealing end (zeros 2) (zeros 2) .outcome .answer) ≡ false =
     ap isDone (l .text Sealing end (zeros 2) (zeros 2))
-    ∙ none-taken (end .phase) (ends s [] empty) (isSound end) (isDirection Sealing (end .direction)) (PastLimit when not (leb (end .text + 2) textLimit)) (NoRoom when not true) in
+    ∙ none-taken (end .phase) (ends s [] empty) (isSound end) (isDirection Sealing (end .direction)) (PastLimit when not (leb (end .text + 2) (end .limit))) (NoRoom when not true) in
     let behind = t .cutting .seals begin [] (zeros 2) (giveText Sealing [] [] ∷ two ∷ []) sixteen refl
     (message m l (zeros 2) (giveText Sealing [] [] ∷ two ∷ []) (bytes-none, bytes-none, (bytes-none, bytes-zeros 2, tt)) (lit≤ tt)
     (text-piece [] [] (λ _. lit≤ tt) (text-piece (zeros 2) (zeros 2) (λ _. lit≤ tt) text-end))) row-one in
@@ -354,7 +373,7 @@ makes-up-streams m start text finish same l t =
     s = m .start begin .next
 
     -- n zeros in one piece
-    sum : (n : ℕ) → 0 < n → length (zeros n ++ []) ≤ textLimit → start + text + finish ≡ messageRounds (rowOf 1) 0 (length (zeros n ++ []))
+    sum : (n : ℕ) → 0 < n → length (zeros n ++ []) ≤ begin .limit → start + text + finish ≡ messageRounds (rowOf 1) 0 (length (zeros n ++ []))
     sum n some few =
         let piece : Call = giveText Sealing (zeros n) (zeros n) in
         let P : List ℕ = zeros n ++ [] in
@@ -384,7 +403,7 @@ reports-late m none l r =
 
 -- a stream of set 1 with nothing taken
 fresh : Stream
-fresh = record { words = zeros 5; set = 1; direction = Sealing; phase = Ad; key = zeros 16; ad = 0; text = 0; place = 0 }
+fresh = record { words = zeros 5; set = 1; direction = Sealing; phase = Ad; key = zeros 16; ad = 0; text = 0; place = 0; limit = 0 }
 
 -- a finish of it is done, and ends it
 stays-open : (m : Streams) → StaysOpen m → streams.Listed m → streams.Reported m → ⊥
@@ -396,6 +415,15 @@ stays-open m same l r =
     let off : _≡_ {A = ℕ} 0 1 = cc phase in
     omega arith
 
+-- a byte passes a limit of nought
+ignores-limit : (m : Streams) (d : Direction) → IgnoresLimit m d → streams.Listed m → ⊥
+unfolding isSet rowOf table isSound isSoundOpen
+ignores-limit m d ignores l =
+    let s : Stream = record { words = zeros 5; set = 1; direction = d; phase = Text; key = zeros 16; ad = 0; text = 0; place = 0; limit = 0 } in
+    let passes : m .text d s (zeros 1) (zeros 1) .outcome .answer ≡ PastLimit = l .text d s (zeros 1) (zeros 1) ∙ rw (own-direction d) in
+    let off : _≡_ {A = ℕ} 0 5 = ap numberOf (sym (ignores s (zeros 1) (zeros 1) refl (own-direction d) (lit≤ tt) (lit≤ tt)) ∙ passes) in
+    omega (arith, off)
+
 -- an empty piece of it is done, and leaves the one byte lent
 writes-beyond : (m : Streams) (s : Stream) (piece out : List ℕ) (index : ℕ) → WritesBeyond m s piece out index → streams.Reported m → ⊥
 writes-beyond m s piece out index (done, behind, changed) r =
@@ -403,13 +431,14 @@ writes-beyond m s piece out index (done, behind, changed) r =
     let n = length piece in
     let here : index ≡ n + (index - n) = omega arith in
     let at : (l : List ℕ) → getD l index 0 ≡ getD (drop n l) (index - n) 0 = λ l. ap (λ (k : ℕ). getD l k 0) here ∙ sym (getD-drop n l (index - n) 0) in
-    changed (at lent ∙ ap (λ (l : List ℕ). getD l (index - n) 0) (r .text Sealing s piece out done .3) ∙ sym (at out))
+    changed (at lent ∙ ap (λ (l : List ℕ). getD l (index - n) 0) (r .text Sealing s piece out done .4) ∙ sym (at out))
 
 pub worthless : Worthless
 worthless =
     record {
       refuses = refuses;
       refuses-streams = refuses-streams;
+      ignores-limit = ignores-limit;
       refuses-openings = refuses-openings;
       answers-same = answers-same;
       copies = copies;
@@ -423,6 +452,7 @@ worthless =
       copies-later = copies-later;
       ends-early = ends-early;
       forgets = forgets;
+      forgets-limit = forgets-limit;
       makes-up = makes-up;
       makes-up-streams = makes-up-streams;
     }

@@ -10,7 +10,9 @@ use Rattle.ascon.specs.Mode.{decrypted, sealed}
 use Rattle.ascon.specs.Rounds.{runs, total, messageRounds, Marked}
 use Rattle.ascon.specs.Cases.{Cases}
 use Rattle.ascon.specs.Known as ascon
-use Rattle.history.specs.History.{HistoryLaw}
+use Rattle.stream.specs.Before.{AsBefore}
+use Rattle.history.specs.History.{Streams, HistoryLaw}
+use Rattle.history.specs.Cuts.{CuttingDoesNotMatter, CuttingBefore}
 use Rattle.lines.specs.Laws.{ReadsLines}
 use Rattle.record.specs.declared.form.Form.{Form}
 use Rattle.record.specs.Known as record-crate
@@ -38,6 +40,9 @@ pub record Letter : Type 2 where
   pub third : (m : Model) → Keeps m → Third (m .streams)
   -- behind it: after any calls, also refused ones, the state, with its counts, is that of the start, the phase, and what was taken
   pub history : (m : Model) → Keeps m → HistoryLaw (m .streams)
+  -- the third demand as it stood before a start chose a limit is its case of the largest one, and so are the rules of streams
+  pub third-before : (m : Streams) → CuttingDoesNotMatter m → CuttingBefore m
+  pub streams-before : AsBefore
   -- what each call reports and leaves beyond the demands' words
   pub reported : (m : Model) → Keeps m → Reported m
   -- there is a model that keeps the contracts

@@ -7,13 +7,12 @@ use lib.ListN.{length, drop}
 use Rattle.answers.specs.declared.Answer.the-variants.{Done, TagDiffers}
 use Rattle.answers.specs.Order.{first}
 use Rattle.ascon.specs.Sets.{rowOf, adLimit}
-use Rattle.sets.specs.Start.{startFaults}
 use Rattle.stream.specs.declared.Direction.{Direction}
 use Rattle.stream.specs.declared.Direction.the-variants.{Sealing, Checking}
 use Rattle.stream.specs.declared.Stream.{Stream}
 use Rattle.stream.specs.declared.Phase.the-variants.{Ad, Text}
 use Rattle.stream.specs.State.{givesTag, isAd, ended}
-use Rattle.stream.specs.Calls.{pieceFaults, textFaults, finishFaults, tagFaults, filledRounds, closingRounds, Start, startCall, adCall, called, textCall, ownTag, finishCall}
+use Rattle.stream.specs.Calls.{limitedStartFaults, pieceFaults, textFaults, finishFaults, tagFaults, filledRounds, closingRounds, Start, startCall, adCall, called, textCall, ownTag, finishCall}
 use Rattle.history.specs.History.{Streams}
 use Rattle.stream.proofs as stream
 use Rattle.letter.specs.Calls.{Answered, Lent, holding, Leaves, Gives, Refused, Through}
@@ -22,8 +21,9 @@ use Rattle.letter.specs.Calls.{Answered, Lent, holding, Leaves, Gives, R
 
 -- each gives what the contract of the code allows; `check` and `finish_checking` are lent nothing to write, so what the model was handed is what it leaves
 pub record Keeps (m : Streams) : Type 0 where
-  pub start : (d : Direction) (set : ℕ) (key nonce : Lent)
-      → Gives stream.Stream.start.Reads.Learnt (d, (set, (key, (nonce, tt)))) (m .start (record { direction = d; set = set; key = key .now; nonce = nonce .now }))
+  pub start : (d : Direction) (set limit : ℕ) (key nonce : Lent)
+      → Gives stream.Stream.start.Reads.Learnt (d, (set, (limit, (key, (nonce, tt)))))
+      (m .start (record { direction = d; set = set; limit = limit; key = key .now; nonce = nonce .now }))
   pub ad : (s : Stream) (piece : Lent) → Gives stream.Stream.ad.Reads.Learnt (s, (piece, tt)) (m .ad s (piece .now))
   pub seal-piece : (s : Stream) (piece out : Lent) → let leaves = m .text Sealing s (piece .now) (out .now) in
       Leaves stream.Stream.seal.Reads.Learnt (s, (piece, (out, tt))) (leaves .outcome) (s, (piece, (holding out (leaves .lent), tt)))
@@ -38,7 +38,8 @@ pub record Keeps (m : Streams) : Type 0 where
 pub record EveryCall : Type 2 where
   pub stream-ended : Answered stream.Stream.ended.Statement.statement stream.Stream.ended.Reads.Asked stream.Stream.ended.Reads.Learnt (λ r e. r) (λ _. ended)
   pub stream-start : Answered stream.Stream.start.Statement.statement stream.Stream.start.Reads.Asked stream.Stream.start.Reads.Learnt
-      (λ r e. r) (λ (direction, (set, (key, (nonce, _)))). startCall (record { direction = direction; set = set; key = key .now; nonce = nonce .now }))
+      (λ r e. r)
+      (λ (direction, (set, (limit, (key, (nonce, _))))). startCall (record { direction = direction; set = set; limit = limit; key = key .now; nonce = nonce .now }))
   pub stream-ad : Answered stream.Stream.ad.Statement.statement stream.Stream.ad.Reads.Asked stream.Stream.ad.Reads.Learnt
       (λ r e. r) (λ (s, (piece, _)). adCall s (piece .now))
   pub stream-seal : Answered stream.Stream.seal.Statement.statement stream.Stream.seal.Reads.Asked stream.Stream.seal.Reads.Learnt
@@ -54,7 +55,7 @@ pub record EveryCall : Type 2 where
 
 -- each answer is the first whose condition holds, and `Done` where none does
 pub record Listed (m : Streams) : Type 0 where
-  pub start : (start : Start) → m .start start .answer ≡ first Done (startFaults (start .set) (length (start .key)) (length (start .nonce)))
+  pub start : (start : Start) → m .start start .answer ≡ first Done (limitedStartFaults (start .set) (length (start .key)) (length (start .nonce)) (start .limit))
   pub ad : (s : Stream) (piece : List ℕ) → m .ad s piece .answer ≡ first Done (pieceFaults s (isAd (s .phase)) (s .ad + length piece) adLimit)
   pub text : (d : Direction) (s : Stream) (piece out : List ℕ) → m .text d s piece out .outcome .answer ≡ first Done (textFaults d s (length piece) (length out))
   pub finish : (d : Direction) (s : Stream) (tag : List ℕ) → m .finish d s tag .outcome .answer ≡ first Done (finishFaults d s (length tag) ++ tagFaults d s tag)
@@ -78,16 +79,18 @@ pub record Mismatch (m : Streams) : Type 0 where
 -- done, or 9: the rules' rounds, call by call, and the bytes of a lent place beyond its result; what a piece gives, and the state after it, is in the third demand for
 -- states that a start gave, and in `EveryCall` for all others
 pub record Reported (m : Streams) : Type 0 where
-  -- a start: twelve, and the data phase
-  pub start : (start : Start) → let outcome = m .start start in outcome .answer ≡ Done → (outcome .rounds ≡ 12) × (outcome .next .phase ≡ Ad)
-  -- a piece: the middle rounds for each block that it fills; of text, also those of closing the data, and the text phase
+  -- a start: twelve, the data phase, and the limit that it was given
+  pub start : (start : Start) → let outcome = m .start start in
+      outcome .answer ≡ Done → (outcome .rounds ≡ 12) × (outcome .next .phase ≡ Ad) × (outcome .next .limit ≡ start .limit)
+  -- a piece: the middle rounds for each block that it fills; of text, also those of closing the data, and the text phase; the limit stays
   pub ad : (s : Stream) (piece : List ℕ) → let outcome = m .ad s piece in
-      outcome .answer ≡ Done → outcome .rounds ≡ filledRounds (rowOf (s .set)) (s .ad) (length piece)
+      outcome .answer ≡ Done → (outcome .rounds ≡ filledRounds (rowOf (s .set)) (s .ad) (length piece)) × (outcome .next .limit ≡ s .limit)
   -- bytes of `out` beyond a piece stay, and `out` keeps its length
   pub text : (d : Direction) (s : Stream) (piece out : List ℕ) → let leaves = m .text d s piece out in
       leaves .outcome .answer ≡ Done
       → (leaves .outcome .rounds ≡ closingRounds s + filledRounds (rowOf (s .set)) (s .text) (length piece))
       × (leaves .outcome .next .phase ≡ Text)
+      × (leaves .outcome .next .limit ≡ s .limit)
       × (length (leaves .lent) ≡ length out)
       × (drop (length piece) (leaves .lent) ≡ drop (length piece) out)
   -- a finish: those of closing the data, and twelve more; it gives the ended state, and the place of the tag holds the state's own tag and no more, or what it held

@@ -20,35 +20,30 @@ use Rattle.log.specs.declared.form.Call.the-variants.{Start1, Start2, Ad, Text,
 use Rattle.log.specs.Form.{startData, dataKind}
 use Rattle.permutation.specs.Strings.{zeros}
 use Rattle.record.specs.Form.{fieldOf, isField, allows}
-use Rattle.sets.specs.Start.{startFaults, startTest}
 use Rattle.sponge.specs.declared.Way.the-variants.{Seal}
 use Rattle.sponge.specs.Sponge.{absorbed, given}
 use Rattle.stream.specs.declared.Direction.the-variants.{Sealing}
 use Rattle.stream.specs.declared.Outcome.{Outcome}
 use Rattle.stream.specs.declared.Stream.{Stream}
 use Rattle.stream.specs.State.{isAd, fits, ended, isSound}
-use Rattle.stream.specs.Calls.{refused, decided, pieceFaults, pieceTest, textTest, finishTest, Start, startCall, tookAd, adCall, textWords, tookText, called, textCall, ownTag, finishedWith, finishCall}
-use Rattle.replay.specs.Feeding.{Gives, gives, silent, written, started, sealedPiece, finished, fed}
+use Rattle.stream.specs.Calls.{refused, decided, limitedStartFaults, limitedStartTest, pieceFaults, pieceTest, textTest, finishTest, startCall, tookAd, adCall, textWords, tookText, called, textCall, ownTag, finishedWith, finishCall}
+use Rattle.replay.specs.Feeding.{Gives, gives, silent, written, startOf, started, sealedPiece, finished, fed}
 use Rattle.replay.specs.Laws.{Asked, answerTo, after, isStart, hasOut, Feeds}
 use Rattle.replay.proofs.Places.{text-fills}
 use Rattle.replay.proofs.Sound.{ended-sound, start-sound, ad-sound, text-sound}
 
 -- ---- a call by its test
 
--- what a start is given
-abbrev startOf : ℕ → List ℕ → Start
-startOf set input = record { direction = Sealing; set = set; key = take (rowOf set .key) input; nonce = drop (rowOf set .key) input }
-
--- its test
+-- the test of a start
 abbrev testStart : ℕ → List ℕ → Answer
-testStart set input = startTest set (length (take (rowOf set .key) input)) (length (drop (rowOf set .key) input))
+testStart set input = limitedStartTest set (length (take (rowOf set .key) input)) (length (drop (rowOf set .key) input)) textLimit
 
 -- the test of a call, but for its room
 abbrev testOf : Stream → Call → List ℕ → Answer
 testOf s Start1 input = testStart 1 input
 testOf s Start2 input = testStart 2 input
 testOf s Ad input = pieceTest s (isAd (s .phase)) (s .ad) (length input) adLimit
-testOf s Text input = pieceTest s (fits Sealing s) (s .text) (length input) textLimit
+testOf s Text input = pieceTest s (fits Sealing s) (s .text) (length input) (s .limit)
 testOf s Finish input = first Done (BrokenState when not (isSound s) ∷ OutOfPhase when not (fits Sealing s) ∷ [])
 
 -- what it gives where the test is passed
@@ -85,7 +80,7 @@ written-by test s done own place d = go (isDone test) refl
     go false e = rw e
 
 -- where the room is as long as the text, it plays no part
-text-room : (s : Stream) (n : ℕ) → textTest Sealing s n (length (zeros n)) ≡ pieceTest s (fits Sealing s) (s .text) n textLimit
+text-room : (s : Stream) (n : ℕ) → textTest Sealing s n (length (zeros n)) ≡ pieceTest s (fits Sealing s) (s .text) n (s .limit)
 unfolding textTest pieceTest
 text-room s n = rw (length-replicate {A = ℕ} n 0, le-leb n n (omega arith))
 
@@ -177,11 +172,11 @@ Roomy answer = isTight answer ≡ false
 
 -- no test refuses either
 test-roomy : (s : Stream) (call : Call) (input : List ℕ) → Roomy (testOf s call input)
-unfolding startTest pieceTest
-test-roomy s Start1 input = first-each Roomy (startFaults 1 _ _) refl (refl, (refl, (refl, tt)))
-test-roomy s Start2 input = first-each Roomy (startFaults 2 _ _) refl (refl, (refl, (refl, tt)))
+unfolding limitedStartTest pieceTest
+test-roomy s Start1 input = first-each Roomy (limitedStartFaults 1 _ _ textLimit) refl (refl, (refl, (refl, (refl, tt))))
+test-roomy s Start2 input = first-each Roomy (limitedStartFaults 2 _ _ textLimit) refl (refl, (refl, (refl, (refl, tt))))
 test-roomy s Ad input = first-each Roomy (pieceFaults s (isAd (s .phase)) (s .ad + length input) adLimit) refl (refl, (refl, (refl, tt)))
-test-roomy s Text input = first-each Roomy (pieceFaults s (fits Sealing s) (s .text + length input) textLimit) refl (refl, (refl, (refl, tt)))
+test-roomy s Text input = first-each Roomy (pieceFaults s (fits Sealing s) (s .text + length input) (s .limit)) refl (refl, (refl, (refl, tt)))
 test-roomy s Finish input = first-each Roomy (BrokenState when not (isSound s) ∷ OutOfPhase when not (fits Sealing s) ∷ []) refl (refl, (refl, tt))
 
 -- so no call is refused for them
@@ -194,7 +189,7 @@ all-roomy s call input =
 
 -- data in form passes the test of a start
 start-passes : (set : ℕ) (input : List ℕ) → isSet set ≡ true → allows (startData set) 0 (fieldOf input) ≡ true → testStart set input ≡ Done
-unfolding fieldOf startTest
+unfolding fieldOf limitedStartTest
 start-passes set input known e =
     let k : ℕ = rowOf set .key in
     let bounds = and-both (leb (2 * k) (length input)) (leb (length input) (2 * k)) (and-both (isField (fieldOf input)) _ e .1) in
@@ -204,11 +199,11 @@ start-passes set input known e =
     let nonce : length (drop k input) ≡ k = omega (arith, length-drop k input) in
     rw (known, eq-eqb (length (take k input)) k key, eq-eqb (length (drop k input)) k nonce)
 
--- so such a start is done, with 12 rounds
+-- so such a start is done, with 12 rounds and the largest limit
 start-done : (set : ℕ) (input : List ℕ) → isSet set ≡ true → allows (startData set) 0 (fieldOf input) ≡ true
-    → let g = started set input in (g .answer ≡ Done) × (g .rounds ≡ 12)
+    → let g = started set input in (g .answer ≡ Done) × (g .rounds ≡ 12) × (g .next .limit ≡ textLimit)
 unfolding started startCall
-start-done set input known e = rw (start-passes set input known e) (refl, refl)
+start-done set input known e = rw (start-passes set input known e) (refl, refl, refl)
 
 -- set 1 is known
 one-known : isSet 1 ≡ true
@@ -222,7 +217,7 @@ two-known = refl
 
 -- each start
 starts-done : (s : Stream) (call : Call) (input : List ℕ) → isStart call ≡ true → allows (dataKind call) 0 (fieldOf input) ≡ true
-    → let g = fed s call input in (g .answer ≡ Done) × (g .rounds ≡ 12)
+    → let g = fed s call input in (g .answer ≡ Done) × (g .rounds ≡ 12) × (g .next .limit ≡ textLimit)
 starts-done s Start1 input e allowed = start-done 1 input one-known allowed
 starts-done s Start2 input e allowed = start-done 2 input two-known allowed
 starts-done s Ad input e allowed = absurd (false≢true e)
@@ -297,7 +292,7 @@ unfolding pieceTest
 test-usual s Start1 input sound allowed = subst Usual (sym (start-passes 1 input one-known allowed)) (inl refl)
 test-usual s Start2 input sound allowed = subst Usual (sym (start-passes 2 input two-known allowed)) (inl refl)
 test-usual s Ad input sound allowed = rw sound (late (isAd (s .phase)) (leb (s .ad + length input) adLimit))
-test-usual s Text input sound allowed = rw sound (late (fits Sealing s) (leb (s .text + length input) textLimit))
+test-usual s Text input sound allowed = rw sound (late (fits Sealing s) (leb (s .text + length input) (s .limit)))
 test-usual s Finish input sound allowed = rw sound (late (fits Sealing s) true)
 
 -- and so does the call

@@ -29,7 +29,6 @@ use Rattle.record.specs.declared.field.Field.{Field}
 use Rattle.record.specs.Form.{fieldOf, isField, allows}
 use Rattle.record.proofs.Fields.{whole-field, held-field, held-most}
 use Rattle.record.proofs.Lines.{field-allowed}
-use Rattle.sets.specs.Start.{startTest}
 use Rattle.sets.proofs.Rows.{row-fits, row-sizes}
 use Rattle.sponge.specs.declared.Way.the-variants.{Seal}
 use Rattle.sponge.specs.Sponge.{absorbed, frontOf, given, tagOf}
@@ -38,9 +37,9 @@ use Rattle.stream.specs.declared.Direction.the-variants.{Sealing}
 use Rattle.stream.specs.declared.Outcome.{Outcome}
 use Rattle.stream.specs.declared.Stream.{Stream}
 use Rattle.stream.specs.State.{isAd, ended}
-use Rattle.stream.specs.Calls.{refused, decided, called, pieceTest, textTest, finishTest, filledRounds, Start, startCall, tookAd, adCall, textWords, tookText, textCall, ownTag, finishedWith, finishCall}
-use Rattle.stream.proofs.Tests.{rounds-bound, closing-bound, piece-passed, text-passed}
-use Rattle.replay.specs.Feeding.{Gives, silent, written, started, sealedPiece, finished, fed}
+use Rattle.stream.specs.Calls.{refused, decided, called, limitedStartTest, pieceTest, textTest, finishTest, filledRounds, Start, startCall, tookAd, adCall, textWords, tookText, textCall, ownTag, finishedWith, finishCall}
+use Rattle.stream.proofs.Tests.{rounds-bound, closing-bound, piece-passed, text-passed, text-within}
+use Rattle.replay.specs.Feeding.{Gives, silent, written, startOf, started, sealedPiece, finished, fed}
 use Rattle.replay.specs.Laws.{Asked, answerTo, entryOf}
 
 -- ---- bytes
@@ -98,7 +97,7 @@ unfolding startCall
 start-kept start few bytes =
     let l = length-append (start .key) (zeros (16 - length (start .key))) in
     let z = length-replicate {A = ℕ} (16 - length (start .key)) 0 in
-    decided-kept (startTest (start .set) (length (start .key)) (length (start .nonce))) ended _ ended-key
+    decided-kept (limitedStartTest (start .set) (length (start .key)) (length (start .nonce)) (start .limit)) ended _ ended-key
     (λ passed. record { rounds = lit≤ tt; key = record { size = omega arith; bytes = bytes-append bytes (bytes-zeros (16 - length (start .key))) } })
 
 -- a start
@@ -106,8 +105,7 @@ start-fit : (set : ℕ) (input : List ℕ) → areBytes input ≡ true → Fit (
 unfolding started
 start-fit set input e =
     let few : length (take (rowOf set .key) input) ≤ 16 = omega (arith, length-take (rowOf set .key) input, row-sizes set .key) in
-    let start : Start = record { direction = Sealing; set = set; key = take (rowOf set .key) input; nonce = drop (rowOf set .key) input } in
-    silent-fit (start-kept start few (bytes-take (rowOf set .key) (pass-bytes input e)))
+    silent-fit (start-kept (startOf set input) few (bytes-take (rowOf set .key) (pass-bytes input e)))
 
 -- a piece of the associated data
 ad-fit : (s : Stream) (input : List ℕ) → Sixteen (s .key) → Fit (silent (adCall s input))
@@ -161,7 +159,7 @@ text-fit s input key e short = go (isDone answer) refl
         let l = length-append sealed (drop (length input) room) in
         let d = length-drop (length input) room in
         let z = length-replicate {A = ℕ} (length input) 0 in
-        let within = text-passed Sealing s (length input) (length room) passed .piece .within in
+        let within = text-within Sealing s (length input) (length room) (text-passed Sealing s (length input) (length room) passed) in
         let few = rounds-bound row (row-sizes (s .set)) (s .text) (length input) within in
         record {
           most = omega arith;

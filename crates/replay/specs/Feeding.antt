@@ -5,7 +5,7 @@ use Prim.Native.Nat.{ℕ}
 use lib.ListN.{length, take, drop}
 use Rattle.answers.specs.declared.Answer.{Answer}
 use Rattle.answers.specs.Numbers.{isDone}
-use Rattle.ascon.specs.Sets.{rowOf}
+use Rattle.ascon.specs.Sets.{rowOf, textLimit}
 use Rattle.log.specs.declared.form.Call.{Call}
 use Rattle.log.specs.declared.form.Call.the-variants.{Start1, Start2, Ad, Text, Finish}
 use Rattle.permutation.specs.Strings.{zeros}
@@ -13,7 +13,7 @@ use Rattle.record.specs.Form.{fieldOf, held}
 use Rattle.stream.specs.declared.Direction.the-variants.{Sealing}
 use Rattle.stream.specs.declared.Outcome.{Outcome}
 use Rattle.stream.specs.declared.Stream.{Stream}
-use Rattle.stream.specs.Calls.{Called, startCall, adCall, textCall, finishCall}
+use Rattle.stream.specs.Calls.{Start, Called, startCall, adCall, textCall, finishCall}
 use Rattle.replay.specs.declared.feeding.Given.{Given}
 
 -- the answer, the output, the rounds, and the next state
@@ -35,9 +35,13 @@ silent outcome = gives outcome []
 abbrev pub written : Called → Gives
 written c = gives (c .outcome) (cond (isDone (c .outcome .answer)) (c .lent) [])
 
--- a start in a set: key, then nonce
+-- what a start in a set is given: key, then nonce, and the largest limit
+abbrev pub startOf : ℕ → List ℕ → Start
+startOf set input = record { direction = Sealing; set = set; limit = textLimit; key = take (rowOf set .key) input; nonce = drop (rowOf set .key) input }
+
+-- such a start
 unfoldable pub started : ℕ → List ℕ → Gives
-started set input = silent (startCall (record { direction = Sealing; set = set; key = take (rowOf set .key) input; nonce = drop (rowOf set .key) input }))
+started set input = silent (startCall (startOf set input))
 
 -- a piece of the text
 unfoldable pub sealedPiece : Stream → List ℕ → Gives

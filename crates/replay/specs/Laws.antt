@@ -8,6 +8,7 @@ use lib.ListN.{length, drop}
 use lib.Pow.{areBytes}
 use Rattle.answers.specs.declared.Answer.the-variants.{Done, TagLength, NoRoom}
 use Rattle.answers.specs.Numbers.{numberOf, isDone}
+use Rattle.ascon.specs.Sets.{textLimit}
 use Rattle.log.specs.declared.form.Call.{Call}
 use Rattle.log.specs.declared.form.Call.the-variants.{Start1, Start2, Ad, Text, Finish}
 use Rattle.log.specs.declared.form.Entry.{Entry}
@@ -84,9 +85,9 @@ hasOut Finish = true
 pub record Feeds : Type 0 where
   -- the room is always enough: no call is refused for its room or for the length of its tag
   pub room : (s : Stream) (call : Call) (input : List ℕ) → let g = fed s call input in (g .answer ≡ NoRoom → ⊥) × (g .answer ≡ TagLength → ⊥)
-  -- a start whose data is in form is done, with 12 rounds
+  -- a start whose data is in form is done, with 12 rounds, and its stream has the largest limit
   pub starts : (s : Stream) (call : Call) (input : List ℕ) → isStart call ≡ true → allows (dataKind call) 0 (fieldOf input) ≡ true
-      → let g = fed s call input in (g .answer ≡ Done) × (g .rounds ≡ 12)
+      → let g = fed s call input in (g .answer ≡ Done) × (g .rounds ≡ 12) × (g .next .limit ≡ textLimit)
   -- a start replaces whatever stream was open
   pub replaces : (s other : Stream) (call : Call) (input : List ℕ) → isStart call ≡ true → fed s call input ≡ fed other call input
   -- a refused piece or finish reports no round, and leaves the state as it was

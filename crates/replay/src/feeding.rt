@@ -52,12 +52,18 @@ fn lesser(one: usize, other: usize) -> usize
     other
 }
 
-// A start in a set: key, then nonce.
+// A start in a set with the largest limit: key, then nonce.
 fn start(set: u64, input: &[u8]) -> Given
     ensures { λ r. ⌜ r ≡ inPlaces (started set (now (input .entry))) ⌝ }
 {
     let cut = lesser(sets::key_length(set), input.len());
-    without_out(Stream::start(Direction::Sealing, set, &input[..cut], &input[cut..]))
+    without_out(Stream::start(
+        Direction::Sealing,
+        set,
+        sets::TEXT_LIMIT as u64,
+        &input[..cut],
+        &input[cut..],
+    ))
 }
 
 // How many bytes a call gives, where it is done.

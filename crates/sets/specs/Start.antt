@@ -1,4 +1,4 @@
--- The tests of a start, of a stream or of a whole message.
+-- The first tests of a stream's start, and of a whole message.
 use mathlib.Core.Bool.{not}
 use mathlib.Core.List.{List, [], _∷_}
 use Prim.Native.Nat.{ℕ}

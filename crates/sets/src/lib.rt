@@ -129,7 +129,7 @@ pub fn message_rounds(set: u64, ad: u32, text: u32) -> u64
     24 + rounds_between(set) * blocks
 }
 
-// The tests of a start: set, key length, nonce length.
+// The first tests of a start: set, key length, nonce length.
 pub fn start_test(set: u64, key: usize, nonce: usize) -> Answer
     ensures { λ r. ⌜ r ≡ startTest set key nonce ⌝ }
 {

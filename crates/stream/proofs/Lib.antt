@@ -1,2 +1,4 @@
 -- What the proofs of the calls lean on.
+pub mod Sound
 pub mod Tests
+pub mod Before

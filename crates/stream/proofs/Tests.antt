@@ -10,19 +10,22 @@ use lib.Dec.{eqb, leb, lit≤}
 use lib.ListN.{length, getD, drop}
 use lib.Seq.{drop-cons}
 use borrow.Author.Tests.{eqb-true, leb-true, not-false, eq-eqb}
-use Rattle.answers.specs.declared.Answer.the-variants.{Done, NoRoom}
+use Rattle.answers.specs.declared.Answer.the-variants.{Done, PastLimit, NoRoom}
 use Rattle.answers.specs.Numbers.{isDone}
 use Rattle.answers.specs.Order.{_when_}
 use Rattle.answers.proofs.Order.{none-holds, first-append}
 use Rattle.permutation.specs.Runs.{roundsOf}
 use Rattle.permutation.specs.Strings.{zeros}
 use Rattle.ascon.specs.Sets.{ParameterSet, rowOf, textLimit}
+use Rattle.sets.specs.Start.{startFaults, startTest}
 use Rattle.sets.proofs.Rows.{Sizes, row-sizes}
-use Rattle.stream.specs.State.{rankOf, isDirection, givesText, isAd, fits, allZero, isSound}
-use Rattle.stream.specs.Calls.{filledRounds, closingRounds, pieceFaults, pieceTest, textFaults, textTest, finishFaults, finishTest}
+use Rattle.sets.proofs.Start.{StartPassed, start-passed}
+use Rattle.stream.specs.State.{rankOf, isDirection, givesText, isAd, isOpen, fits, allZero, isSound}
+use Rattle.stream.specs.Calls.{filledRounds, closingRounds, limitedStartTest, pieceFaults, pieceTest, textFaults, textTest, finishFaults, finishTest}
 use Rattle.stream.specs.declared.Direction.{Direction}
 use Rattle.stream.specs.declared.Direction.the-variants.{Sealing, Checking}
 use Rattle.stream.specs.declared.Stream.{Stream}
+use Rattle.stream.proofs.Sound.{both-true, sound-kept}
 
 -- the element at i, and the rest
 pub zero-left : (xs : List ℕ) (i : ℕ) → i < length xs → allZero (drop i xs) ≡ (eqb (getD xs i 0) 0 && allZero (drop (i + 1) xs))
@@ -66,12 +69,27 @@ one-direction Checking Checking h = refl
 pub own-direction : (d : Direction) → isDirection d d ≡ true
 own-direction d = eq-eqb (rankOf d) (rankOf d) refl
 
--- both halves of a conjunction that holds
-pub both-true : (a b : Bool) → (a && b) ≡ true → (a ≡ true) × (b ≡ true)
-both-true true b e = (refl, e)
-both-true false b e = absurd (false≢true e)
-
 -- ---- what passed tests say
+
+-- a start's limit is tested behind its set, key and nonce
+pub limited-start-test-is : (set key nonce limit : ℕ) → let answer = startTest set key nonce in
+    limitedStartTest set key nonce limit ≡ cond (isDone answer) (cond (not (leb limit textLimit)) PastLimit Done) answer
+unfolding startTest limitedStartTest
+limited-start-test-is set key nonce limit = first-append (startFaults set key nonce) (PastLimit when not (leb limit textLimit) ∷ []) refl
+
+pub record LimitedStartPassed (set key nonce limit : ℕ) : Type 0 where
+  pub start : StartPassed set key nonce
+  pub within : limit ≤ textLimit
+
+pub limited-start-passed : (set key nonce limit : ℕ) → isDone (limitedStartTest set key nonce limit) ≡ true → LimitedStartPassed set key nonce limit
+limited-start-passed set key nonce limit e =
+    go (isDone (startTest set key nonce)) refl (leb limit textLimit) refl (ap isDone (sym (limited-start-test-is set key nonce limit)) ∙ e)
+  where
+    go : (t : Bool) → isDone (startTest set key nonce) ≡ t → (u : Bool) → leb limit textLimit ≡ u
+        → isDone (cond t (cond (not u) PastLimit Done) (startTest set key nonce)) ≡ true → LimitedStartPassed set key nonce limit
+    go true f true g e = record { start = start-passed set key nonce f; within = leb-true limit textLimit g }
+    go true f false g e = absurd (false≢true e)
+    go false f u g e = absurd (false≢true (sym f ∙ e))
 
 pub record PiecePassed (s : Stream) (fit : Bool) (count n limit : ℕ) : Type 0 where
   pub sound : isSound s ≡ true
@@ -89,13 +107,13 @@ piece-passed s fit count n limit e =
     }
 
 -- the room is tested behind the tests of a piece
-pub text-test-is : (d : Direction) (s : Stream) (n room : ℕ) → let answer = pieceTest s (fits d s) (s .text) n textLimit in
+pub text-test-is : (d : Direction) (s : Stream) (n room : ℕ) → let answer = pieceTest s (fits d s) (s .text) n (s .limit) in
     textTest d s n room ≡ cond (isDone answer) (cond (givesText d && not (leb n room)) NoRoom Done) answer
 unfolding pieceTest textTest
-text-test-is d s n room = first-append (pieceFaults s (fits d s) (s .text + n) textLimit) (NoRoom when (givesText d && not (leb n room)) ∷ []) refl
+text-test-is d s n room = first-append (pieceFaults s (fits d s) (s .text + n) (s .limit)) (NoRoom when (givesText d && not (leb n room)) ∷ []) refl
 
 pub record TextPassed (d : Direction) (s : Stream) (n room : ℕ) : Type 0 where
-  pub piece : PiecePassed s (fits d s) (s .text) n textLimit
+  pub piece : PiecePassed s (fits d s) (s .text) n (s .limit)
   pub room-fits : givesText d ≡ true → n ≤ room
 
 pub text-passed : (d : Direction) (s : Stream) (n room : ℕ) → isDone (textTest d s n room) ≡ true → TextPassed d s n room
@@ -106,10 +124,16 @@ text-passed d s n room e =
       piece = record {
         sound = not-false (isSound s) (h .0);
         in-phase = not-false (fits d s) (h .1 .0);
-        within = leb-true (s .text + n) textLimit (not-false (leb (s .text + n) textLimit) (h .1 .1 .0));
+        within = leb-true (s .text + n) (s .limit) (not-false (leb (s .text + n) (s .limit)) (h .1 .1 .0));
       };
       room-fits = λ g. leb-true n room (not-false (leb n room) (ap (λ (t : Bool). t && not (leb n room)) (sym g) ∙ h .1 .1 .1 .0));
     }
+
+-- so the text stays within the largest limit
+pub text-within : (d : Direction) (s : Stream) (n room : ℕ) → TextPassed d s n room → s .text + n ≤ textLimit
+text-within d s n room passed =
+    let o = both-true (isOpen (s .phase)) (isDirection d (s .direction)) (passed .piece .in-phase) .0 in
+    omega (arith, passed .piece .within, leb-true (s .limit) textLimit (sound-kept s o (passed .piece .sound) .limit))
 
 pub record FinishPassed (d : Direction) (s : Stream) (n : ℕ) : Type 0 where
   pub sound : isSound s ≡ true

@@ -12,7 +12,7 @@ use Rattle.permutation.specs.Runs.{roundsOf}
 use Rattle.permutation.specs.Strings.{zeros, same, wordsOfString}
 use Rattle.ascon.specs.Sets.{ParameterSet, rowOf, adLimit, textLimit}
 use Rattle.ascon.specs.Mode.{initialise}
-use Rattle.sets.specs.Start.{startTest}
+use Rattle.sets.specs.Start.{startFaults}
 use Rattle.sponge.specs.declared.Way.the-variants.{Seal}
 use Rattle.sponge.specs.Sponge.{absorbed, given, adClosed, tagOf}
 use Rattle.stream.specs.declared.Direction.{Direction}
@@ -33,6 +33,13 @@ decided answer s done = cond (isDone answer) done (refused answer s)
 
 -- ---- the tests, in their order
 
+-- a start, by its set, the lengths of key and nonce, and its limit: 1, 2, 3, and 5 behind those
+abbrev pub limitedStartFaults : ℕ → ℕ → ℕ → ℕ → List (Choice Answer)
+limitedStartFaults set key nonce limit = startFaults set key nonce ++ PastLimit when not (leb limit textLimit) ∷ []
+
+unfoldable pub limitedStartTest : ℕ → ℕ → ℕ → ℕ → Answer
+limitedStartTest set key nonce limit = first Done (limitedStartFaults set key nonce limit)
+
 -- a piece, with so many bytes taken then: 8, 7, 5
 abbrev pub pieceFaults : Stream → Bool → ℕ → ℕ → List (Choice Answer)
 pieceFaults s fit taken limit = BrokenState when not (isSound s) ∷ OutOfPhase when not fit ∷ PastLimit when not (leb taken limit) ∷ []
@@ -40,9 +47,9 @@ pieceFaults s fit taken limit = BrokenState when not (isSound s) ∷ OutOfPhase 
 unfoldable pub pieceTest : Stream → Bool → ℕ → ℕ → ℕ → Answer
 pieceTest s fit count n limit = first Done (pieceFaults s fit (count + n) limit)
 
--- a piece of n bytes of text for a direction, with so much room: 6 behind those
+-- a piece of n bytes of text for a direction, within the stream's own limit, with so much room: 6 behind those
 abbrev pub textFaults : Direction → Stream → ℕ → ℕ → List (Choice Answer)
-textFaults d s n room = pieceFaults s (fits d s) (s .text + n) textLimit ++ NoRoom when (givesText d && not (leb n room)) ∷ []
+textFaults d s n room = pieceFaults s (fits d s) (s .text + n) (s .limit) ++ NoRoom when (givesText d && not (leb n room)) ∷ []
 
 unfoldable pub textTest : Direction → Stream → ℕ → ℕ → Answer
 textTest d s n room = first Done (textFaults d s n room)
@@ -66,17 +73,18 @@ closingRounds s = cond (isAd (s .phase)) (cond (eqb (s .ad) 0) 0 (roundsOf (rowO
 
 -- ---- the calls
 
--- what a start is given
+-- what a start is given; the limit is that of the stream's text
 pub record Start : Type 0 where
   pub direction : Direction
   pub set : ℕ
+  pub limit : ℕ
   pub key : List ℕ
   pub nonce : List ℕ
 
 -- a start; a refused one gives the ended state
 unfoldable pub startCall : Start → Outcome
 startCall start =
-    decided (startTest (start .set) (length (start .key)) (length (start .nonce))) ended
+    decided (limitedStartTest (start .set) (length (start .key)) (length (start .nonce)) (start .limit)) ended
     (record {
       answer = Done;
       rounds = 12;
@@ -89,6 +97,7 @@ startCall start =
         ad = 0;
         text = 0;
         place = 0;
+        limit = start .limit;
       };
     })
 
@@ -109,6 +118,7 @@ tookAd s piece =
         ad = s .ad + n;
         text = s .text;
         place = (s .ad + n) % row .block;
+        limit = s .limit;
       };
     }
 
@@ -135,6 +145,7 @@ tookText s words n =
         ad = s .ad;
         text = s .text + n;
         place = (s .text + n) % rowOf (s .set) .block;
+        limit = s .limit;
       };
     }
 

@@ -65,20 +65,21 @@ allZero (x ∷ xs) = eqb x 0 && allZero xs
 
 -- the one ended state
 abbrev pub ended : Stream
-ended = record { words = zeros 5; set = 1; direction = Sealing; phase = Ended; key = zeros 16; ad = 0; text = 0; place = 0 }
+ended = record { words = zeros 5; set = 1; direction = Sealing; phase = Ended; key = zeros 16; ad = 0; text = 0; place = 0; limit = 0 }
 
--- an open state whose phase has taken `count` bytes: a known set, zeros behind the key, both counts within their limits, the place
+-- an open state whose phase has taken `count` bytes: a known set, zeros behind the key, the data within its limit, the text within the stream's own, that one within
+-- the largest, and the place that the count gives
 unfoldable pub isSoundOpen : Stream → ℕ → Bool
 isSoundOpen s count =
     isSet (s .set)
     && (allZero (drop (rowOf (s .set) .key) (s .key))
-    && (leb (s .ad) adLimit && (leb (s .text) textLimit && eqb (s .place) (count % rowOf (s .set) .block))))
+    && (leb (s .ad) adLimit && (leb (s .text) (s .limit) && (leb (s .limit) textLimit && eqb (s .place) (count % rowOf (s .set) .block)))))
 
 -- a state in the phase ended: all of the ended state's values
 unfoldable pub isSoundEnded : Stream → Bool
 isSoundEnded s =
     allZero (s .words)
-    && (allZero (s .key) && (isDirection Sealing (s .direction) && (eqb (s .set) 1 && (eqb (s .ad) 0 && (eqb (s .text) 0 && eqb (s .place) 0)))))
+    && (allZero (s .key) && (isDirection Sealing (s .direction) && (eqb (s .set) 1 && (eqb (s .ad) 0 && (eqb (s .text) 0 && (eqb (s .place) 0 && eqb (s .limit) 0))))))
 
 -- by the phase; before the text phase the text count is 0
 abbrev pub isSoundIn : Phase → Stream → Bool

@@ -7,7 +7,7 @@ ghost use lib.ListN.{take, drop};
 ghost use Rattle.ascon.specs.Sets.{rowOf, textLimit};
 ghost use Rattle.stream.specs.declared.Direction.the-variants.{Sealing, Checking};
 ghost use Rattle.stream.specs.State.{rankOf, isDirection, givesText, isAd, isOpen, fits, allZero, ended, isSoundOpen, isSoundEnded, isSound};
-ghost use Rattle.stream.specs.Calls.{filledRounds, pieceTest, textTest, finishTest, refused, textWords, closingRounds, startCall, adCall, tookText, ownTag, called, textCall, finishCall};
+ghost use Rattle.stream.specs.Calls.{filledRounds, limitedStartTest, pieceTest, textTest, finishTest, refused, textWords, closingRounds, startCall, adCall, tookText, ownTag, called, textCall, finishCall};
 use answers::Answer;
 use sponge::Way;
 
@@ -25,7 +25,7 @@ pub enum Phase {
 }
 
 // A stream's state. The key has the set's length, with zeros behind it; ad and text are the bytes taken so far; the place is that of the next byte in its
-// block.
+// block; the limit is that of the text.
 pub struct Stream {
     pub words: [u64; 5],
     pub set: u64,
@@ -35,6 +35,7 @@ pub struct Stream {
     pub ad: usize,
     pub text: usize,
     pub place: usize,
+    pub limit: u64,
 }
 
 // What a call answers: the answer, the rounds run in the call, and the next state.
@@ -131,6 +132,20 @@ fn filled_rounds(set: u64, count: usize, n: usize) -> u64
     sets::rounds_between(set) * (blocks as u64)
 }
 
+// The tests of a start: set, key length and nonce length, then its limit.
+fn limited_start_test(set: u64, key: usize, nonce: usize, limit: u64) -> Answer
+    ensures { λ r. ⌜ r ≡ limitedStartTest set key nonce limit ⌝ }
+{
+    let answer = sets::start_test(set, key, nonce);
+    if !answers::is_done(answer) {
+        return answer;
+    }
+    if (sets::TEXT_LIMIT as u64) < limit {
+        return Answer::PastLimit;
+    }
+    Answer::Done
+}
+
 // A refusal, which leaves the state as it was.
 fn refusal(answer: Answer, next: Stream) -> Outcome
     ensures { λ r. ⌜ r ≡ refused answer next ⌝ }
@@ -156,10 +171,11 @@ impl Stream {
             ad: 0,
             text: 0,
             place: 0,
+            limit: 0,
         }
     }
 
-    // Whether an open state, whose phase has taken `count` bytes, keeps the rules of set, key, counts and place.
+    // Whether an open state, whose phase has taken `count` bytes, keeps the rules of set, key, counts, limits and place.
     fn sound_open(self, count: usize) -> bool
         ensures { λ r. ⌜ r ≡ isSoundOpen self count ⌝ }
     {
@@ -168,8 +184,9 @@ impl Stream {
         sets::is_set(set)
             & (zero_from(key, sets::key_length(set))
                 & ((self.ad <= sets::AD_LIMIT)
-                    & ((self.text <= sets::TEXT_LIMIT)
-                        & (self.place == count % sets::block_length(set)))))
+                    & (((self.text as u64) <= self.limit)
+                        & ((self.limit <= (sets::TEXT_LIMIT as u64))
+                            & (self.place == count % sets::block_length(set))))))
     }
 
     // Whether the state is the ended one, but for its phase.
@@ -183,7 +200,8 @@ impl Stream {
             & (zero_from(key, 0)
                 & (is_direction(Direction::Sealing, direction)
                     & ((self.set == 1)
-                        & ((self.ad == 0) & ((self.text == 0) & (self.place == 0))))))
+                        & ((self.ad == 0)
+                            & ((self.text == 0) & ((self.place == 0) & (self.limit == 0)))))))
     }
 
     // Whether the state breaks no rule.
@@ -226,11 +244,11 @@ impl Stream {
         is_open(phase) & is_direction(wanted, direction)
     }
 
-    // The tests of a piece of n bytes of text for a direction: those of a piece, and the room where it has an output.
+    // The tests of a piece of n bytes of text for a direction: those of a piece, by the stream's limit, and the room where it has an output.
     fn text_test(self, wanted: Direction, n: usize, room: usize) -> Answer
         ensures { λ r. ⌜ r ≡ textTest wanted self n room ⌝ }
     {
-        let answer = self.piece_test(self.fits(wanted), self.text, n, sets::TEXT_LIMIT);
+        let answer = self.piece_test(self.fits(wanted), self.text, n, self.limit as usize);
         if !answers::is_done(answer) {
             return answer;
         }
@@ -282,11 +300,11 @@ impl Stream {
         sets::rounds_between(self.set)
     }
 
-    // A start: set, key and nonce are tested, and the data phase is open.
-    pub fn start(direction: Direction, set: u64, key: &[u8], nonce: &[u8]) -> Outcome
-        ensures { λ r. ⌜ r ≡ startCall (record { direction = direction; set = set; key = now (key .entry); nonce = now (nonce .entry) }) ⌝ }
+    // A start with a limit of its text: set, key, nonce and limit are tested, and the data phase is open.
+    pub fn start(direction: Direction, set: u64, limit: u64, key: &[u8], nonce: &[u8]) -> Outcome
+        ensures { λ r. ⌜ r ≡ startCall (record { direction = direction; set = set; limit = limit; key = now (key .entry); nonce = now (nonce .entry) }) ⌝ }
     {
-        let answer = sets::start_test(set, key.len(), nonce.len());
+        let answer = limited_start_test(set, key.len(), nonce.len(), limit);
         if !answers::is_done(answer) {
             return refusal(answer, Stream::ended());
         }
@@ -301,6 +319,7 @@ impl Stream {
             ad: 0,
             text: 0,
             place: 0,
+            limit,
         };
         Outcome {
             answer: Answer::Done,
@@ -323,6 +342,7 @@ impl Stream {
         let direction = self.direction;
         let key = self.key;
         let text = self.text;
+        let limit = self.limit;
         let before = self.words;
         let words = sponge::absorb(set, Way::Seal, before, count, piece);
         let rounds = filled_rounds(set, count, piece.len());
@@ -337,6 +357,7 @@ impl Stream {
             ad,
             text,
             place,
+            limit,
         };
         Outcome {
             answer: Answer::Done,
@@ -354,6 +375,7 @@ impl Stream {
         let direction = self.direction;
         let key = self.key;
         let ad = self.ad;
+        let limit = self.limit;
         let count = self.text;
         let rounds = self.closing_rounds() + filled_rounds(set, count, n);
         let text = count + n;
@@ -367,6 +389,7 @@ impl Stream {
             ad,
             text,
             place,
+            limit,
         };
         Outcome {
             answer: Answer::Done,

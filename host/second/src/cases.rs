@@ -1,6 +1,8 @@
 //! The stream cases that the rules have run, each with the answer it gets here.
 
-use crate::stream::{ad, check, finish_sealing, seal, start, Direction, Stream};
+use crate::stream::{
+    ad, check, finish_sealing, seal, start, Direction, Given, Stream, LARGEST_LIMIT,
+};
 
 /// The bytes of one of sixteen calls that together take a whole text.
 static SIXTEENTH: [u8; 65_536] = [0; 65_536];
@@ -15,9 +17,14 @@ fn nonce() -> Vec<u8> {
     (16..32).collect()
 }
 
+/// Starts a stream of set 1 with the largest limit.
+fn started(direction: Direction, key: &[u8], nonce: &[u8]) -> Given {
+    start(direction, 1, LARGEST_LIMIT, key, nonce)
+}
+
 /// Gives a fresh stream of set 1.
 fn fresh(direction: Direction) -> Stream {
-    let (number, _, stream) = start(direction, 1, &key(), &nonce());
+    let (number, _, stream) = started(direction, &key(), &nonce());
     assert_eq!(number, 0);
     stream
 }
@@ -61,7 +68,7 @@ fn short_room() -> u64 {
 fn started_with(key_length: usize, nonce_length: usize) -> u64 {
     let (key, nonce) = (key(), nonce());
     let (key, nonce) = (&key[..key_length], &nonce[..nonce_length]);
-    start(Direction::Sealing, 1, key, nonce).0
+    started(Direction::Sealing, key, nonce).0
 }
 
 /// Gives the answer of the second of two finishes.

@@ -8,6 +8,9 @@ use crate::calls::{AD_LIMIT, TEXT_LIMIT};
 use crate::cipher::{cipher_blocks, finish, set_of, started, Set, State};
 use crate::permutation::Words;
 
+/// The largest text limit that a stream may have.
+pub const LARGEST_LIMIT: u64 = TEXT_LIMIT as u64;
+
 /// What a stream is for.
 #[derive(Clone, Copy, Debug, PartialEq, Eq)]
 pub enum Direction {
@@ -35,6 +38,8 @@ pub struct Stream {
     pub ad_count: u64,
     pub text_count: u64,
     pub place: u64,
+    /// The most bytes of text or ciphertext that the stream takes.
+    pub limit: u64,
 }
 
 /// The one ended state.
@@ -47,6 +52,7 @@ pub const ENDED: Stream = Stream {
     ad_count: 0,
     text_count: 0,
     place: 0,
+    limit: 0,
 };
 
 /// What a call gives: the answer number, the rounds reported and the next state.
@@ -69,7 +75,10 @@ pub fn is_broken(stream: &Stream) -> bool {
     if stream.phase == Phase::Data && stream.text_count != 0 {
         return true;
     }
-    if stream.ad_count > AD_LIMIT as u64 || stream.text_count > TEXT_LIMIT as u64 {
+    if stream.limit > LARGEST_LIMIT {
+        return true;
+    }
+    if stream.ad_count > AD_LIMIT as u64 || stream.text_count > stream.limit {
         return true;
     }
     stream.key[set.key..].iter().any(|byte| *byte != 0)
@@ -86,6 +95,14 @@ fn fitting(stream: &Stream, direction: Direction) -> Result<&'static Set, u64> {
     set_of(stream.set).ok_or(8)
 }
 
+/// Gives the count after a piece of that length, or 5 if it would pass the limit.
+fn count_after(count: u64, length: usize, limit: u64) -> Result<u64, u64> {
+    match count.checked_add(length as u64) {
+        Some(sum) if sum <= limit => Ok(sum),
+        _ => Err(5),
+    }
+}
+
 /// Gives the set and the text count after a piece of that length, or 8, 7 or 5 if it can't come.
 fn fitting_text(
     stream: &Stream,
@@ -93,10 +110,7 @@ fn fitting_text(
     length: usize,
 ) -> Result<(&'static Set, u64), u64> {
     let set = fitting(stream, direction)?;
-    let text_count = stream.text_count + length as u64;
-    if text_count > TEXT_LIMIT as u64 {
-        return Err(5);
-    }
+    let text_count = count_after(stream.text_count, length, stream.limit)?;
     Ok((set, text_count))
 }
 
@@ -146,8 +160,8 @@ fn tag_and_rounds(set: &Set, stream: &Stream) -> (Vec<u8>, u64) {
     (tag, state.rounds())
 }
 
-/// Starts a stream; a refused start gives the ended state.
-pub fn start(direction: Direction, set: u64, key: &[u8], nonce: &[u8]) -> Given {
+/// Starts a stream that takes no more text than the limit; a refused start gives the ended state.
+pub fn start(direction: Direction, set: u64, limit: u64, key: &[u8], nonce: &[u8]) -> Given {
     let Some(known) = set_of(set) else {
         return refusal(1, ENDED);
     };
@@ -156,6 +170,9 @@ pub fn start(direction: Direction, set: u64, key: &[u8], nonce: &[u8]) -> Given 
     }
     if nonce.len() != known.key {
         return refusal(3, ENDED);
+    }
+    if limit > LARGEST_LIMIT {
+        return refusal(5, ENDED);
     }
     let state = started(known, key, nonce);
     let mut kept = [0; 16];
@@ -169,11 +186,12 @@ pub fn start(direction: Direction, set: u64, key: &[u8], nonce: &[u8]) -> Given 
         ad_count: 0,
         text_count: 0,
         place: 0,
+        limit,
     };
     (0, state.rounds(), next)
 }
 
-/// Takes a piece of the associated data, in either direction.
+/// Takes a piece of the associated data, in either direction; its limit is the same in all streams.
 pub fn ad(stream: Stream, piece: &[u8]) -> Given {
     let set = match fitting(&stream, stream.direction) {
         Ok(set) => set,
@@ -182,10 +200,10 @@ pub fn ad(stream: Stream, piece: &[u8]) -> Given {
     if stream.phase != Phase::Data {
         return refusal(7, stream);
     }
-    let ad_count = stream.ad_count + piece.len() as u64;
-    if ad_count > AD_LIMIT as u64 {
-        return refusal(5, stream);
-    }
+    let ad_count = match count_after(stream.ad_count, piece.len(), AD_LIMIT as u64) {
+        Ok(count) => count,
+        Err(number) => return refusal(number, stream),
+    };
 
     let mut state = state_of(&stream);
     let mut joined = vec![0; stream.place as usize];

@@ -19,13 +19,11 @@ use Rattle.log.specs.Form.{kindAt, callKind, blank}
 use Rattle.log.specs.Calls.{readCall, readLine, fieldIn, given, refusedAt, readAs, readEntry}
 use Rattle.log.specs.Laws.{WrongEntry}
 use Rattle.log.proofs.Laws.{reads-log}
-use Rattle.sets.specs.Start.{startTest}
 use Rattle.sponge.specs.Sponge as sponge
 use Rattle.sponge.specs.Sponge.{absorbed, adClosed, tagOf}
 use Rattle.stream.specs.declared.Phase.the-variants as phase
-use Rattle.stream.specs.declared.Stream.{Stream}
 use Rattle.stream.specs.State.{isSoundOpen, isSoundEnded, isSound}
-use Rattle.stream.specs.Calls.{pieceTest, textTest, finishTest, filledRounds, closingRounds, startCall, adCall, textWords, tookText, textCall, finishCall}
+use Rattle.stream.specs.Calls.{limitedStartTest, pieceTest, textTest, finishTest, filledRounds, closingRounds, startCall, adCall, textWords, tookText, textCall, finishCall}
 use Rattle.replay.specs.declared.cursor.Log.{Log}
 use Rattle.replay.specs.declared.whole.Conclusion.{Conclusion}
 use Rattle.replay.specs.declared.window.Stretch.{Stretch}
@@ -44,7 +42,7 @@ place text r refused p =
     (sym (ap (λ (q : Reading). q .answer) p) ∙ refused, sym (ap (λ (q : Reading). q .line) p), sym (ap (λ (q : Reading). q .column) p))
 
 pub wrong : Wrong
-unfolding readEntry refusedAt readAs readCall readLine fieldIn given kindAt callKind blank readOf steps.stepOf nameStep feedStep valueStep named fieldOf digitIn replayOf stretchOf stepBy stepOn compared started sealedPiece finished startTest startCall adCall textCall tookText finishCall textWords pieceTest textTest finishTest filledRounds closingRounds isSound isSoundOpen isSoundEnded absorbed sponge.given adClosed tagOf rowOf table isSet roundsOf constantsOf constants finalise separate initialise firstBlock p permute rounds round diffuse Σ₀ Σ₁ Σ₂ Σ₃ Σ₄ _⋙_ substitute substituted column fromBits bit sBox addConstant stringOf stateOf bytesOf valueOf
+unfolding readEntry refusedAt readAs readCall readLine fieldIn given kindAt callKind blank readOf steps.stepOf nameStep feedStep valueStep named fieldOf digitIn replayOf stretchOf stepBy stepOn compared started sealedPiece finished limitedStartTest startCall adCall textCall tookText finishCall textWords pieceTest textTest finishTest filledRounds closingRounds isSound isSoundOpen isSoundEnded absorbed sponge.given adClosed tagOf rowOf table isSet roundsOf constantsOf constants finalise separate initialise firstBlock p permute rounds round diffuse Σ₀ Σ₁ Σ₂ Σ₃ Σ₄ _⋙_ substitute substituted column fromBits bit sBox addConstant stringOf stateOf bytesOf valueOf
 wrong = record {
   log-call = λ r other κ e p. other p;
   log-finish = λ r other κ e p. other p;
@@ -98,5 +96,6 @@ wrong = record {
   window-at-once = λ r waits κ e p. let verdict : Open ≡ Unread 1 1 = sym waits ∙ ap (λ (x : Stretch). x .verdict) p in off (cc verdict);
   window-taken = λ r other κ e p. other (ap (λ (x : Stretch). x .taken) p);
   window-state = λ r begun κ e p. let now : phase.Ad ≡ phase.Ended = sym begun ∙ ap (λ (x : Stretch). x .stream .phase) p in off (cc now);
+  window-limit = λ r other κ e p. other (ap (λ (x : Stretch). x .stream .limit) p);
   window-from = λ r differs κ e p. let verdict : Answer ≡ Agrees = sym differs ∙ ap (λ (x : Stretch). x .verdict) p in off (cc verdict);
 }

@@ -77,9 +77,9 @@ keyedWith out =
 abbrev pub keyedFinish : List ℕ
 keyedFinish = ascii "call=finish\ndata=\nanswer=0\nout=04f550d13ecc8cfd5d89170a22715331\nrounds=12\n"
 
--- a sealing stream of set 1 inside its text, with words, key and counts of zeros
+-- a sealing stream of set 1 inside its text, with words, key and counts of zeros and the largest limit
 abbrev pub insideText : Stream
-insideText = record { words = zeros 5; set = 1; direction = Sealing; phase = phase.Text; key = zeros 16; ad = 0; text = 0; place = 0 }
+insideText = record { words = zeros 5; set = 1; direction = Sealing; phase = phase.Text; key = zeros 16; ad = 0; text = 0; place = 0; limit = 1_048_576 }
 
 -- what is told of an entry
 abbrev pub named : ℕ → Verdict → Conclusion
@@ -206,5 +206,7 @@ pub record Wrong : Type 0 where
   pub window-taken : (r : Stretch) → (r .taken ≡ 39 → ⊥) → Never replay-crate.replay_window.Reads.Learnt (lent (textRefused ++ textDone), (true, (ended, tt))) r
   pub window-state : (r : Stretch) → r .stream .phase ≡ phase.Ad
       → Never replay-crate.replay_window.Reads.Learnt (lent (take 104 startDone ++ ascii "3\n"), (true, (ended, tt))) r
+  -- a start of the log has the largest limit, and no other
+  pub window-limit : (r : Stretch) → (r .stream .limit ≡ 1_048_576 → ⊥) → Never replay-crate.replay_window.Reads.Learnt (lent startDone, (false, (ended, tt))) r
   -- the state that is handed over is gone on from, and not the ended one
   pub window-from : (r : Stretch) → r .verdict ≡ Answer → Never replay-crate.replay_window.Reads.Learnt (lent textDone, (true, (insideText, tt))) r

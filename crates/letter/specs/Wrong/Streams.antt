@@ -1,66 +1,167 @@
 -- Wrong answers of the calls of streams.
 use mathlib.Core.List.{List, [], _∷_, _++_}
-use Prim.Native.Nat.{ℕ}
-use Rattle.answers.specs.declared.Answer.the-variants.{Done, UnknownSet, NonceLength, TagLength, PastLimit, NoRoom, OutOfPhase, BrokenState}
+use mathlib.Core.Path.{_≡_}
+use Prim.Native.Nat.{ℕ, _%_, _≤_, _<_}
+use lib.ListN.{length, getD}
+use Rattle.answers.specs.declared.Answer.{Answer}
+use Rattle.answers.specs.declared.Answer.the-variants.{Done, NonceLength, TagLength, PastLimit, NoRoom, OutOfPhase, BrokenState}
 use Rattle.permutation.specs.Strings.{bytesOf, zeros}
 use Rattle.stream.specs.declared.Stream.{Stream}
+use Rattle.stream.specs.declared.Outcome.{Outcome}
 use Rattle.stream.specs.declared.Direction.{Direction}
 use Rattle.stream.specs.declared.Direction.the-variants.{Sealing, Checking}
 use Rattle.stream.specs.declared.Phase.{Phase}
 use Rattle.stream.specs.declared.Phase.the-variants.{Ad, Text, Ended}
 use Rattle.stream.specs.State.{ended}
 use Rattle.stream.proofs as stream
-use Rattle.letter.specs.Calls.{lent, Never, NeverLeaves}
+use Rattle.letter.specs.Calls.{Lent, lent, Never, NeverLeaves}
 
--- a stream of set 1 under a key of zeros: its words, direction, phase, both counts and place
-abbrev pub streamOf : List ℕ → Direction → Phase → ℕ → ℕ → ℕ → Stream
-streamOf words direction phase ad text place =
-    record { words = words; set = 1; direction = direction; phase = phase; key = zeros 16; ad = ad; text = text; place = place }
+-- a stream of set 1 under a key of zeros: its words, direction, phase, both counts, place and limit
+abbrev pub streamOf : List ℕ → Direction → Phase → ℕ → ℕ → ℕ → ℕ → Stream
+streamOf words direction phase ad text place limit =
+    record { words = words; set = 1; direction = direction; phase = phase; key = zeros 16; ad = ad; text = text; place = place; limit = limit }
 
+-- one inside its text, by its direction, the bytes of text that it took, and its limit
+abbrev pub insideText : Direction → ℕ → ℕ → Stream
+insideText direction text limit = streamOf (zeros 5) direction Text 0 text (text % 8) limit
+
+-- what a start in set 1 is handed, with a limit and with a key and a nonce of so many zeros
+abbrev pub startArgs : Direction → ℕ → ℕ → ℕ → Direction × (ℕ × (ℕ × (Lent × (Lent × Unit {0}))))
+startArgs direction limit key nonce = (direction, (1, (limit, (lent (zeros key), (lent (zeros nonce), tt)))))
+
+-- what a call answers
+abbrev pub answering : Answer → ℕ → Stream → Outcome
+answering answer rounds next = record { answer = answer; rounds = rounds; next = next }
+
+-- a piece of text and as much room
+abbrev pub roomy : Stream → ℕ → Stream × (Lent × (Lent × Unit {0}))
+roomy s n = (s, (lent (zeros n), (lent (zeros n), tt)))
+
+-- a state and n zeros, of text or of data or as a tag
+abbrev pub handed : Stream → ℕ → Stream × (Lent × Unit {0})
+handed s n = (s, (lent (zeros n), tt))
+
+-- the rounds and the next state play no part where an answer alone is ruled out
 pub record Wrong : Type 0 where
+  -- ---- a start
+
   -- answer 2 comes before answer 3
-  pub start-key : Never stream.Stream.start.Reads.Learnt (Sealing, (1, (lent [], (lent [], tt)))) (record { answer = NonceLength; rounds = 0; next = ended })
-  -- a refused start does not give an open stream
-  pub start-refused-open : Never stream.Stream.start.Reads.Learnt (Sealing, (3, (lent [], (lent [], tt))))
-      (record {
-        answer = UnknownSet;
-        rounds = 0;
-        next = record { words = zeros 5; set = 1; direction = Sealing; phase = Ad; key = zeros 16; ad = 0; text = 0; place = 0 };
-      })
+  pub start-key : (rounds : ℕ) (next : Stream) → Never stream.Stream.start.Reads.Learnt (startArgs Sealing 200 0 0) (answering NonceLength rounds next)
+  -- answer 3 comes before answer 5
+  pub start-nonce : (d : Direction) (rounds : ℕ) (next : Stream)
+      → Never stream.Stream.start.Reads.Learnt (startArgs d 1_048_577 16 15) (answering PastLimit rounds next)
+  -- a refused start does not give an open stream, nor one that has a limit
+  pub start-refused-open : (answer : Answer) (rounds : ℕ) (next : Stream) → next .phase ≡ Ad
+      → Never stream.Stream.start.Reads.Learnt (Sealing, (3, (200, (lent [], (lent [], tt))))) (answering answer rounds next)
+  pub start-refused-limit : (d : Direction) (answer : Answer) (rounds : ℕ) (next : Stream) → (next ≡ ended → ⊥)
+      → Never stream.Stream.start.Reads.Learnt (startArgs d 1_048_577 16 16) (answering answer rounds next)
+  -- a limit over the largest is not cut down to it, or to its low bits, or taken as none: it is refused with 5, whatever number it is
+  pub start-limit-cut : (d : Direction) (limit : ℕ) → 1_048_576 < limit → (answer : Answer) (rounds : ℕ) (next : Stream) → (answer ≡ PastLimit → ⊥)
+      → Never stream.Stream.start.Reads.Learnt (startArgs d limit 16 16) (answering answer rounds next)
+  -- the largest limit is not refused, nor is a limit of nought
+  pub start-largest : (d : Direction) (answer : Answer) (rounds : ℕ) (next : Stream) → (answer ≡ Done → ⊥)
+      → Never stream.Stream.start.Reads.Learnt (startArgs d 1_048_576 16 16) (answering answer rounds next)
+  pub start-nought : (d : Direction) (answer : Answer) (rounds : ℕ) (next : Stream) → (answer ≡ Done → ⊥)
+      → Never stream.Stream.start.Reads.Learnt (startArgs d 0 16 16) (answering answer rounds next)
+  -- a start keeps its limit
+  pub start-limit-kept : (d : Direction) (answer : Answer) (rounds : ℕ) (next : Stream) → (next .limit ≡ 200 → ⊥)
+      → Never stream.Stream.start.Reads.Learnt (startArgs d 200 16 16) (answering answer rounds next)
+  -- ---- a piece of data
+
   -- a state of set 2 with a byte behind its key is broken
-  pub ad-key-tail : Never stream.Stream.ad.Reads.Learnt (record { words = zeros 5; set = 2; direction = Sealing; phase = Ad; key = zeros 12 ++ (1 ∷ zeros 3); ad = 0; text = 0; place = 0 }, (lent [], tt))
-      (record { answer = Done; rounds = 0; next = record { words = zeros 5; set = 2; direction = Sealing; phase = Ad; key = zeros 12 ++ (1 ∷ zeros 3); ad = 0; text = 0; place = 0 } })
-  -- a state in the phase ended that has a place is broken: 8 and not 7
-  pub ad-broken-ended : Never stream.Stream.ad.Reads.Learnt (streamOf (zeros 5) Sealing Ended 0 0 1, (lent [], tt))
-      (record { answer = OutOfPhase; rounds = 0; next = streamOf (zeros 5) Sealing Ended 0 0 1 })
-  -- a call that is refused for want of room does not close the data
-  pub seal-piece-closes : (words : List ℕ) → Never stream.Stream.seal.Reads.Learnt (streamOf (zeros 5) Sealing Ad 0 0 0, (lent (0 ∷ []), (lent [], tt)))
-      (record { answer = NoRoom; rounds = 0; next = streamOf words Sealing Text 0 0 0 })
+  pub ad-key-tail : (rounds : ℕ) (next : Stream)
+      → Never stream.Stream.ad.Reads.Learnt
+      (record { words = zeros 5; set = 2; direction = Sealing; phase = Ad; key = zeros 12 ++ (1 ∷ zeros 3); ad = 0; text = 0; place = 0; limit = 200 }, (lent [], tt))
+      (answering Done rounds next)
+  -- a state in the phase ended that has a place is broken: 8 and not 7; and so is one that has a limit
+  pub ad-broken-ended : (answer : Answer) (rounds : ℕ) (next : Stream) → (answer ≡ BrokenState → ⊥)
+      → Never stream.Stream.ad.Reads.Learnt (handed (streamOf (zeros 5) Sealing Ended 0 0 1 0) 0) (answering answer rounds next)
+  pub ad-ended-limit : (answer : Answer) (rounds : ℕ) (next : Stream) → (answer ≡ BrokenState → ⊥)
+      → Never stream.Stream.ad.Reads.Learnt (handed (streamOf (zeros 5) Sealing Ended 0 0 0 200) 0) (answering answer rounds next)
+  -- a limit over the largest breaks a rule before the text, too
+  pub ad-limit-wide : (answer : Answer) (rounds : ℕ) (next : Stream) → (answer ≡ BrokenState → ⊥)
+      → Never stream.Stream.ad.Reads.Learnt (handed (streamOf (zeros 5) Sealing Ad 0 0 0 1_048_577) 0) (answering answer rounds next)
+  -- data is held to its own limit, and not to that of the text: a limit of nought takes 65,536 bytes of it, and the largest no more
+  pub ad-unheld : (answer : Answer) (rounds : ℕ) (next : Stream) → (answer ≡ Done → ⊥)
+      → Never stream.Stream.ad.Reads.Learnt (handed (streamOf (zeros 5) Sealing Ad 65_535 0 7 0) 1) (answering answer rounds next)
+  pub ad-past : (answer : Answer) (rounds : ℕ) (next : Stream) → (answer ≡ PastLimit → ⊥)
+      → Never stream.Stream.ad.Reads.Learnt (handed (streamOf (zeros 5) Sealing Ad 65_536 0 0 1_048_576) 1) (answering answer rounds next)
+  -- a piece of data does not change the limit
+  pub ad-limit-kept : (answer : Answer) (rounds : ℕ) (next : Stream) → (next .limit ≡ 200 → ⊥)
+      → Never stream.Stream.ad.Reads.Learnt (handed (streamOf (zeros 5) Checking Ad 0 0 0 200) 1) (answering answer rounds next)
+  -- ---- a piece of text
+
+  -- a call that is refused, for want of room or past the limit, does not close the data
+  pub seal-piece-closes : (answer : Answer) (rounds : ℕ) (next : Stream) → next .phase ≡ Text
+      → Never stream.Stream.seal.Reads.Learnt (streamOf (zeros 5) Sealing Ad 0 0 0 200, (lent (0 ∷ []), (lent [], tt))) (answering answer rounds next)
+  pub seal-piece-past-closes : (answer : Answer) (rounds : ℕ) (next : Stream) → next .phase ≡ Text
+      → Never stream.Stream.seal.Reads.Learnt (roomy (streamOf (zeros 5) Sealing Ad 0 0 0 0) 1) (answering answer rounds next)
   -- answer 5 comes before answer 6
-  pub seal-piece-room : Never stream.Stream.seal.Reads.Learnt (streamOf (zeros 5) Sealing Text 0 1_048_576 0, (lent (0 ∷ []), (lent [], tt)))
-      (record { answer = NoRoom; rounds = 0; next = streamOf (zeros 5) Sealing Text 0 1_048_576 0 })
+  pub seal-piece-room : (rounds : ℕ) (next : Stream)
+      → Never stream.Stream.seal.Reads.Learnt (insideText Sealing 200 200, (lent (0 ∷ []), (lent [], tt))) (answering NoRoom rounds next)
+  -- the limit is the stream's own, in either direction, and that of the whole text, not of a piece: behind 200 bytes of 200 a byte more is refused with 5
+  pub seal-piece-own : (answer : Answer) (rounds : ℕ) (next : Stream) → (answer ≡ PastLimit → ⊥)
+      → Never stream.Stream.seal.Reads.Learnt (roomy (insideText Sealing 200 200) 1) (answering answer rounds next)
+  pub check-own : (answer : Answer) (rounds : ℕ) (next : Stream) → (answer ≡ PastLimit → ⊥)
+      → Never stream.Stream.check.Reads.Learnt (handed (insideText Checking 200 200) 1) (answering answer rounds next)
+  -- a piece that reaches it has not passed it, nor has one that reaches the largest
+  pub seal-piece-reaches : (answer : Answer) (rounds : ℕ) (next : Stream) → (answer ≡ Done → ⊥)
+      → Never stream.Stream.seal.Reads.Learnt (roomy (insideText Sealing 199 200) 1) (answering answer rounds next)
+  pub check-reaches-largest : (answer : Answer) (rounds : ℕ) (next : Stream) → (answer ≡ Done → ⊥)
+      → Never stream.Stream.check.Reads.Learnt (handed (insideText Checking 1_048_575 1_048_576) 1) (answering answer rounds next)
+  -- an empty piece is taken at the limit, also where that is nought
+  pub check-at : (answer : Answer) (rounds : ℕ) (next : Stream) → (answer ≡ Done → ⊥)
+      → Never stream.Stream.check.Reads.Learnt (handed (insideText Checking 200 200) 0) (answering answer rounds next)
+  pub seal-piece-nought : (answer : Answer) (rounds : ℕ) (next : Stream) → (answer ≡ Done → ⊥)
+      → Never stream.Stream.seal.Reads.Learnt (roomy (streamOf (zeros 5) Sealing Ad 0 0 0 0) 0) (answering answer rounds next)
+  -- no sum wraps round: behind a byte of text, a piece of 200 bytes or more passes a limit of 200, however long it is
+  pub seal-piece-wraps : (piece out : List ℕ) → 200 ≤ length piece → (answer : Answer) (rounds : ℕ) (next : Stream) → (answer ≡ PastLimit → ⊥)
+      → Never stream.Stream.seal.Reads.Learnt (insideText Sealing 1 200, (lent piece, (lent out, tt))) (answering answer rounds next)
+  pub check-wraps : (piece : List ℕ) → 200 ≤ length piece → (answer : Answer) (rounds : ℕ) (next : Stream) → (answer ≡ PastLimit → ⊥)
+      → Never stream.Stream.check.Reads.Learnt (insideText Checking 1 200, (lent piece, tt)) (answering answer rounds next)
+  -- a refused piece does not change the limit, nor does the first piece of text
+  pub seal-piece-resets : (answer : Answer) (rounds : ℕ) (next : Stream) → (next .limit ≡ 200 → ⊥)
+      → Never stream.Stream.seal.Reads.Learnt (roomy (insideText Sealing 199 200) 2) (answering answer rounds next)
+  pub check-resets : (answer : Answer) (rounds : ℕ) (next : Stream) → (next .limit ≡ 200 → ⊥)
+      → Never stream.Stream.check.Reads.Learnt (handed (insideText Checking 199 200) 2) (answering answer rounds next)
+  pub seal-piece-first : (answer : Answer) (rounds : ℕ) (next : Stream) → (next .limit ≡ 200 → ⊥)
+      → Never stream.Stream.seal.Reads.Learnt (roomy (streamOf (zeros 5) Sealing Ad 0 0 0 200) 1) (answering answer rounds next)
+  pub check-first : (answer : Answer) (rounds : ℕ) (next : Stream) → (next .limit ≡ 200 → ⊥)
+      → Never stream.Stream.check.Reads.Learnt (handed (streamOf (zeros 5) Checking Ad 0 0 0 200) 0) (answering answer rounds next)
+  -- a count of text past the stream's limit breaks a rule, and so does a limit over the largest: 8 and nothing else
+  pub check-past : (answer : Answer) (rounds : ℕ) (next : Stream) → (answer ≡ BrokenState → ⊥)
+      → Never stream.Stream.check.Reads.Learnt (handed (insideText Checking 201 200) 0) (answering answer rounds next)
+  pub seal-piece-wide : (answer : Answer) (rounds : ℕ) (next : Stream) → (answer ≡ BrokenState → ⊥)
+      → Never stream.Stream.seal.Reads.Learnt (roomy (insideText Sealing 0 1_048_577) 0) (answering answer rounds next)
   -- a checking stream keeps the ciphertext, and not the plaintext
-  pub check-plaintext : Never stream.Stream.check.Reads.Learnt (streamOf (0x0100000000000000 ∷ zeros 4) Checking Text 0 0 0, (lent (0 ∷ []), tt))
-      (record { answer = Done; rounds = 0; next = streamOf (0x0100000000000000 ∷ zeros 4) Checking Text 0 1 1 })
+  pub check-plaintext : (answer : Answer) (rounds : ℕ) (next : Stream) → getD (next .words) 0 0 ≡ 0x0100000000000000
+      → Never stream.Stream.check.Reads.Learnt (handed (streamOf (0x0100000000000000 ∷ zeros 4) Checking Text 0 0 0 200) 1) (answering answer rounds next)
   -- an empty piece that closes a byte of data reports the rounds of closing
-  pub check-closing : (next : Stream) → Never stream.Stream.check.Reads.Learnt (streamOf (zeros 5) Checking Ad 1 0 1, (lent [], tt))
-      (record { answer = Done; rounds = 0; next = next })
-  -- a piece that reaches the limit has not passed it
-  pub check-limit : Never stream.Stream.check.Reads.Learnt (record { words = zeros 5; set = 1; direction = Checking; phase = Text; key = zeros 16; ad = 0; text = 1_048_575; place = 7 }, (lent (zeros 1), tt)) (record { answer = PastLimit; rounds = 0; next = record { words = zeros 5; set = 1; direction = Checking; phase = Text; key = zeros 16; ad = 0; text = 1_048_575; place = 7 } })
-  -- the ended state is not open
-  pub ended-open : Never stream.Stream.ended.Reads.Learnt tt (record { words = zeros 5; set = 1; direction = Sealing; phase = Ad; key = zeros 16; ad = 0; text = 0; place = 0 })
-  -- the ended state is not of set 2
-  pub ended-set : Never stream.Stream.ended.Reads.Learnt tt (record { words = zeros 5; set = 2; direction = Sealing; phase = Ended; key = zeros 16; ad = 0; text = 0; place = 0 })
-  -- answer 7 comes before answer 4
-  pub finish-sealing-ended : Never stream.Stream.finish_sealing.Reads.Learnt (ended, (lent [], tt)) (record { answer = TagLength; rounds = 0; next = ended })
-  -- the ended state is not broken: 7 and not 8
-  pub finish-checking-ended : Never stream.Stream.finish_checking.Reads.Learnt (ended, (lent [], tt)) (record { answer = BrokenState; rounds = 0; next = ended })
-  -- the tag's last byte is compared: it is b2, and not b3
-  pub finish-checking-last : Never stream.Stream.finish_checking.Reads.Learnt (
-    streamOf (zeros 5) Checking Text 0 0 0,
-    (lent (bytesOf 16 0x344f68b335d2682c54e0c3ef895c25b3), tt),
-  )
-      (record { answer = Done; rounds = 12; next = ended })
+  pub check-closing : (answer : Answer) (next : Stream) → Never stream.Stream.check.Reads.Learnt (handed (streamOf (zeros 5) Checking Ad 1 0 1 200) 0) (answering answer 0 next)
   -- a refused piece of text does not touch the place
-  pub seal-piece-refused : NeverLeaves stream.Stream.seal.Reads.Learnt (ended, (lent [], (lent (0 ∷ []), tt))) (record { answer = OutOfPhase; rounds = 0; next = ended })
-      (ended, (lent [], (lent (1 ∷ []), tt)))
+  pub seal-piece-refused : NeverLeaves stream.Stream.seal.Reads.Learnt (ended, (lent [], (lent (0 ∷ []), tt))) (answering OutOfPhase 0 ended) (ended, (lent [], (lent (1 ∷ []), tt)))
+  -- ---- the end
+
+  -- the ended state is not open, nor of set 2, nor has it a limit
+  pub ended-open : (next : Stream) → next .phase ≡ Ad → Never stream.Stream.ended.Reads.Learnt tt next
+  pub ended-set : (next : Stream) → next .set ≡ 2 → Never stream.Stream.ended.Reads.Learnt tt next
+  pub ended-limit : (next : Stream) → (next .limit ≡ 0 → ⊥) → Never stream.Stream.ended.Reads.Learnt tt next
+  -- no finish leaves the limit, also where the tag differs
+  pub finish-sealing-limit : (answer : Answer) (rounds : ℕ) (next : Stream) → (next .limit ≡ 0 → ⊥)
+      → Never stream.Stream.finish_sealing.Reads.Learnt (handed (insideText Sealing 0 200) 16) (answering answer rounds next)
+  pub finish-checking-limit : (answer : Answer) (rounds : ℕ) (next : Stream) → (next .limit ≡ 0 → ⊥)
+      → Never stream.Stream.finish_checking.Reads.Learnt (handed (insideText Checking 0 200) 16) (answering answer rounds next)
+  -- a finish, which tests no length of text, tests the state all the same: a count past the limit, and a limit over the largest
+  pub finish-sealing-past : (answer : Answer) (rounds : ℕ) (next : Stream) → (answer ≡ BrokenState → ⊥)
+      → Never stream.Stream.finish_sealing.Reads.Learnt (handed (insideText Sealing 201 200) 16) (answering answer rounds next)
+  pub finish-checking-past : (answer : Answer) (rounds : ℕ) (next : Stream) → (answer ≡ BrokenState → ⊥)
+      → Never stream.Stream.finish_checking.Reads.Learnt (handed (insideText Checking 201 200) 16) (answering answer rounds next)
+  pub finish-sealing-wide : (answer : Answer) (rounds : ℕ) (next : Stream) → (answer ≡ BrokenState → ⊥)
+      → Never stream.Stream.finish_sealing.Reads.Learnt (handed (insideText Sealing 0 1_048_577) 16) (answering answer rounds next)
+  -- answer 7 comes before answer 4
+  pub finish-sealing-ended : (rounds : ℕ) (next : Stream) → Never stream.Stream.finish_sealing.Reads.Learnt (handed ended 0) (answering TagLength rounds next)
+  -- the ended state is not broken: 7 and not 8
+  pub finish-checking-ended : (rounds : ℕ) (next : Stream) → Never stream.Stream.finish_checking.Reads.Learnt (handed ended 0) (answering BrokenState rounds next)
+  -- the tag's last byte is compared: it is b2, and not b3
+  pub finish-checking-last : (rounds : ℕ) (next : Stream)
+      → Never stream.Stream.finish_checking.Reads.Learnt (insideText Checking 0 200, (lent (bytesOf 16 0x344f68b335d2682c54e0c3ef895c25b3), tt)) (answering Done rounds next)

@@ -2,7 +2,9 @@
 
 use crate::cipher::set_of;
 use crate::log::{log_of, Call, Entry};
-use crate::stream::{ad, finish_sealing, seal, start, Direction, Given, Stream, ENDED};
+use crate::stream::{
+    ad, finish_sealing, seal, start, Direction, Given, Stream, ENDED, LARGEST_LIMIT,
+};
 
 /// Makes the call with room enough and gives its right entry and the next state.
 pub fn called(stream: Stream, call: Call, data: &[u8]) -> (Entry, Stream) {
@@ -33,10 +35,10 @@ fn room_for(stream: &Stream, call: Call, data: &[u8]) -> usize {
     }
 }
 
-/// Starts a sealing stream of the set with a key and then a nonce of the same length.
+/// Starts a sealing stream of the set, with the largest limit, from a key and a nonce as long.
 fn started(set: u64, key_and_nonce: &[u8]) -> Given {
     let (key, nonce) = key_and_nonce.split_at(key_and_nonce.len() / 2);
-    start(Direction::Sealing, set, key, nonce)
+    start(Direction::Sealing, set, LARGEST_LIMIT, key, nonce)
 }
 
 /// Gives the right entries of the calls, each with its data, made in turn from the ended state.

@@ -10,7 +10,7 @@ use lib.ListN.{length, take, drop, length-drop, drop-of-length-le}
 use lib.Seq.{length-take-le, take-all, take-nil, drop-length}
 use borrow.Author.Tests.{leb-true, leb-false}
 use borrow.Author.Needs.{needs}
-use Rattle.ascon.specs.Sets.{rowOf}
+use Rattle.ascon.specs.Sets.{rowOf, textLimit}
 use Rattle.stream.specs.declared.Direction.the-variants.{Sealing}
 use Rattle.stream.specs.declared.Outcome.{Outcome}
 use Rattle.stream.specs.Calls.{startCall}
@@ -74,7 +74,7 @@ returns c =
     let parts : CutAt key x (l .lesser .result) = subst (λ (k : ℕ). CutAt key x k) (sym cut) (cut-at key x) in
     c .without-out .ensures
     ∙ ap (λ (o : Outcome). inPlaces (silent o))
-    (c .before .start .ensures ∙ (λ j. startCall (record { direction = Sealing; set = s .set; key = parts .before j; nonce = parts .behind j })))
+    (c .before .start .ensures ∙ (λ j. startCall (record { direction = Sealing; set = s .set; limit = textLimit; key = parts .before j; nonce = parts .behind j })))
 
 pub start-spec : {M : Type 1} → statement M
 start-spec =

@@ -85,6 +85,7 @@ returns-2 c =
         ad = v .ad + n;
         text = v .text;
         place = (v .ad + n) % c .block-length .ensures j;
+        limit = v .limit;
       };
     })
 

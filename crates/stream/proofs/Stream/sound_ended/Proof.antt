@@ -19,11 +19,11 @@ is-direction-requires c κs = search needs
 returns : tie.Need-returns
 unfolding isSoundEnded
 returns c =
-    let i = c .before .before .before .before in
+    let i = c .before .before .before .before .before in
     let s = i .before .before .before .before .before .args .self in
     ap₂ _&&_ (i .before .before .zero-words .ensures)
     (ap₂ _&&_ (i .before .zero-from .ensures)
-    (ap (λ (t : Bool). t && (eqb (s .set) 1 && (eqb (s .ad) 0 && (eqb (s .text) 0 && eqb (s .place) 0)))) (i .is-direction .ensures)))
+    (ap (λ (t : Bool). t && (eqb (s .set) 1 && (eqb (s .ad) 0 && (eqb (s .text) 0 && (eqb (s .place) 0 && eqb (s .limit) 0))))) (i .is-direction .ensures)))
 
 pub sound-ended-spec : {M : Type 1} → statement M
 sound-ended-spec = tie.close (tie.spec zero-words-requires zero-from-requires is-direction-requires returns)

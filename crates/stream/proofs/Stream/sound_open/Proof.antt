@@ -24,17 +24,17 @@ block-length-requires : tie.Need-block-length-requires
 block-length-requires c κs = search needs
 
 rem-result : tie.Need-rem-result
-rem-result c = rw (c .block-length .ensures) (row-sizes (c .before .before .before .before .before .before .before .args .self .set) .some-block)
+rem-result c = rw (c .block-length .ensures) (row-sizes (c .before .before .before .before .before .before .before .before .args .self .set) .some-block)
 
 returns : tie.Need-returns
 unfolding isSoundOpen
 returns c =
-    let z = c .before .before .before .before in
+    let z = c .before .before .before .before .before in
     let a = z .before .before .before .before .args in
     let s = a .self in
     ap₂ _&&_ (z .before .before .is-set .ensures)
     (ap₂ _&&_ (z .zero-from .ensures ∙ ap (λ (n : ℕ). allZero (drop n (s .key))) (z .before .key-length .ensures))
-    (ap (λ (n : ℕ). leb (s .ad) adLimit && (leb (s .text) textLimit && eqb (s .place) (a .count % n))) (c .before .block-length .ensures)))
+    (ap (λ (n : ℕ). leb (s .ad) adLimit && (leb (s .text) (s .limit) && (leb (s .limit) textLimit && eqb (s .place) (a .count % n)))) (c .before .block-length .ensures)))
 
 pub sound-open-spec : {M : Type 1} → statement M
 sound-open-spec = tie.close (tie.spec is-set-requires key-length-requires zero-from-requires block-length-requires rem-result returns)

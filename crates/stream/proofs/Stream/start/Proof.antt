@@ -18,12 +18,13 @@ use Rattle.tags.proofs.Compared.{sixteen-is}
 use Rattle.sets.proofs.Rows.{row-sizes}
 use Rattle.stream.specs.declared.Phase.the-variants.{Ad}
 use Rattle.stream.specs.Calls.{refused, startCall}
-use Rattle.sets.proofs.Start.{StartPassed, start-passed}
+use Rattle.sets.proofs.Start.{StartPassed}
+use Rattle.stream.proofs.Tests.{limited-start-passed}
 use Rattle.stream.proofs.Stream.start.Statement.{statement}
 use Rattle.stream.proofs.Stream.start.Tie as tie
 
-start-test-requires : tie.Need-start-test-requires
-start-test-requires c κs = search needs
+limited-start-test-requires : tie.Need-limited-start-test-requires
+limited-start-test-requires c κs = search needs
 
 is-done-requires : tie.Need-is-done-requires
 is-done-requires c κs = search needs
@@ -39,16 +40,16 @@ unfolding startCall
 returns c =
     let b = c .before .before .before in
     c .refusal .ensures
-    ∙ ap (refused (b .before .start-test .result)) (c .before .ended .ensures)
-    ∙ rw (← b .before .start-test .ensures, sym (b .is-done .ensures) ∙ not-true _ (c .before .before .if1 .taken))
+    ∙ ap (refused (b .before .limited-start-test .result)) (c .before .ended .ensures)
+    ∙ rw (← b .before .limited-start-test .ensures, sym (b .is-done .ensures) ∙ not-true _ (c .before .before .if1 .taken))
 
 -- what the passed tests say
 passed : (c : tie.Else1) → let a = c .before .before .before .before .before .args in
     StartPassed (a .set) (length (now (a .key))) (length (now (a .nonce)))
 passed c =
     let a = c .before .before .before .before .before .args in
-    start-passed (a .set) (length (now (a .key))) (length (now (a .nonce)))
-    (ap isDone (sym (c .before .before .start-test .ensures)) ∙ sym (c .before .is-done .ensures) ∙ not-false _ (c .if1 .left))
+    limited-start-passed (a .set) (length (now (a .key))) (length (now (a .nonce))) (a .limit)
+    (ap isDone (sym (c .before .before .limited-start-test .ensures)) ∙ sym (c .before .is-done .ensures) ∙ not-false _ (c .if1 .left)) .start
 
 sixteen-requires : tie.Need-sixteen-requires
 sixteen-requires c κs = search needs
@@ -77,18 +78,18 @@ returns-2 c =
     ∙ ap₂ (λ (x y : List ℕ). wordsOfString (initialise row x y))
     (ap (λ (x : List ℕ). take (row .key) x) k ∙ take-at key (zeros (16 - length key)) (row .key) (h .key-fits))
     (ap (λ (x : List ℕ). take (row .key) x) n ∙ take-at nonce (zeros (16 - length nonce)) (row .key) (h .nonce-fits)) in
-    rw (← e .before .before .start-test .ensures, sym (e .before .is-done .ensures) ∙ not-false _ (e .if1 .left))
+    rw (← e .before .before .limited-start-test .ensures, sym (e .before .is-done .ensures) ∙ not-false _ (e .if1 .left))
     (λ j. record {
       answer = Done;
       rounds = 12;
-      next = record { words = words j; set = a .set; direction = a .direction; phase = Ad; key = k j; ad = 0; text = 0; place = 0 };
+      next = record { words = words j; set = a .set; direction = a .direction; phase = Ad; key = k j; ad = 0; text = 0; place = 0; limit = a .limit };
     })
 
 pub start-spec : {M : Type 1} → statement M
 start-spec =
     tie.close
     (tie.spec
-    start-test-requires
+    limited-start-test-requires
     is-done-requires
     ended-requires
     refusal-requires

@@ -4,7 +4,6 @@ use mathlib.Core.Bool.{Bool, not, _&&_}
 use lib.Dec.{leb}
 use borrow.Author.Needs.{needs}
 use borrow.Author.Tests.{not-true, not-false}
-use Rattle.ascon.specs.Sets.{textLimit}
 use Rattle.stream.specs.State.{givesText, fits}
 use Rattle.stream.specs.Calls.{pieceTest}
 use Rattle.stream.proofs.Tests.{text-test-is}
@@ -21,8 +20,8 @@ is-done-requires : tie.Need-is-done-requires
 is-done-requires c κs = search needs
 
 -- the tests of a piece, by their definition
-tested : (c : tie.After-piece-test) → let a = c .before .before .args in c .piece-test .result ≡ pieceTest (a .self) (fits (a .wanted) (a .self)) (a .self .text) (a .n) textLimit
-tested c = let a = c .before .before .args in c .piece-test .ensures ∙ ap (λ (fit : Bool). pieceTest (a .self) fit (a .self .text) (a .n) textLimit) (c .before .fits2 .ensures)
+tested : (c : tie.After-piece-test) → let a = c .before .before .args in c .piece-test .result ≡ pieceTest (a .self) (fits (a .wanted) (a .self)) (a .self .text) (a .n) (a .self .limit)
+tested c = let a = c .before .before .args in c .piece-test .ensures ∙ ap (λ (fit : Bool). pieceTest (a .self) fit (a .self .text) (a .n) (a .self .limit)) (c .before .fits2 .ensures)
 
 returns : tie.Need-returns
 returns c =

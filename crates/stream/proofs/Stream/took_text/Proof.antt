@@ -48,6 +48,7 @@ returns c =
         ad = s .ad;
         text = s .text + a .n;
         place = (s .text + a .n) % c .block-length .ensures j;
+        limit = s .limit;
       };
     }
 

@@ -1,0 +1,43 @@
+-- What an open state that breaks no rule keeps, whatever its phase.
+use mathlib.Core.Path.{_≡_, refl}
+use mathlib.Core.Bool.{Bool, true, false, _&&_, false≢true}
+use Prim.Native.Nat.{ℕ}
+use lib.Dec.{eqb, leb}
+use lib.ListN.{drop}
+use Rattle.ascon.specs.Sets.{isSet, rowOf, adLimit, textLimit}
+use Rattle.stream.specs.declared.Phase.{Phase}
+use Rattle.stream.specs.declared.Phase.the-variants.{Ad, Text, Ended}
+use Rattle.stream.specs.declared.Stream.{Stream}
+use Rattle.stream.specs.State.{isOpen, allZero, isSoundOpen, isSoundIn, isSound}
+
+-- both halves of a conjunction that holds
+pub both-true : (a b : Bool) → (a && b) ≡ true → (a ≡ true) × (b ≡ true)
+both-true true b e = (refl, e)
+both-true false b e = absurd (false≢true e)
+
+pub record Kept (s : Stream) : Type 0 where
+  pub known : isSet (s .set) ≡ true
+  pub key : allZero (drop (rowOf (s .set) .key) (s .key)) ≡ true
+  pub ad : leb (s .ad) adLimit ≡ true
+  pub text : leb (s .text) (s .limit) ≡ true
+  pub limit : leb (s .limit) textLimit ≡ true
+
+-- a state that keeps the rules of its phase's count
+pub open-kept : (s : Stream) (count : ℕ) → isSoundOpen s count ≡ true → Kept s
+unfolding isSoundOpen
+open-kept s count e =
+    let a = both-true (isSet (s .set)) _ e in
+    let b = both-true (allZero (drop (rowOf (s .set) .key) (s .key))) _ (a .1) in
+    let c = both-true (leb (s .ad) adLimit) _ (b .1) in
+    let d = both-true (leb (s .text) (s .limit)) _ (c .1) in
+    record { known = a .0; key = b .0; ad = c .0; text = d .0; limit = both-true (leb (s .limit) textLimit) _ (d .1) .0 }
+
+-- a state that breaks no rule, in either open phase
+pub sound-kept : (s : Stream) → isOpen (s .phase) ≡ true → isSound s ≡ true → Kept s
+unfolding isSound
+sound-kept s o sound = go (s .phase) o sound
+  where
+    go : (phase : Phase) → isOpen phase ≡ true → isSoundIn phase s ≡ true → Kept s
+    go Ad f e = open-kept s (s .ad) (both-true (eqb (s .text) 0) (isSoundOpen s (s .ad)) e .1)
+    go Text f e = open-kept s (s .text) e
+    go Ended f e = absurd (false≢true f)

@@ -1,0 +1,269 @@
+//! What the program `limits` is held to, computed again by the second program.
+
+use second::stream::{
+    ad, check, finish_checking, finish_sealing, seal, start, Direction, Given, Phase, Stream,
+};
+use Direction::{Checking, Sealing};
+
+/// What the gate compares the program's output with.
+const EXPECTED: &str = include_str!("../../../crates/limits/stdout");
+
+/// The limits that are tried.
+const LIMITS: [u64; 10] = [
+    0,
+    1,
+    199,
+    200,
+    201,
+    1_048_575,
+    1_048_576,
+    1_048_577,
+    1 << 63,
+    u64::MAX,
+];
+
+/// The counts of text that states have.
+const TEXTS: [u64; 10] = [
+    0,
+    1,
+    199,
+    200,
+    201,
+    1_048_574,
+    1_048_575,
+    1_048_576,
+    1_048_577,
+    u64::MAX,
+];
+
+/// The counts of data that states before the text have.
+const DATA: [u64; 10] = [0, 1, 7, 8, 200, 65_534, 65_535, 65_536, 65_537, u64::MAX];
+
+/// The byte that data and text are made of.
+const BYTE: u8 = 165;
+
+/// The directions, sets, with the lengths of key and nonce in each, and phases, in the program's order.
+const DIRECTIONS: [(usize, Direction); 2] = [(0, Sealing), (1, Checking)];
+const SETS: [(u64, usize); 2] = [(1, 16), (2, 12)];
+const PHASES: [(usize, Phase); 3] = [(0, Phase::Data), (1, Phase::Text), (2, Phase::Ended)];
+
+/// What a call gave, and what its lent place then holds.
+type Called = (Given, Vec<u8>);
+
+/// So many bytes counting up from one.
+fn counting(from: u8, length: usize) -> Vec<u8> {
+    (from..).take(length).collect()
+}
+
+/// Numbers mixed in, one after the other: the mixture turned left by 7 bits, and combined with each.
+fn mixed(mixture: u64, numbers: impl IntoIterator<Item = u64>) -> u64 {
+    let turned = |mixture: u64, number| mixture.rotate_left(7) ^ number;
+    numbers.into_iter().fold(mixture, turned)
+}
+
+/// Bytes mixed.
+fn mixed_bytes(bytes: &[u8]) -> u64 {
+    mixed(0, bytes.iter().map(|byte| u64::from(*byte)))
+}
+
+/// All of a state, mixed.
+fn mixed_state(s: &Stream) -> u64 {
+    let direction = DIRECTIONS.iter().find(|known| known.1 == s.direction);
+    let phase = PHASES.iter().find(|known| known.1 == s.phase);
+    let kinds = [
+        mixed_bytes(&s.key),
+        s.set,
+        direction.expect("one of two").0 as u64,
+        phase.expect("one of three").0 as u64,
+    ];
+    let counts = [s.ad_count, s.text_count, s.place, s.limit];
+    mixed(0, [&s.words[..], &kinds, &counts].concat())
+}
+
+/// All that a call gave, mixed, but for its answer.
+fn mixed_call(((_, rounds, next), lent): &Called) -> u64 {
+    mixed(mixed_state(next), [mixed_bytes(lent), *rounds])
+}
+
+/// A call that is lent no place.
+fn placeless(given: Given) -> Called {
+    (given, Vec::new())
+}
+
+/// The text call of a direction, of so many bytes; a sealing has room for 256.
+fn text(direction: Direction, stream: Stream, length: usize) -> Called {
+    let piece = vec![BYTE; length];
+    match direction {
+        Sealing => {
+            let mut out = vec![0; 256];
+            (seal(stream, &piece, &mut out), out)
+        }
+        Checking => placeless(check(stream, &piece)),
+    }
+}
+
+/// The finish of a direction; a checking is given the tag that its words would be sealed with.
+fn finish(direction: Direction, stream: Stream) -> Called {
+    let mut tag = vec![0; if stream.set == 2 { 12 } else { 16 }];
+    let sealing = Stream {
+        direction: Sealing,
+        ..stream
+    };
+    let given = finish_sealing(sealing, &mut tag);
+    match direction {
+        Sealing => (given, tag),
+        Checking => placeless(finish_checking(stream, &tag)),
+    }
+}
+
+/// The answer and the rounds of a call, and all else that it gave, mixed.
+fn told(call: &Called) -> String {
+    let (answer, rounds, _) = call.0;
+    format!(" {answer},{rounds},{:016x}", mixed_call(call))
+}
+
+/// Starts with each limit, in each direction and in sets 1, 2 and 3, of which the last is unknown, with right and wrong lengths.
+fn starts() -> Vec<String> {
+    let mut lines = Vec::new();
+    for (d, direction) in DIRECTIONS {
+        for set in 1..=3 {
+            for (_, key) in SETS {
+                for (_, nonce) in SETS {
+                    let (k, n) = (counting(0, key), counting(16, nonce));
+                    let ten = LIMITS
+                        .map(|limit| told(&placeless(start(direction, set, limit, &k, &n))))
+                        .concat();
+                    lines.push(format!(
+                        "starts direction={d} set={set} key={key} nonce={nonce}:{ten}\n"
+                    ));
+                }
+            }
+        }
+    }
+    lines
+}
+
+/// The lengths of a walk's pieces of text: up to its limit and past it, or mixed.
+fn lengths(walk: usize, limit: usize) -> [usize; 4] {
+    match walk {
+        0 => [limit, 0, 1, 0],
+        1 => [limit + 1, limit, 1, 0],
+        2 => [limit / 2, limit - limit / 2, 1, 0],
+        3 => [limit / 3, limit, limit - limit / 3, 1],
+        4 => [65_537, limit, 65_537, 0],
+        _ => [0, 101, 202, 303].map(|step| (37 * walk + step) % (limit + 3)),
+    }
+}
+
+/// A walk from a start on: three bytes of data, four pieces of text, the finish, and a second one, each told.
+fn walked(direction: Direction, (set, length): (u64, usize), limit: u64, walk: usize) -> String {
+    let (key, nonce) = (counting(0, length), counting(16, length));
+    let mut call = placeless(start(direction, set, limit, &key, &nonce));
+    let mut line = told(&call);
+    let mut go_on = |next: &dyn Fn(Stream) -> Called| {
+        call = next(call.0 .2);
+        line += &told(&call);
+    };
+    go_on(&|stream| placeless(ad(stream, &[BYTE; 3])));
+    for length in lengths(walk, limit as usize) {
+        go_on(&|stream| text(direction, stream, length));
+    }
+    go_on(&|stream| finish(direction, stream));
+    go_on(&|stream| finish(direction, stream));
+    line
+}
+
+/// Ten walks under each of the first five limits, in each set and direction.
+fn walks() -> Vec<String> {
+    let mut lines = Vec::new();
+    for (d, direction) in DIRECTIONS {
+        for set in SETS {
+            for limit in &LIMITS[..5] {
+                for walk in 0..10 {
+                    let calls = walked(direction, set, *limit, walk);
+                    let number = set.0;
+                    lines.push(format!(
+                        "walk direction={d} set={number} limit={limit} number={walk}:{calls}\n"
+                    ));
+                }
+            }
+        }
+    }
+    lines
+}
+
+/// The answers to calls on a state, and all that they gave, mixed.
+fn tried(direction: Direction, stream: Stream) -> String {
+    let other = match direction {
+        Sealing => Checking,
+        Checking => Sealing,
+    };
+    let calls = [
+        placeless(ad(stream, &[BYTE])),
+        text(direction, stream, 0),
+        text(direction, stream, 1),
+        text(direction, stream, 2),
+        text(direction, stream, 65_537),
+        text(direction, text(direction, stream, 2).0 .2, 1),
+        text(other, stream, 1),
+        finish(direction, stream),
+    ];
+    let answers: String = calls.iter().map(|call| call.0 .0.to_string()).collect();
+    format!(" {answers},{:016x}", mixed(0, calls.iter().map(mixed_call)))
+}
+
+/// A state under words and a key of zeros, with a count of its phase: of data before the text, else of text.
+fn state(direction: Direction, set: u64, phase: Phase, limit: u64, count: u64) -> Stream {
+    let block = if set == 1 { 8 } else { 16 };
+    let (ad_count, text_count) = match phase {
+        Phase::Data => (count, 0),
+        _ => (0, count),
+    };
+    Stream {
+        words: [0; 5],
+        set,
+        direction,
+        phase,
+        key: [0; 16],
+        ad_count,
+        text_count,
+        place: if phase == Phase::Ended {
+            0
+        } else {
+            count % block
+        },
+        limit,
+    }
+}
+
+/// States with each limit and ten counts, in each phase, set and direction.
+fn states() -> Vec<String> {
+    let mut lines = Vec::new();
+    for (d, direction) in DIRECTIONS {
+        for (set, _) in SETS {
+            for (p, phase) in PHASES {
+                let counts = if phase == Phase::Data { DATA } else { TEXTS };
+                for limit in LIMITS {
+                    let ten = counts
+                        .map(|count| tried(direction, state(direction, set, phase, limit, count)))
+                        .concat();
+                    lines.push(format!(
+                        "states direction={d} set={set} phase={p} limit={limit}:{ten}\n"
+                    ));
+                }
+            }
+        }
+    }
+    lines
+}
+
+#[test]
+fn starts_walks_and_states_are_the_second_programs() {
+    let (starts, walks, states) = (starts(), walks(), states());
+    assert_eq!([starts.len(), walks.len(), states.len()], [24, 200, 120]);
+    let all = [starts, walks, states].concat().concat();
+    assert!(
+        EXPECTED == all,
+        "crates/limits/stdout is not what the second program says"
+    );
+}
