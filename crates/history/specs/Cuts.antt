@@ -76,7 +76,7 @@ module _ (m : Streams) where
         let k = after m (begun m start) other in
         h .stream .phase ≡ k .stream .phase → h .ad ≡ k .ad → h .text ≡ k .text → h .stream ≡ k .stream
 
-  -- the demand as it stood before a start chose a limit: on a stream of the largest one, for every text that the rules allow
+  -- the demand as it stood before a start chose a limit: on a stream of the largest one, for every text that the rules allow; its part on states names no limit
   pub record CuttingBefore : Type 0 where
     pub seals : (start : Start) (A P : List ℕ) (calls : List Call) (tag : List ℕ) → start .limit ≡ textLimit → start .direction ≡ Sealing
         → MessageWithin textLimit start A P calls → length tag ≡ rowOf (start .set) .key → SealedWhole start A P (after m (begun m start) calls) tag

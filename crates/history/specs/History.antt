@@ -182,5 +182,6 @@ pub record Counted (start : Start) (h : History) : Type 0 where
   pub text : isOpen (h .stream .phase) ≡ true → h .stream .text ≡ length (h .text)
   pub limit : isOpen (h .stream .phase) ≡ true → h .stream .limit ≡ start .limit
 
+-- after any calls on a stream that a done start gave
 abbrev pub Limited : Streams → Type 0
 Limited m = (start : Start) → Started m start → (calls : List Call) → BytesIn calls → Counted start (after m (begun m start) calls)

@@ -296,7 +296,7 @@ fn at_step(step: usize, first: usize, second: usize, third: usize, fourth: usize
     }
 }
 
-// The length of a walk's piece of text under a limit l: in the first five walks up to the limit and past it, in the others mixed.
+// The length of a walk's piece of text under a limit l, which is below 256: in the first five walks up to the limit and past it, in the others mixed.
 fn piece_length(walk: usize, step: usize, l: usize) -> usize {
     let l = l % 256;
     match walk {
@@ -350,8 +350,7 @@ fn try_walk(k: usize, key: &[u8], nonce: &[u8], bytes: &[u8]) {
         first_of(key, length),
         first_of(nonce, length),
     );
-    let l = (limit % 256) as usize;
-    walk_from(direction, told(placeless(o)), k % 10, l, bytes);
+    walk_from(direction, told(placeless(o)), k % 10, limit as usize, bytes);
 }
 
 // ---- states
