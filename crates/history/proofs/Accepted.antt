@@ -1,4 +1,4 @@
--- The other half of the history law: what fits is never refused.
+-- The other half of the history law: what fits is never refused, and what would pass the limit is.
 use mathlib.Core.Path.{_≡_, refl, sym, ap, _∙_}
 use mathlib.Core.Bool.{Bool, true, false, cond, not, _&&_, false≢true}
 use mathlib.Core.List.{List, []}
@@ -34,14 +34,14 @@ fits-text d s n room a b c r =
     go true e = rw (le-leb n room (r e))
     go false e = refl
 
--- and of a piece of text past the stream's limit
-pub past-text : (d : Direction) (s : Stream) (n room : ℕ) → isSound s ≡ true → fits d s ≡ true → s .limit < s .text + n → textTest d s n room ≡ PastLimit
-unfolding textTest
-past-text d s n room a b c = rw (a, b, lt-leb (s .text + n) (s .limit) c)
-
 pub fits-finish : (d : Direction) (s : Stream) (n : ℕ) → isSound s ≡ true → fits d s ≡ true → n ≡ rowOf (s .set) .key → isDone (finishTest d s n) ≡ true
 unfolding finishTest
 fits-finish d s n a b c = rw (a, b, eq-eqb n (rowOf (s .set) .key) c)
+
+-- the test of a piece of text that would pass the stream's limit
+pub past-text : (d : Direction) (s : Stream) (n room : ℕ) → isSound s ≡ true → fits d s ≡ true → s .limit < s .text + n → textTest d s n room ≡ PastLimit
+unfolding textTest
+past-text d s n room a b c = rw (a, b, lt-leb (s .text + n) (s .limit) c)
 
 module _ (start : Start) (begins : Started ours start) where
   -- a state that a history reaches breaks no rule

@@ -94,6 +94,7 @@ never-refused start begins calls b o call (text-fits piece out l m) =
     let y : Ready start begins h = ready start begins h r o in
     ap (λ (x : Outcome). x .answer) (text-reply (start .direction) (h .stream) piece out (reached-sound start begins h r o) o (y .direction-is) (rw (y .text-is, y .limit-is) l) m)
 
+-- one that would pass the limit is not
 pub past-refused : PastRefused ours
 past-refused start begins calls b o piece out past =
     let h : History = after ours (begun ours start) calls in

@@ -62,6 +62,9 @@ module _ (start : Start) (begins : Started ours start) where
   abbrev set : ℕ
   set = start .set
 
+  abbrev limit : ℕ
+  limit = start .limit
+
   abbrev K : List ℕ
   K = start .key
 
@@ -73,9 +76,6 @@ module _ (start : Start) (begins : Started ours start) where
 
   pub fit : Fits row
   fit = row-fits set
-
-  abbrev limit : ℕ
-  limit = start .limit
 
   pub passed : LimitedStartPassed set (length K) (length N) limit
   passed = limited-start-passed set (length K) (length N) limit (start-tested start (begins .done))

@@ -37,7 +37,7 @@ module _ (m : Streams) where
     ad-piece : {s : Stream} {A T : List ℕ} {calls : List Call} (piece : List ℕ)
         → Cut d (reply m s (giveAd piece) .next) A T calls → Cut d s (piece ++ A) T (giveAd piece ∷ calls)
 
-  -- a message, its data within the limit of data and its text within some limit, and a cutting of it on a stream that a done start gave
+  -- a message, its data within the limit of data and its text within `limit`, and a cutting of it on a stream that a done start gave
   pub record MessageWithin (limit : ℕ) (start : Start) (A T : List ℕ) (calls : List Call) : Type 0 where
     pub started : Started m start
     pub bytes : BytesIn calls
@@ -76,7 +76,7 @@ module _ (m : Streams) where
         let k = after m (begun m start) other in
         h .stream .phase ≡ k .stream .phase → h .ad ≡ k .ad → h .text ≡ k .text → h .stream ≡ k .stream
 
-  -- the demand as it stood before a start chose a limit: on a stream of the largest one, for every text that the rules allow; its part on states names no limit
+  -- sealing and checking as the demand had them before a start chose a limit: on a stream of the largest one, for every text within that; `states` names no limit
   pub record CuttingBefore : Type 0 where
     pub seals : (start : Start) (A P : List ℕ) (calls : List Call) (tag : List ℕ) → start .limit ≡ textLimit → start .direction ≡ Sealing
         → MessageWithin textLimit start A P calls → length tag ≡ rowOf (start .set) .key → SealedWhole start A P (after m (begun m start) calls) tag

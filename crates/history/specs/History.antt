@@ -166,7 +166,7 @@ NeverRefused m =
     (start : Start) → Started m start → (calls : List Call) → BytesIn calls → let h = after m (begun m start) calls in
     isOpen (h .stream .phase) ≡ true → (call : Call) → Fitting start h call → reply m (h .stream) call .answer ≡ Done
 
--- and a piece of text past the limit that the start chose is refused with 5, whatever its room
+-- and on an open stream, a piece of text for its direction that would pass the limit which the start chose is refused with 5, whatever its room
 abbrev pub PastRefused : Streams → Type 0
 PastRefused m =
     (start : Start) → Started m start → (calls : List Call) → BytesIn calls → let h = after m (begun m start) calls in

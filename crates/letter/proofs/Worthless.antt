@@ -27,12 +27,11 @@ use Rattle.sets.proofs.Rows.{row-fits, row-sizes}
 use Rattle.stream.specs.declared.Direction.{Direction}
 use Rattle.stream.specs.declared.Direction.the-variants.{Sealing, Checking}
 use Rattle.stream.specs.declared.Phase.{Phase}
-use Rattle.stream.specs.declared.Phase.the-variants.{Ad, Text, Ended}
+use Rattle.stream.specs.declared.Phase.the-variants.{Ad, Ended}
 use Rattle.stream.specs.declared.Stream.{Stream}
 use Rattle.stream.specs.State.{isDirection, isOpen, fits, ended, isSoundOpen, isSound}
 use Rattle.stream.specs.Calls.{Start, Called, textFaults, finishFaults, tagFaults}
 use Rattle.stream.proofs.Sound.{both-true}
-use Rattle.stream.proofs.Tests.{own-direction}
 use Rattle.history.specs.History.{Streams, Call, giveText, next, BytesIn}
 use Rattle.history.specs.Cuts.{TextCut, TextCut.text-end, TextCut.text-piece, Cut.ad-end, Message}
 use Rattle.message.specs.Message.{SealLeaves, isNone}
@@ -43,7 +42,7 @@ use Rattle.letter.specs.Messages as messages
 use Rattle.letter.specs.Streams as streams
 use Rattle.letter.specs.Second.{Unrefused, Second}
 use Rattle.letter.specs.Third.{Third}
-use Rattle.letter.specs.Worthless.{NeverSeals, NeverOpens, NeverStarts, SealsBlindly, Copies, CopiesOpenings, CopiesLater, EmptyEnds, ForgetsText, ForgetsLimit, IgnoresLimit, OpensAnyTag, AgreesToAnyTag, SameRounds, SameStreamRounds, ReportsLate, StaysOpen, WritesBeyond, Worthless}
+use Rattle.letter.specs.Worthless.{NeverSeals, NeverOpens, NeverStarts, SealsBlindly, Copies, CopiesOpenings, CopiesLater, EmptyEnds, ForgetsText, PassesLimit, ForgetsLimit, OpensAnyTag, AgreesToAnyTag, SameRounds, SameStreamRounds, ReportsLate, StaysOpen, WritesBeyond, Worthless}
 
 -- a key, a nonce and a place for a tag, of set 1
 abbrev sixteen : List ℕ
@@ -307,33 +306,16 @@ two-taken m l t =
     let alone = t .cutting .seals begin [] (zeros 2) (two ∷ []) sixteen refl (two-whole m l) row-one in
     done-is (given .outcome .answer) (gave (isDone (given .outcome .answer)) 2 (given .lent) (0x27 ∷ 0xe6 ∷ []) (alone .out ∙ two-zeros) (lit< tt))
 
--- and leave the stream open
-two-open : (m : Streams) → streams.Listed m → Third m → isOpen (m .text Sealing (m .start begin .next) (zeros 2) (zeros 2) .outcome .next .phase) ≡ true
-unfolding next
-two-open m l t =
-    let end : Stream = m .text Sealing (m .start begin .next) (zeros 2) (zeros 2) .outcome .next in
-    let alone = t .cutting .seals begin [] (zeros 2) (two ∷ []) sixteen refl (two-whole m l) row-one in
-    let passed = none-holds (finishFaults Sealing end 16 ++ tagFaults Sealing end sixteen) refl (ap isDone (sym (l .finish Sealing end sixteen) ∙ alone .answer)) in
-    both-true (isOpen (end .phase)) _ (not-false (fits Sealing end) (passed .1 .0)) .0
-
--- with the limit that it had
-forgets-limit : (m : Streams) → ForgetsLimit m → streams.Listed m → Third m → ⊥
-unfolding next
-forgets-limit m changes l t =
-    let s : Stream = m .start begin .next in
-    let taken = two-taken m l t in
-    let passed = none-holds (textFaults Sealing s 2 2) refl (ap isDone (sym (l .text Sealing s (zeros 2) (zeros 2)) ∙ taken)) in
-    let open-first = both-true (isOpen (s .phase)) _ (not-false (fits Sealing s) (passed .1 .0)) .0 in
-    let first-limit = t .limited begin (two-whole m l .started) [] tt .limit open-first in
-    let last-limit = t .limited begin (two-whole m l .started) (two ∷ []) (two-whole m l .bytes) .limit (two-open m l t) in
-    changes s (zeros 2) (zeros 2) taken (last-limit ∙ sym first-limit)
-
--- and they are counted
+-- and counted
 forgets : (m : Streams) → ForgetsText m → streams.Listed m → Third m → ⊥
 unfolding next
 forgets m none l t =
     let s : Stream = m .start begin .next in
-    let counted = t .limited begin (two-whole m l .started) (two ∷ []) (two-whole m l .bytes) .text (two-open m l t) in
+    let end : Stream = m .text Sealing s (zeros 2) (zeros 2) .outcome .next in
+    let alone = t .cutting .seals begin [] (zeros 2) (two ∷ []) sixteen refl (two-whole m l) row-one in
+    let passed = none-holds (finishFaults Sealing end 16 ++ tagFaults Sealing end sixteen) refl (ap isDone (sym (l .finish Sealing end sixteen) ∙ alone .answer)) in
+    let open-still = both-true (isOpen (end .phase)) _ (not-false (fits Sealing end) (passed .1 .0)) .0 in
+    let counted = t .limited begin (two-whole m l .started) (two ∷ []) (two-whole m l .bytes) .text open-still in
     let taken = ap (λ (a : Answer). length ([] ++ cond (isDone a) (zeros 2) [])) (two-taken m l t) in
     let zero-is-two : _≡_ {A = ℕ} 0 2 = sym (none s (zeros 2) (zeros 2) (two-taken m l t)) ∙ counted ∙ taken in
     omega (arith, zero-is-two)
@@ -415,15 +397,6 @@ stays-open m same l r =
     let off : _≡_ {A = ℕ} 0 1 = cc phase in
     omega arith
 
--- a byte passes a limit of nought
-ignores-limit : (m : Streams) (d : Direction) → IgnoresLimit m d → streams.Listed m → ⊥
-unfolding isSet rowOf table isSound isSoundOpen
-ignores-limit m d ignores l =
-    let s : Stream = record { words = zeros 5; set = 1; direction = d; phase = Text; key = zeros 16; ad = 0; text = 0; place = 0; limit = 0 } in
-    let passes : m .text d s (zeros 1) (zeros 1) .outcome .answer ≡ PastLimit = l .text d s (zeros 1) (zeros 1) ∙ rw (own-direction d) in
-    let off : _≡_ {A = ℕ} 0 5 = ap numberOf (sym (ignores s (zeros 1) (zeros 1) refl (own-direction d) (lit≤ tt) (lit≤ tt)) ∙ passes) in
-    omega (arith, off)
-
 -- an empty piece of it is done, and leaves the one byte lent
 writes-beyond : (m : Streams) (s : Stream) (piece out : List ℕ) (index : ℕ) → WritesBeyond m s piece out index → streams.Reported m → ⊥
 writes-beyond m s piece out index (done, behind, changed) r =
@@ -433,12 +406,23 @@ writes-beyond m s piece out index (done, behind, changed) r =
     let at : (l : List ℕ) → getD l index 0 ≡ getD (drop n l) (index - n) 0 = λ l. ap (λ (k : ℕ). getD l k 0) here ∙ sym (getD-drop n l (index - n) 0) in
     changed (at lent ∙ ap (λ (l : List ℕ). getD l (index - n) 0) (r .text Sealing s piece out done .4) ∙ sym (at out))
 
+-- a piece that is taken passed the test of the limit
+passes-limit : (m : Streams) (d : Direction) (s : Stream) (piece out : List ℕ) → PassesLimit m d s piece out → streams.Listed m → ⊥
+passes-limit m d s piece out (past, done) l =
+    let passed = none-holds (textFaults d s (length piece) (length out)) refl (ap isDone (sym (l .text d s piece out) ∙ done)) in
+    let n = s .text + length piece in
+    omega (arith, past, leb-true n (s .limit) (not-false (leb n (s .limit)) (passed .1 .1 .0)))
+
+-- a piece that is taken leaves the limit
+forgets-limit : (m : Streams) (d : Direction) (s : Stream) (piece out : List ℕ) → ForgetsLimit m d s piece out → streams.Reported m → ⊥
+forgets-limit m d s piece out (done, changed) r = changed (r .text d s piece out done .2)
+
 pub worthless : Worthless
 worthless =
     record {
       refuses = refuses;
       refuses-streams = refuses-streams;
-      ignores-limit = ignores-limit;
+      passes-limit = passes-limit;
       refuses-openings = refuses-openings;
       answers-same = answers-same;
       copies = copies;

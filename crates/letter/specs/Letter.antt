@@ -40,7 +40,7 @@ pub record Letter : Type 2 where
   pub third : (m : Model) → Keeps m → Third (m .streams)
   -- behind it: after any calls, also refused ones, the state, with its counts, is that of the start, the phase, and what was taken
   pub history : (m : Model) → Keeps m → HistoryLaw (m .streams)
-  -- the third demand as it stood before a start chose a limit is its case of the largest one, and so are the rules of streams
+  -- what the third demand said of cuttings before a start chose a limit is its case of the largest one, and so are the tests of a start, of an open state and of text
   pub third-before : (m : Streams) → CuttingDoesNotMatter m → CuttingBefore m
   pub streams-before : AsBefore
   -- what each call reports and leaves beyond the demands' words

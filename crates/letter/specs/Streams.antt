@@ -76,8 +76,8 @@ pub record Unchanged (m : Streams) : Type 0 where
 pub record Mismatch (m : Streams) : Type 0 where
   pub finish : (d : Direction) (s : Stream) (tag : List ℕ) → let outcome = m .finish d s tag .outcome in outcome .answer ≡ TagDiffers → outcome .next ≡ ended
 
--- done, or 9: the rules' rounds, call by call, and the bytes of a lent place beyond its result; what a piece gives, and the state after it, is in the third demand for
--- states that a start gave, and in `EveryCall` for all others
+-- done, or 9: the rules' rounds, call by call, the limit of the next state, and the bytes of a lent place beyond its result; what a piece gives, and the rest of the
+-- state after it, is in the third demand for states that a start gave, and in `EveryCall` for all others
 pub record Reported (m : Streams) : Type 0 where
   -- a start: twelve, the data phase, and the limit that it was given
   pub start : (start : Start) → let outcome = m .start start in

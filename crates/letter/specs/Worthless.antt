@@ -1,18 +1,16 @@
 -- Worthless versions, and what each of them breaks. A version is any model that does what is said of it, whatever else it does.
 use mathlib.Core.List.{List, [], _∷_}
-use mathlib.Core.Bool.{true}
 use mathlib.Core.Path.{_≡_}
-use Prim.Native.Nat.{ℕ, _+_, _≤_}
+use Prim.Native.Nat.{ℕ, _+_, _≤_, _<_}
 use lib.ListN.{length, getD, take}
 use Rattle.answers.specs.declared.Answer.the-variants.{Done}
 use Rattle.permutation.specs.Strings.{Bytes}
-use Rattle.ascon.specs.Sets.{rowOf, textLimit}
+use Rattle.ascon.specs.Sets.{rowOf}
 use Rattle.ascon.specs.Mode.{sealed}
 use Rattle.stream.specs.declared.Direction.{Direction}
 use Rattle.stream.specs.declared.Direction.the-variants.{Sealing, Checking}
 use Rattle.stream.specs.declared.Phase.the-variants.{Ended}
 use Rattle.stream.specs.declared.Stream.{Stream}
-use Rattle.stream.specs.State.{fits, isSound}
 use Rattle.stream.specs.Calls.{Start}
 use Rattle.history.specs.History.{Streams, Call, begun, after}
 use Rattle.history.specs.Cuts.{Message}
@@ -60,15 +58,13 @@ EmptyEnds m = (s : Stream) (out : List ℕ) → let outcome = m .text Sealing s 
 abbrev pub ForgetsText : Streams → Type 0
 ForgetsText m = (s : Stream) (piece out : List ℕ) → let outcome = m .text Sealing s piece out .outcome in outcome .answer ≡ Done → outcome .next .text ≡ 0
 
--- changes the limit of a stream that took text
-abbrev pub ForgetsLimit : Streams → Type 0
-ForgetsLimit m = (s : Stream) (piece out : List ℕ) → let outcome = m .text Sealing s piece out .outcome in outcome .answer ≡ Done → outcome .next .limit ≡ s .limit → ⊥
+-- takes one piece of text past a stream's limit, in some direction
+abbrev pub PassesLimit : Streams → Direction → Stream → List ℕ → List ℕ → Type 0
+PassesLimit m d s piece out = (s .limit < s .text + length piece) × (m .text d s piece out .outcome .answer ≡ Done)
 
--- has the largest limit for every stream of a direction, whatever limit its start chose
-abbrev pub IgnoresLimit : Streams → Direction → Type 0
-IgnoresLimit m d =
-    (s : Stream) (piece out : List ℕ) → isSound s ≡ true → fits d s ≡ true → s .text + length piece ≤ textLimit → length piece ≤ length out
-    → m .text d s piece out .outcome .answer ≡ Done
+-- changes a stream's limit at one piece of text, in some direction
+abbrev pub ForgetsLimit : Streams → Direction → Stream → List ℕ → List ℕ → Type 0
+ForgetsLimit m d s piece out = let outcome = m .text d s piece out .outcome in (outcome .answer ≡ Done) × (outcome .next .limit ≡ s .limit → ⊥)
 
 -- opens one ciphertext under every tag of the set's length
 abbrev pub OpensAnyTag : messages.Model → ℕ → List ℕ → List ℕ → List ℕ → List ℕ → List ℕ → Type 0
@@ -110,7 +106,7 @@ pub record Worthless : Type 0 where
   pub refuses : (m : messages.Model) → NeverSeals m → messages.Listed m → ⊥
   pub refuses-openings : (m : messages.Model) → NeverOpens m → messages.Listed m → ⊥
   pub refuses-streams : (m : Streams) → NeverStarts m → streams.Listed m → ⊥
-  pub ignores-limit : (m : Streams) (d : Direction) → IgnoresLimit m d → streams.Listed m → ⊥
+  pub passes-limit : (m : Streams) (d : Direction) (s : Stream) (piece out : List ℕ) → PassesLimit m d s piece out → streams.Listed m → ⊥
   -- the second demand, once it is done with a text that is not empty
   pub answers-same : (m : messages.Model) (same : ℕ → ℕ → ℕ → ℕ → ℕ → List ℕ → List ℕ → SealLeaves) → SealsBlindly m same
       → (set : ℕ) (K N A : List ℕ) (byte : ℕ) (rest out tag : List ℕ) → Bytes (byte ∷ rest) → length K ≡ rowOf set .key
@@ -128,7 +124,6 @@ pub record Worthless : Type 0 where
   pub copies-later : (m : Streams) → CopiesLater m → streams.Listed m → Third m → ⊥
   pub ends-early : (m : Streams) → EmptyEnds m → streams.Listed m → Third m → ⊥
   pub forgets : (m : Streams) → ForgetsText m → streams.Listed m → Third m → ⊥
-  pub forgets-limit : (m : Streams) → ForgetsLimit m → streams.Listed m → Third m → ⊥
   pub says-yes : (m : Streams) (start : Start) (A C : List ℕ) (calls : List Call) → length (start .key) ≡ rowOf (start .set) .key → start .direction ≡ Checking
       → Message m start A C calls → AgreesToAnyTag m start calls → Third m → ⊥
   pub makes-up-streams : (m : Streams) (start text finish : ℕ) → SameStreamRounds m start text finish → streams.Listed m → Third m → ⊥
@@ -137,4 +132,5 @@ pub record Worthless : Type 0 where
   pub reports-late : (m : Streams) → ReportsLate m → streams.Listed m → streams.Reported m → ⊥
   pub stays-open : (m : Streams) → StaysOpen m → streams.Listed m → streams.Reported m → ⊥
   -- what a call has to leave
+  pub forgets-limit : (m : Streams) (d : Direction) (s : Stream) (piece out : List ℕ) → ForgetsLimit m d s piece out → streams.Reported m → ⊥
   pub writes-beyond : (m : Streams) (s : Stream) (piece out : List ℕ) (index : ℕ) → WritesBeyond m s piece out index → streams.Reported m → ⊥

@@ -1,5 +1,6 @@
-// Streams under many limits: starts, walks up to a limit and past it, and states that no start gives. Of each call it writes the answer and the rounds, and of
-// the next state and the lent place all that they hold, mixed into one number. The file `stdout` holds the second program's answers.
+// Streams under many limits: starts, walks up to a limit and past it, and states that no start gives. Of each call of a start and a walk it writes the answer, the
+// rounds, and one number into which all of the next state and the lent place is mixed; of a state the answers of several calls, and one such number for all of
+// them, with their rounds. The file `stdout` holds the second program's answers.
 use libc::STDOUT_FILENO;
 use stream::Direction;
 use stream::Outcome;
@@ -199,9 +200,9 @@ fn placeless(outcome: Outcome) -> Called {
     Called { outcome, lent: 0 }
 }
 
-// A sealing of a piece, with room for 256 bytes.
+// A sealing of a piece, with room for 255 bytes.
 fn seal(stream: Stream, piece: &[u8]) -> Called {
-    let mut out = [0u8; 256];
+    let mut out = [90u8; 255];
     let outcome = stream.seal(piece, &mut out);
     Called {
         outcome,
@@ -235,8 +236,15 @@ fn as_sealing(s: Stream) -> Stream {
     }
 }
 
-// The finish of a direction, with a place for the tag: a checking is given the tag that its words would be sealed with.
-fn finish_with(direction: usize, stream: Stream, tag: &mut [u8]) -> Called {
+// Combines the first byte of a string with another.
+fn combine_first(s: &mut [u8], byte: u8) {
+    if 0 < s.len() {
+        s[0] = s[0] ^ byte;
+    }
+}
+
+// The finish of a direction, with a place for the tag: a checking is given the tag that its words would be sealed with, its first byte combined with `change`.
+fn finish_with(direction: usize, stream: Stream, tag: &mut [u8], change: u8) -> Called {
     let outcome = as_sealing(stream).finish_sealing(tag);
     if direction == 0 {
         return Called {
@@ -244,17 +252,18 @@ fn finish_with(direction: usize, stream: Stream, tag: &mut [u8]) -> Called {
             lent: mixed_bytes(tag),
         };
     }
+    combine_first(tag, change);
     placeless(stream.finish_checking(tag))
 }
 
 // The finish of a direction, with a tag of 12 bytes in set 2 and of 16 in any other.
-fn finish(direction: usize, stream: Stream) -> Called {
-    let mut long = [0u8; 16];
-    let mut short = [0u8; 12];
+fn finish(direction: usize, stream: Stream, change: u8) -> Called {
+    let mut long = [90u8; 16];
+    let mut short = [90u8; 12];
     if stream.set == 2 {
-        return finish_with(direction, stream, &mut short);
+        return finish_with(direction, stream, &mut short, change);
     }
-    finish_with(direction, stream, &mut long)
+    finish_with(direction, stream, &mut long, change)
 }
 
 // Writes the answer and the rounds of a call, and all else that it gave, mixed; gives the next state.
@@ -322,14 +331,16 @@ fn walked(
     told(text(direction, stream, piece))
 }
 
-// A walk under a limit l, from a stream at its start: three bytes of data, four pieces of text, the finish, and a second one.
+// A walk under a limit l, from a stream at its start: three bytes of data, four pieces of text, the finish with another tag, and with the right one, and a second
+// one behind it.
 fn walk_from(direction: usize, begun: Stream, walk: usize, l: usize, bytes: &[u8]) {
     let data = told(placeless(begun.ad(first_of(bytes, 3))));
     let one = walked(direction, data, walk, 0, l, bytes);
     let two = walked(direction, one, walk, 1, l, bytes);
     let three = walked(direction, two, walk, 2, l, bytes);
     let four = walked(direction, three, walk, 3, l, bytes);
-    told(finish(direction, told(finish(direction, four))));
+    told(finish(direction, four, 1));
+    told(finish(direction, told(finish(direction, four, 0)), 0));
 }
 
 // The k-th walk: by its number, its limit, which is one of the first five, its set and its direction.
@@ -380,7 +391,7 @@ fn try_calls(direction: usize, s: Stream, bytes: &[u8]) {
     let far = told_in(two, text(direction, s, first_of(bytes, 65537)));
     let behind = told_in(far, two_then_one(direction, s, bytes));
     let other = told_in(behind, text(1 - direction % 2, s, first_of(bytes, 1)));
-    say_word(b",", told_in(other, finish(direction, s)));
+    say_word(b",", told_in(other, finish(direction, s, 0)));
 }
 
 // The place in its block of the next byte behind a count, in set 1 or 2.

@@ -38,7 +38,7 @@ use Rattle.stream.specs.declared.Outcome.{Outcome}
 use Rattle.stream.specs.declared.Stream.{Stream}
 use Rattle.stream.specs.State.{isAd, ended}
 use Rattle.stream.specs.Calls.{refused, decided, called, limitedStartTest, pieceTest, textTest, finishTest, filledRounds, Start, startCall, tookAd, adCall, textWords, tookText, textCall, ownTag, finishedWith, finishCall}
-use Rattle.stream.proofs.Tests.{rounds-bound, closing-bound, piece-passed, text-passed, text-within}
+use Rattle.stream.proofs.Tests.{rounds-bound, closing-bound, piece-passed, text-passed, within-largest}
 use Rattle.replay.specs.Feeding.{Gives, silent, written, startOf, started, sealedPiece, finished, fed}
 use Rattle.replay.specs.Laws.{Asked, answerTo, entryOf}
 
@@ -159,7 +159,7 @@ text-fit s input key e short = go (isDone answer) refl
         let l = length-append sealed (drop (length input) room) in
         let d = length-drop (length input) room in
         let z = length-replicate {A = ℕ} (length input) 0 in
-        let within = text-within Sealing s (length input) (length room) (text-passed Sealing s (length input) (length room) passed) in
+        let within = within-largest Sealing s (length input) (length room) (text-passed Sealing s (length input) (length room) passed) in
         let few = rounds-bound row (row-sizes (s .set)) (s .text) (length input) within in
         record {
           most = omega arith;

@@ -1,3 +1,3 @@
--- Laws of the table's rows, and of the tests of a start.
+-- Laws of the table's rows, and of the first tests of a start.
 pub mod Rows
 pub mod Start

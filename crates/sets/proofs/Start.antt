@@ -1,4 +1,4 @@
--- What passed tests of a start say.
+-- What the first tests of a start say where they are passed.
 use mathlib.Core.Path.{_≡_, refl}
 use mathlib.Core.Bool.{true}
 use Prim.Native.Nat.{ℕ}

@@ -1,3 +1,3 @@
--- A row as the code holds it, and the tests of a start.
+-- A row as the code holds it, and the first tests of a start.
 pub mod Rows
 pub mod Start

@@ -1,4 +1,4 @@
-// The parameter sets: the one table of their numbers, the limits of data and text, the rounds of a message, and the tests of a start.
+// The parameter sets: the one table of their numbers, the limits of data and text, the rounds of a message, and the first tests of a start.
 ghost use mathlib.Core.Path.{_≡_};
 ghost use Prim.Native.Nat.{_≤_, _<_};
 ghost use lib.ListN.{length, getD};

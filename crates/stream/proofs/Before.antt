@@ -1,4 +1,4 @@
--- With the largest limit, the rules of streams are those of before.
+-- With the largest limit, the tests of streams are those of before.
 use mathlib.Core.Path.{_≡_, refl, sym, _∙_}
 use mathlib.Core.Bool.{Bool, true, false, cond}
 use Rattle.answers.specs.declared.Answer.{Answer}
@@ -10,7 +10,7 @@ use Rattle.stream.specs.State.{isSoundOpen}
 use Rattle.stream.specs.Before.{AsBefore}
 use Rattle.stream.proofs.Tests.{limited-start-test-is}
 
--- an answer that is done where the test is passed is the test's
+-- `Done` in the place of a done answer changes nothing
 done-or : (answer : Answer) → cond (isDone answer) Done answer ≡ answer
 done-or answer = go (isDone answer) refl
   where
@@ -24,5 +24,5 @@ as-before =
     record {
       start = λ set key nonce. limited-start-test-is set key nonce _ ∙ done-or (startTest set key nonce);
       sound = λ s count e. rw e;
-      text = λ d s n room e. rw e;
+      text = λ d s n room o e. rw e;
     }

@@ -15,6 +15,7 @@ pub both-true : (a b : Bool) → (a && b) ≡ true → (a ≡ true) × (b ≡ tr
 both-true true b e = (refl, e)
 both-true false b e = absurd (false≢true e)
 
+-- known set, zeros behind the key, both counts within their limits, and the text's limit within the largest
 pub record Kept (s : Stream) : Type 0 where
   pub known : isSet (s .set) ≡ true
   pub key : allZero (drop (rowOf (s .set) .key) (s .key)) ≡ true

@@ -77,10 +77,12 @@ pub limited-start-test-is : (set key nonce limit : ℕ) → let answer = startTe
 unfolding startTest limitedStartTest
 limited-start-test-is set key nonce limit = first-append (startFaults set key nonce) (PastLimit when not (leb limit textLimit) ∷ []) refl
 
+-- what passed tests of a start say
 pub record LimitedStartPassed (set key nonce limit : ℕ) : Type 0 where
   pub start : StartPassed set key nonce
   pub within : limit ≤ textLimit
 
+-- they say it
 pub limited-start-passed : (set key nonce limit : ℕ) → isDone (limitedStartTest set key nonce limit) ≡ true → LimitedStartPassed set key nonce limit
 limited-start-passed set key nonce limit e =
     go (isDone (startTest set key nonce)) refl (leb limit textLimit) refl (ap isDone (sym (limited-start-test-is set key nonce limit)) ∙ e)
@@ -130,8 +132,8 @@ text-passed d s n room e =
     }
 
 -- so the text stays within the largest limit
-pub text-within : (d : Direction) (s : Stream) (n room : ℕ) → TextPassed d s n room → s .text + n ≤ textLimit
-text-within d s n room passed =
+pub within-largest : (d : Direction) (s : Stream) (n room : ℕ) → TextPassed d s n room → s .text + n ≤ textLimit
+within-largest d s n room passed =
     let o = both-true (isOpen (s .phase)) (isDirection d (s .direction)) (passed .piece .in-phase) .0 in
     omega (arith, passed .piece .within, leb-true (s .limit) textLimit (sound-kept s o (passed .piece .sound) .limit))
 

@@ -42,6 +42,9 @@ const DATA: [u64; 10] = [0, 1, 7, 8, 200, 65_534, 65_535, 65_536, 65_537, u64::M
 /// The byte that data and text are made of.
 const BYTE: u8 = 165;
 
+/// The byte that lent places hold before a call.
+const LENT: u8 = 90;
+
 /// The directions, sets, with the lengths of key and nonce in each, and phases, in the program's order.
 const DIRECTIONS: [(usize, Direction); 2] = [(0, Sealing), (1, Checking)];
 const SETS: [(u64, usize); 2] = [(1, 16), (2, 12)];
@@ -90,21 +93,21 @@ fn placeless(given: Given) -> Called {
     (given, Vec::new())
 }
 
-/// The text call of a direction, of so many bytes; a sealing has room for 256.
+/// The text call of a direction, of so many bytes; a sealing has room for 255.
 fn text(direction: Direction, stream: Stream, length: usize) -> Called {
     let piece = vec![BYTE; length];
     match direction {
         Sealing => {
-            let mut out = vec![0; 256];
+            let mut out = vec![LENT; 255];
             (seal(stream, &piece, &mut out), out)
         }
         Checking => placeless(check(stream, &piece)),
     }
 }
 
-/// The finish of a direction; a checking is given the tag that its words would be sealed with.
-fn finish(direction: Direction, stream: Stream) -> Called {
-    let mut tag = vec![0; if stream.set == 2 { 12 } else { 16 }];
+/// The finish of a direction; a checking is given the tag that its words would be sealed with, its first byte combined with `change`.
+fn finish(direction: Direction, stream: Stream, change: u8) -> Called {
+    let mut tag = vec![LENT; if stream.set == 2 { 12 } else { 16 }];
     let sealing = Stream {
         direction: Sealing,
         ..stream
@@ -112,7 +115,10 @@ fn finish(direction: Direction, stream: Stream) -> Called {
     let given = finish_sealing(sealing, &mut tag);
     match direction {
         Sealing => (given, tag),
-        Checking => placeless(finish_checking(stream, &tag)),
+        Checking => {
+            tag[0] ^= change;
+            placeless(finish_checking(stream, &tag))
+        }
     }
 }
 
@@ -155,7 +161,7 @@ fn lengths(walk: usize, limit: usize) -> [usize; 4] {
     }
 }
 
-/// A walk from a start on: three bytes of data, four pieces of text, the finish, and a second one, each told.
+/// A walk from a start on: three bytes of data, four pieces of text, the finish with another tag, and with the right one, and a second one behind it, each told.
 fn walked(direction: Direction, (set, length): (u64, usize), limit: u64, walk: usize) -> String {
     let (key, nonce) = (counting(0, length), counting(16, length));
     let mut call = placeless(start(direction, set, limit, &key, &nonce));
@@ -168,8 +174,10 @@ fn walked(direction: Direction, (set, length): (u64, usize), limit: u64, walk: u
     for length in lengths(walk, limit as usize) {
         go_on(&|stream| text(direction, stream, length));
     }
-    go_on(&|stream| finish(direction, stream));
-    go_on(&|stream| finish(direction, stream));
+    let four = call.0 .2;
+    for (stream, change) in [(four, 1), (four, 0), (finish(direction, four, 0).0 .2, 0)] {
+        line += &told(&finish(direction, stream, change));
+    }
     line
 }
 
@@ -206,7 +214,7 @@ fn tried(direction: Direction, stream: Stream) -> String {
         text(direction, stream, 65_537),
         text(direction, text(direction, stream, 2).0 .2, 1),
         text(other, stream, 1),
-        finish(direction, stream),
+        finish(direction, stream, 0),
     ];
     let answers: String = calls.iter().map(|call| call.0 .0.to_string()).collect();
     format!(" {answers},{:016x}", mixed(0, calls.iter().map(mixed_call)))

@@ -1,4 +1,5 @@
 -- Wrong answers of the calls of streams.
+use mathlib.Core.Bool.{true}
 use mathlib.Core.List.{List, [], _∷_, _++_}
 use mathlib.Core.Path.{_≡_}
 use Prim.Native.Nat.{ℕ, _%_, _≤_, _<_}
@@ -12,7 +13,7 @@ use Rattle.stream.specs.declared.Direction.{Direction}
 use Rattle.stream.specs.declared.Direction.the-variants.{Sealing, Checking}
 use Rattle.stream.specs.declared.Phase.{Phase}
 use Rattle.stream.specs.declared.Phase.the-variants.{Ad, Text, Ended}
-use Rattle.stream.specs.State.{ended}
+use Rattle.stream.specs.State.{isOpen, ended}
 use Rattle.stream.proofs as stream
 use Rattle.letter.specs.Calls.{Lent, lent, Never, NeverLeaves}
 
@@ -50,9 +51,9 @@ pub record Wrong : Type 0 where
   -- answer 3 comes before answer 5
   pub start-nonce : (d : Direction) (rounds : ℕ) (next : Stream)
       → Never stream.Stream.start.Reads.Learnt (startArgs d 1_048_577 16 15) (answering PastLimit rounds next)
-  -- a refused start does not give an open stream, nor one that has a limit
-  pub start-refused-open : (answer : Answer) (rounds : ℕ) (next : Stream) → next .phase ≡ Ad
-      → Never stream.Stream.start.Reads.Learnt (Sealing, (3, (200, (lent [], (lent [], tt))))) (answering answer rounds next)
+  -- a refused start gives the ended state, and no open stream, nor one that has a limit
+  pub start-refused : (d : Direction) (answer : Answer) (rounds : ℕ) (next : Stream) → (next ≡ ended → ⊥)
+      → Never stream.Stream.start.Reads.Learnt (d, (3, (200, (lent [], (lent [], tt))))) (answering answer rounds next)
   pub start-refused-limit : (d : Direction) (answer : Answer) (rounds : ℕ) (next : Stream) → (next ≡ ended → ⊥)
       → Never stream.Stream.start.Reads.Learnt (startArgs d 1_048_577 16 16) (answering answer rounds next)
   -- a limit over the largest is not cut down to it, or to its low bits, or taken as none: it is refused with 5, whatever number it is
@@ -63,32 +64,32 @@ pub record Wrong : Type 0 where
       → Never stream.Stream.start.Reads.Learnt (startArgs d 1_048_576 16 16) (answering answer rounds next)
   pub start-nought : (d : Direction) (answer : Answer) (rounds : ℕ) (next : Stream) → (answer ≡ Done → ⊥)
       → Never stream.Stream.start.Reads.Learnt (startArgs d 0 16 16) (answering answer rounds next)
-  -- a start keeps its limit
-  pub start-limit-kept : (d : Direction) (answer : Answer) (rounds : ℕ) (next : Stream) → (next .limit ≡ 200 → ⊥)
-      → Never stream.Stream.start.Reads.Learnt (startArgs d 200 16 16) (answering answer rounds next)
+  -- a start keeps its limit, whatever number it is
+  pub start-limit-kept : (d : Direction) (limit : ℕ) → limit ≤ 1_048_576 → (answer : Answer) (rounds : ℕ) (next : Stream) → (next .limit ≡ limit → ⊥)
+      → Never stream.Stream.start.Reads.Learnt (startArgs d limit 16 16) (answering answer rounds next)
   -- ---- a piece of data
 
   -- a state of set 2 with a byte behind its key is broken
-  pub ad-key-tail : (rounds : ℕ) (next : Stream)
+  pub ad-key-tail : (answer : Answer) (rounds : ℕ) (next : Stream) → (answer ≡ BrokenState → ⊥)
       → Never stream.Stream.ad.Reads.Learnt
       (record { words = zeros 5; set = 2; direction = Sealing; phase = Ad; key = zeros 12 ++ (1 ∷ zeros 3); ad = 0; text = 0; place = 0; limit = 200 }, (lent [], tt))
-      (answering Done rounds next)
+      (answering answer rounds next)
   -- a state in the phase ended that has a place is broken: 8 and not 7; and so is one that has a limit
   pub ad-broken-ended : (answer : Answer) (rounds : ℕ) (next : Stream) → (answer ≡ BrokenState → ⊥)
       → Never stream.Stream.ad.Reads.Learnt (handed (streamOf (zeros 5) Sealing Ended 0 0 1 0) 0) (answering answer rounds next)
   pub ad-ended-limit : (answer : Answer) (rounds : ℕ) (next : Stream) → (answer ≡ BrokenState → ⊥)
       → Never stream.Stream.ad.Reads.Learnt (handed (streamOf (zeros 5) Sealing Ended 0 0 0 200) 0) (answering answer rounds next)
   -- a limit over the largest breaks a rule before the text, too
-  pub ad-limit-wide : (answer : Answer) (rounds : ℕ) (next : Stream) → (answer ≡ BrokenState → ⊥)
-      → Never stream.Stream.ad.Reads.Learnt (handed (streamOf (zeros 5) Sealing Ad 0 0 0 1_048_577) 0) (answering answer rounds next)
+  pub ad-limit-wide : (limit : ℕ) → 1_048_576 < limit → (answer : Answer) (rounds : ℕ) (next : Stream) → (answer ≡ BrokenState → ⊥)
+      → Never stream.Stream.ad.Reads.Learnt (handed (streamOf (zeros 5) Sealing Ad 0 0 0 limit) 0) (answering answer rounds next)
   -- data is held to its own limit, and not to that of the text: a limit of nought takes 65,536 bytes of it, and the largest no more
   pub ad-unheld : (answer : Answer) (rounds : ℕ) (next : Stream) → (answer ≡ Done → ⊥)
       → Never stream.Stream.ad.Reads.Learnt (handed (streamOf (zeros 5) Sealing Ad 65_535 0 7 0) 1) (answering answer rounds next)
   pub ad-past : (answer : Answer) (rounds : ℕ) (next : Stream) → (answer ≡ PastLimit → ⊥)
       → Never stream.Stream.ad.Reads.Learnt (handed (streamOf (zeros 5) Sealing Ad 65_536 0 0 1_048_576) 1) (answering answer rounds next)
   -- a piece of data does not change the limit
-  pub ad-limit-kept : (answer : Answer) (rounds : ℕ) (next : Stream) → (next .limit ≡ 200 → ⊥)
-      → Never stream.Stream.ad.Reads.Learnt (handed (streamOf (zeros 5) Checking Ad 0 0 0 200) 1) (answering answer rounds next)
+  pub ad-limit-kept : (answer : Answer) (rounds : ℕ) (next : Stream) → (next .limit ≡ 77 → ⊥)
+      → Never stream.Stream.ad.Reads.Learnt (handed (streamOf (zeros 5) Checking Ad 0 0 0 77) 1) (answering answer rounds next)
   -- ---- a piece of text
 
   -- a call that is refused, for want of room or past the limit, does not close the data
@@ -96,6 +97,8 @@ pub record Wrong : Type 0 where
       → Never stream.Stream.seal.Reads.Learnt (streamOf (zeros 5) Sealing Ad 0 0 0 200, (lent (0 ∷ []), (lent [], tt))) (answering answer rounds next)
   pub seal-piece-past-closes : (answer : Answer) (rounds : ℕ) (next : Stream) → next .phase ≡ Text
       → Never stream.Stream.seal.Reads.Learnt (roomy (streamOf (zeros 5) Sealing Ad 0 0 0 0) 1) (answering answer rounds next)
+  pub check-past-closes : (answer : Answer) (rounds : ℕ) (next : Stream) → next .phase ≡ Text
+      → Never stream.Stream.check.Reads.Learnt (handed (streamOf (zeros 5) Checking Ad 0 0 0 0) 1) (answering answer rounds next)
   -- answer 5 comes before answer 6
   pub seal-piece-room : (rounds : ℕ) (next : Stream)
       → Never stream.Stream.seal.Reads.Learnt (insideText Sealing 200 200, (lent (0 ∷ []), (lent [], tt))) (answering NoRoom rounds next)
@@ -120,44 +123,51 @@ pub record Wrong : Type 0 where
   pub check-wraps : (piece : List ℕ) → 200 ≤ length piece → (answer : Answer) (rounds : ℕ) (next : Stream) → (answer ≡ PastLimit → ⊥)
       → Never stream.Stream.check.Reads.Learnt (insideText Checking 1 200, (lent piece, tt)) (answering answer rounds next)
   -- a refused piece does not change the limit, nor does the first piece of text
-  pub seal-piece-resets : (answer : Answer) (rounds : ℕ) (next : Stream) → (next .limit ≡ 200 → ⊥)
-      → Never stream.Stream.seal.Reads.Learnt (roomy (insideText Sealing 199 200) 2) (answering answer rounds next)
-  pub check-resets : (answer : Answer) (rounds : ℕ) (next : Stream) → (next .limit ≡ 200 → ⊥)
-      → Never stream.Stream.check.Reads.Learnt (handed (insideText Checking 199 200) 2) (answering answer rounds next)
-  pub seal-piece-first : (answer : Answer) (rounds : ℕ) (next : Stream) → (next .limit ≡ 200 → ⊥)
-      → Never stream.Stream.seal.Reads.Learnt (roomy (streamOf (zeros 5) Sealing Ad 0 0 0 200) 1) (answering answer rounds next)
-  pub check-first : (answer : Answer) (rounds : ℕ) (next : Stream) → (next .limit ≡ 200 → ⊥)
-      → Never stream.Stream.check.Reads.Learnt (handed (streamOf (zeros 5) Checking Ad 0 0 0 200) 0) (answering answer rounds next)
-  -- a count of text past the stream's limit breaks a rule, and so does a limit over the largest: 8 and nothing else
+  pub seal-piece-resets : (answer : Answer) (rounds : ℕ) (next : Stream) → (next .limit ≡ 77 → ⊥)
+      → Never stream.Stream.seal.Reads.Learnt (roomy (insideText Sealing 76 77) 2) (answering answer rounds next)
+  pub check-resets : (answer : Answer) (rounds : ℕ) (next : Stream) → (next .limit ≡ 77 → ⊥)
+      → Never stream.Stream.check.Reads.Learnt (handed (insideText Checking 76 77) 2) (answering answer rounds next)
+  pub seal-piece-first : (answer : Answer) (rounds : ℕ) (next : Stream) → (next .limit ≡ 77 → ⊥)
+      → Never stream.Stream.seal.Reads.Learnt (roomy (streamOf (zeros 5) Sealing Ad 0 0 0 77) 1) (answering answer rounds next)
+  pub check-first : (answer : Answer) (rounds : ℕ) (next : Stream) → (next .limit ≡ 77 → ⊥)
+      → Never stream.Stream.check.Reads.Learnt (handed (streamOf (zeros 5) Checking Ad 0 0 0 77) 1) (answering answer rounds next)
+  -- a count of text past the stream's limit breaks a rule, and so does any limit over the largest: 8 and nothing else
+  pub seal-piece-past : (answer : Answer) (rounds : ℕ) (next : Stream) → (answer ≡ BrokenState → ⊥)
+      → Never stream.Stream.seal.Reads.Learnt (roomy (insideText Sealing 201 200) 0) (answering answer rounds next)
   pub check-past : (answer : Answer) (rounds : ℕ) (next : Stream) → (answer ≡ BrokenState → ⊥)
       → Never stream.Stream.check.Reads.Learnt (handed (insideText Checking 201 200) 0) (answering answer rounds next)
-  pub seal-piece-wide : (answer : Answer) (rounds : ℕ) (next : Stream) → (answer ≡ BrokenState → ⊥)
-      → Never stream.Stream.seal.Reads.Learnt (roomy (insideText Sealing 0 1_048_577) 0) (answering answer rounds next)
+  pub seal-piece-wide : (limit : ℕ) → 1_048_576 < limit → (answer : Answer) (rounds : ℕ) (next : Stream) → (answer ≡ BrokenState → ⊥)
+      → Never stream.Stream.seal.Reads.Learnt (roomy (insideText Sealing 0 limit) 0) (answering answer rounds next)
+  pub check-wide : (limit : ℕ) → 1_048_576 < limit → (answer : Answer) (rounds : ℕ) (next : Stream) → (answer ≡ BrokenState → ⊥)
+      → Never stream.Stream.check.Reads.Learnt (handed (insideText Checking 0 limit) 0) (answering answer rounds next)
   -- a checking stream keeps the ciphertext, and not the plaintext
   pub check-plaintext : (answer : Answer) (rounds : ℕ) (next : Stream) → getD (next .words) 0 0 ≡ 0x0100000000000000
       → Never stream.Stream.check.Reads.Learnt (handed (streamOf (0x0100000000000000 ∷ zeros 4) Checking Text 0 0 0 200) 1) (answering answer rounds next)
   -- an empty piece that closes a byte of data reports the rounds of closing
-  pub check-closing : (answer : Answer) (next : Stream) → Never stream.Stream.check.Reads.Learnt (handed (streamOf (zeros 5) Checking Ad 1 0 1 200) 0) (answering answer 0 next)
-  -- a refused piece of text does not touch the place
+  pub check-closing : (answer : Answer) (rounds : ℕ) (next : Stream) → (rounds ≡ 6 → ⊥)
+      → Never stream.Stream.check.Reads.Learnt (handed (streamOf (zeros 5) Checking Ad 1 0 1 200) 0) (answering answer rounds next)
+  -- a refused piece of text does not touch what it is lent
   pub seal-piece-refused : NeverLeaves stream.Stream.seal.Reads.Learnt (ended, (lent [], (lent (0 ∷ []), tt))) (answering OutOfPhase 0 ended) (ended, (lent [], (lent (1 ∷ []), tt)))
   -- ---- the end
 
   -- the ended state is not open, nor of set 2, nor has it a limit
-  pub ended-open : (next : Stream) → next .phase ≡ Ad → Never stream.Stream.ended.Reads.Learnt tt next
+  pub ended-open : (next : Stream) → isOpen (next .phase) ≡ true → Never stream.Stream.ended.Reads.Learnt tt next
   pub ended-set : (next : Stream) → next .set ≡ 2 → Never stream.Stream.ended.Reads.Learnt tt next
   pub ended-limit : (next : Stream) → (next .limit ≡ 0 → ⊥) → Never stream.Stream.ended.Reads.Learnt tt next
-  -- no finish leaves the limit, also where the tag differs
+  -- no finish leaves the limit, whether the tag is right or differs
   pub finish-sealing-limit : (answer : Answer) (rounds : ℕ) (next : Stream) → (next .limit ≡ 0 → ⊥)
       → Never stream.Stream.finish_sealing.Reads.Learnt (handed (insideText Sealing 0 200) 16) (answering answer rounds next)
-  pub finish-checking-limit : (answer : Answer) (rounds : ℕ) (next : Stream) → (next .limit ≡ 0 → ⊥)
-      → Never stream.Stream.finish_checking.Reads.Learnt (handed (insideText Checking 0 200) 16) (answering answer rounds next)
-  -- a finish, which tests no length of text, tests the state all the same: a count past the limit, and a limit over the largest
+  pub finish-checking-limit : (tag : List ℕ) → length tag ≡ 16 → (answer : Answer) (rounds : ℕ) (next : Stream) → (next .limit ≡ 0 → ⊥)
+      → Never stream.Stream.finish_checking.Reads.Learnt (insideText Checking 0 200, (lent tag, tt)) (answering answer rounds next)
+  -- a finish, which tests no length of text, tests the state all the same: a count past the limit, and any limit over the largest
   pub finish-sealing-past : (answer : Answer) (rounds : ℕ) (next : Stream) → (answer ≡ BrokenState → ⊥)
       → Never stream.Stream.finish_sealing.Reads.Learnt (handed (insideText Sealing 201 200) 16) (answering answer rounds next)
   pub finish-checking-past : (answer : Answer) (rounds : ℕ) (next : Stream) → (answer ≡ BrokenState → ⊥)
       → Never stream.Stream.finish_checking.Reads.Learnt (handed (insideText Checking 201 200) 16) (answering answer rounds next)
-  pub finish-sealing-wide : (answer : Answer) (rounds : ℕ) (next : Stream) → (answer ≡ BrokenState → ⊥)
-      → Never stream.Stream.finish_sealing.Reads.Learnt (handed (insideText Sealing 0 1_048_577) 16) (answering answer rounds next)
+  pub finish-sealing-wide : (limit : ℕ) → 1_048_576 < limit → (answer : Answer) (rounds : ℕ) (next : Stream) → (answer ≡ BrokenState → ⊥)
+      → Never stream.Stream.finish_sealing.Reads.Learnt (handed (insideText Sealing 0 limit) 16) (answering answer rounds next)
+  pub finish-checking-wide : (limit : ℕ) → 1_048_576 < limit → (answer : Answer) (rounds : ℕ) (next : Stream) → (answer ≡ BrokenState → ⊥)
+      → Never stream.Stream.finish_checking.Reads.Learnt (handed (insideText Checking 0 limit) 16) (answering answer rounds next)
   -- answer 7 comes before answer 4
   pub finish-sealing-ended : (rounds : ℕ) (next : Stream) → Never stream.Stream.finish_sealing.Reads.Learnt (handed ended 0) (answering TagLength rounds next)
   -- the ended state is not broken: 7 and not 8

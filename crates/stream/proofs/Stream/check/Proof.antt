@@ -12,7 +12,7 @@ use Rattle.sponge.specs.declared.Way.the-variants.{Open}
 use Rattle.sponge.specs.Sponge.{absorbed}
 use Rattle.stream.specs.declared.Direction.the-variants.{Checking}
 use Rattle.stream.specs.Calls.{tookText, textCall}
-use Rattle.stream.proofs.Tests.{TextPassed, text-passed, text-within}
+use Rattle.stream.proofs.Tests.{TextPassed, text-passed, within-largest}
 use Rattle.stream.proofs.Stream.check.Statement.{statement}
 use Rattle.stream.proofs.Stream.check.Tie as tie
 
@@ -46,7 +46,7 @@ absorb-requires : tie.Need-absorb-requires
 absorb-requires c κs = search needs
 
 took-text-requires : tie.Need-took-text-requires
-took-text-requires c κs = text-within _ _ _ _ (passed (c .before .before))
+took-text-requires c κs = within-largest _ _ _ _ (passed (c .before .before))
 
 returns-2 : tie.Need-returns-2
 unfolding textCall

@@ -15,7 +15,7 @@ use Rattle.sponge.specs.Sponge.{absorbed, given, Crypted, crypted, cryptedOf}
 use Rattle.stream.specs.declared.Direction.the-variants.{Sealing}
 use Rattle.stream.specs.declared.Outcome.{Outcome}
 use Rattle.stream.specs.Calls.{textWords, tookText, called, textCall}
-use Rattle.stream.proofs.Tests.{TextPassed, text-passed, text-within}
+use Rattle.stream.proofs.Tests.{TextPassed, text-passed, within-largest}
 use Rattle.stream.proofs.Stream.seal.Statement.{statement}
 use Rattle.stream.proofs.Stream.seal.Tie as tie
 
@@ -50,7 +50,7 @@ crypt-requires : tie.Need-crypt-requires
 crypt-requires c κs = search needs
 
 took-text-requires : tie.Need-took-text-requires
-took-text-requires c κs = text-within _ _ _ _ (passed (c .before .before .before .before .before))
+took-text-requires c κs = within-largest _ _ _ _ (passed (c .before .before .before .before .before))
 
 same-length : tie.Need-same-length
 same-length c = search needs
