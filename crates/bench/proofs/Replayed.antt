@@ -1,6 +1,6 @@
 -- The replay of a log, answer by answer: what the buffer shows of it, and that a verdict which is told is that of the whole log.
 use mathlib.Core.Path.{_≡_, refl, sym, ap, _∙_, subst}
-use mathlib.Core.Bool.{Bool, true, false, cond, _&&_, _||_, true≢false, false≢true}
+use mathlib.Core.Bool.{Bool, true, false, cond, _&&_, _||_, true≢false, false≢true, and-eq-true-iff}
 use mathlib.Core.List.{List, [], _∷_, _++_, append-nil, append-assoc}
 use mathlib.Core.Logic.{_⊎_, inl, inr}
 use Prim.Native.Nat.{ℕ, _+_, _-_, _≤_, _<_}
@@ -27,11 +27,6 @@ use Rattle.bench.specs.declared.replays.Replaying.{Replaying}
 use Rattle.bench.specs.Replays.{Going, going, begun, isNone, goesOn, counted, heardBy, further, replayedOn, bytesIn, isEnd, delivered, endTold, LogOf, reportWords, endLine, ReplaysInput, isRunning, withFault, stretched, soFar, HeardBytes}
 use Rattle.bench.proofs.Views.{drop-take}
 
--- both halves of a conjunction that holds
-both : (a b : Bool) → (a && b) ≡ true → (a ≡ true) × (b ≡ true)
-both true b e = (refl, e)
-both false b e = absurd (false≢true e)
-
 -- nothing keeps a replay that goes on from its verdict
 pub no-fault : (f : Fault) (v : Verdict) → (isNone f && isOpen v) ≡ true → f ≡ fault.None
 no-fault fault.None v e = refl
@@ -55,7 +50,7 @@ module _ (r : Replaying) (before : List ℕ) (count : ℕ) (inside : r .left + c
 
   -- no other verdict was told
   still-open : r .verdict ≡ Open
-  still-open = go (r .verdict) (both (isNone (r .fault)) (isOpen (r .verdict)) running .1)
+  still-open = go (r .verdict) (and-eq-true-iff (isNone (r .fault)) (isOpen (r .verdict)) .0 running .1)
     where
       go : (v : Verdict) → isOpen v ≡ true → v ≡ Open
       go Agrees e = absurd (false≢true e)
@@ -311,7 +306,7 @@ end-over (reply ∷ replies) g e = by-goes (goesOn g) refl (end-over replies)
 
         by-end : (t : Bool) → isEnd reply ≡ t → goesOn (replayedOn g (reply ∷ replies)) ≡ false
         by-end true is =
-            let over : goesOn (further g reply) ≡ false = ap goesOn same ∙ end-heard (g .so-far) reply (both (isNone (g .fault)) (isOpen (g .so-far .verdict)) on .1) is in
+            let over : goesOn (further g reply) ≡ false = ap goesOn same ∙ end-heard (g .so-far) reply (and-eq-true-iff (isNone (g .fault)) (isOpen (g .so-far .verdict)) .0 on .1) is in
             ap goesOn (stays (further g reply) replies over) ∙ over
         by-end false is =
             let later : Bool = endTold (further g reply) replies in

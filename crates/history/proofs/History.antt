@@ -1,7 +1,7 @@
 -- The history law: while a stream is not ended, its state is a function of the start, the phase, the joined data and the joined text; the joined output is the
 -- published ciphertext; the rounds add up.
 use mathlib.Core.Path.{_≡_, refl, sym, ap, ap₂, _∙_, subst}
-use mathlib.Core.Bool.{Bool, true, false, cond, false≢true}
+use mathlib.Core.Bool.{Bool, true, false, cond, false≢true, and-eq-true-iff}
 use mathlib.Core.List.{List, [], _∷_, _++_, append-nil}
 use Prim.Native.Nat.{ℕ, _+_, _-_, _*_, _/_, _%_, _≤_}
 use native.Mathlib.Nat.{add-zero, mod-eq-of-lt, zero-div, mul-zero}
@@ -26,7 +26,6 @@ use Rattle.stream.specs.declared.Phase.the-variants.{Ad, Text, Ended}
 use Rattle.stream.specs.declared.Stream.{Stream}
 use Rattle.stream.specs.State.{isDirection, wayOf, givesText, isAd, isOpen, ended}
 use Rattle.stream.specs.Calls.{filledRounds, closingRounds, limitedStartTest, pieceTest, Start, startCall, tookAd, textWords, tookText}
-use Rattle.stream.proofs.Sound.{both-true}
 use Rattle.stream.proofs.Tests.{one-direction, LimitedStartPassed, limited-start-passed, piece-passed, text-passed, finish-passed}
 use Rattle.history.specs.History.{ours, Call, giveAd, giveText, finish, reply, adOf, textOf, outOf, History, begun, next, after, BytesIn, Started, stateAt, roundsAt, Told, HistoryLaw, Limited}
 use Rattle.sponge.proofs.Fronts.{stood, absorbed-more, given-more, l₀, b₀, closed-is, l₁, b₁, sealed-out}
@@ -348,7 +347,7 @@ module _ (start : Start) (begins : Started ours start) where
   takes-passed h d piece out pb r e =
       let s : Stream = h .stream in
       let ok = text-passed d s (length piece) (length out) e .piece in
-      let fit-both = both-true (isOpen (s .phase)) (isDirection d (s .direction)) (ok .in-phase) in
+      let fit-both = and-eq-true-iff (isOpen (s .phase)) (isDirection d (s .direction)) .0 (ok .in-phase) in
       let o = ready h r (fit-both .0) in
       let same-d : d ≡ direction = one-direction d (s .direction) (fit-both .1) ∙ o .direction-is in
       takes-text h (giveText d piece out) piece o pb (ok .within) refl refl
@@ -363,7 +362,7 @@ module _ (start : Start) (begins : Started ours start) where
   ends : (h : History) (d : Direction) (tag : List ℕ) → Reached h → isDone (testOf (h .stream) (finish d tag)) ≡ true → Reached (next ours h (finish d tag))
   ends h d tag r e =
       let s : Stream = h .stream in
-      let o = ready h r (both-true (isOpen (s .phase)) (isDirection d (s .direction)) (finish-passed d s (length tag) e .in-phase) .0) in
+      let o = ready h r (and-eq-true-iff (isOpen (s .phase)) (isDirection d (s .direction)) .0 (finish-passed d s (length tag) e .in-phase) .0) in
       let done : Bool = isDone (doneOf s (finish d tag) .answer) in
       let to = next-is h (finish d tag) _ done (reply-done s (finish d tag) e) refl in
       let same-ad : next ours h (finish d tag) .ad ≡ h .ad = ap (λ (g : History). g .ad) to ∙ nothing (h .ad) done in

@@ -1,6 +1,6 @@
 -- Worthless versions are refuted, each by the demand that it breaks.
 use mathlib.Core.Path.{_≡_, refl, sym, ap, _∙_}
-use mathlib.Core.Bool.{Bool, true, false, cond, not, _&&_, true≢false}
+use mathlib.Core.Bool.{Bool, true, false, cond, not, _&&_, true≢false, and-eq-true-iff}
 use mathlib.Core.Logic.{inl}
 use mathlib.Core.List.{List, [], _∷_, _++_}
 use Prim.Native.Nat.{ℕ, zero, suc, _+_, _-_, _^_, _≤_, _<_}
@@ -31,7 +31,6 @@ use Rattle.stream.specs.declared.Phase.the-variants.{Ad, Ended}
 use Rattle.stream.specs.declared.Stream.{Stream}
 use Rattle.stream.specs.State.{isDirection, isOpen, fits, ended, isSoundOpen, isSound}
 use Rattle.stream.specs.Calls.{Start, Called, textFaults, finishFaults, tagFaults}
-use Rattle.stream.proofs.Sound.{both-true}
 use Rattle.history.specs.History.{Streams, Call, giveText, next, BytesIn}
 use Rattle.history.specs.Cuts.{TextCut, TextCut.text-end, TextCut.text-piece, Cut.ad-end, Message}
 use Rattle.message.specs.Message.{SealLeaves, isNone}
@@ -314,7 +313,7 @@ forgets m none l t =
     let end : Stream = m .text Sealing s (zeros 2) (zeros 2) .outcome .next in
     let alone = t .cutting .seals begin [] (zeros 2) (two ∷ []) sixteen refl (two-whole m l) row-one in
     let passed = none-holds (finishFaults Sealing end 16 ++ tagFaults Sealing end sixteen) refl (ap isDone (sym (l .finish Sealing end sixteen) ∙ alone .answer)) in
-    let open-still = both-true (isOpen (end .phase)) _ (not-false (fits Sealing end) (passed .1 .0)) .0 in
+    let open-still = and-eq-true-iff (isOpen (end .phase)) _ .0 (not-false (fits Sealing end) (passed .1 .0)) .0 in
     let counted = t .limited begin (two-whole m l .started) (two ∷ []) (two-whole m l .bytes) .text open-still in
     let taken = ap (λ (a : Answer). length ([] ++ cond (isDone a) (zeros 2) [])) (two-taken m l t) in
     let zero-is-two : _≡_ {A = ℕ} 0 2 = sym (none s (zeros 2) (zeros 2) (two-taken m l t)) ∙ counted ∙ taken in

@@ -1,6 +1,6 @@
 -- The states behind the calls of a stream break no rule.
 use mathlib.Core.Path.{_≡_, refl, sym}
-use mathlib.Core.Bool.{Bool, true, false, false≢true}
+use mathlib.Core.Bool.{Bool, true, false, false≢true, and-eq-true-iff}
 use mathlib.Core.List.{List}
 use Prim.Native.Nat.{ℕ, _+_, _-_, _%_, _≤_, zero-le}
 use native.Mathlib.Nat.{zero-mod}
@@ -17,7 +17,7 @@ use Rattle.stream.specs.declared.Phase.the-variants.{Ad, Text, Ended}
 use Rattle.stream.specs.declared.Stream.{Stream}
 use Rattle.stream.specs.State.{isDirection, isAd, isOpen, fits, ended, isSoundOpen, isSoundEnded, isSoundIn, isSound}
 use Rattle.stream.specs.Calls.{limitedStartTest, pieceTest, Start, startCall, tookAd, tookText}
-use Rattle.stream.proofs.Sound.{both-true, open-kept, sound-kept}
+use Rattle.stream.proofs.Sound.{open-kept, sound-kept}
 use Rattle.stream.proofs.Tests.{limited-start-passed, piece-passed, zero-zeros}
 
 -- the ended state breaks no rule
@@ -53,7 +53,7 @@ ad-sound s piece e =
   where
     go : (phase : Phase) → isAd phase ≡ true → isSoundIn phase s ≡ true → s .ad + length piece ≤ adLimit → isSoundIn phase (tookAd s piece .next) ≡ true
     go Ad f sound within =
-        let halves = both-true (eqb (s .text) 0) (isSoundOpen s (s .ad)) sound in
+        let halves = and-eq-true-iff (eqb (s .text) 0) (isSoundOpen s (s .ad)) .0 sound in
         let kept = open-kept s (s .ad) (halves .1) in
         let place = (s .ad + length piece) % rowOf (s .set) .block in
         rw (halves .0, kept .known, kept .key, le-leb (s .ad + length piece) adLimit within, kept .text, kept .limit, eq-eqb place place refl)
@@ -66,6 +66,6 @@ pub text-sound : (d : Direction) (s : Stream) (words : List ℕ) (n : ℕ) → i
 unfolding isSound isSoundOpen tookText
 text-sound d s words n e =
     let passed = piece-passed s (fits d s) (s .text) n (s .limit) e in
-    let kept = sound-kept s (both-true (isOpen (s .phase)) (isDirection d (s .direction)) (passed .in-phase) .0) (passed .sound) in
+    let kept = sound-kept s (and-eq-true-iff (isOpen (s .phase)) (isDirection d (s .direction)) .0 (passed .in-phase) .0) (passed .sound) in
     let place = (s .text + n) % rowOf (s .set) .block in
     rw (kept .known, kept .key, kept .ad, le-leb (s .text + n) (s .limit) (passed .within), kept .limit, eq-eqb place place refl)

@@ -1,6 +1,6 @@
 -- What an open state that breaks no rule keeps, whatever its phase.
-use mathlib.Core.Path.{_≡_, refl}
-use mathlib.Core.Bool.{Bool, true, false, _&&_, false≢true}
+use mathlib.Core.Path.{_≡_}
+use mathlib.Core.Bool.{true, false≢true, and-eq-true-iff}
 use Prim.Native.Nat.{ℕ}
 use lib.Dec.{eqb, leb}
 use lib.ListN.{drop}
@@ -9,11 +9,6 @@ use Rattle.stream.specs.declared.Phase.{Phase}
 use Rattle.stream.specs.declared.Phase.the-variants.{Ad, Text, Ended}
 use Rattle.stream.specs.declared.Stream.{Stream}
 use Rattle.stream.specs.State.{isOpen, allZero, isSoundOpen, isSoundIn, isSound}
-
--- both halves of a conjunction that holds
-pub both-true : (a b : Bool) → (a && b) ≡ true → (a ≡ true) × (b ≡ true)
-both-true true b e = (refl, e)
-both-true false b e = absurd (false≢true e)
 
 -- known set, zeros behind the key, both counts within their limits, and the text's limit within the largest
 pub record Kept (s : Stream) : Type 0 where
@@ -27,11 +22,11 @@ pub record Kept (s : Stream) : Type 0 where
 pub open-kept : (s : Stream) (count : ℕ) → isSoundOpen s count ≡ true → Kept s
 unfolding isSoundOpen
 open-kept s count e =
-    let a = both-true (isSet (s .set)) _ e in
-    let b = both-true (allZero (drop (rowOf (s .set) .key) (s .key))) _ (a .1) in
-    let c = both-true (leb (s .ad) adLimit) _ (b .1) in
-    let d = both-true (leb (s .text) (s .limit)) _ (c .1) in
-    record { known = a .0; key = b .0; ad = c .0; text = d .0; limit = both-true (leb (s .limit) textLimit) _ (d .1) .0 }
+    let a = and-eq-true-iff (isSet (s .set)) _ .0 e in
+    let b = and-eq-true-iff (allZero (drop (rowOf (s .set) .key) (s .key))) _ .0 (a .1) in
+    let c = and-eq-true-iff (leb (s .ad) adLimit) _ .0 (b .1) in
+    let d = and-eq-true-iff (leb (s .text) (s .limit)) _ .0 (c .1) in
+    record { known = a .0; key = b .0; ad = c .0; text = d .0; limit = and-eq-true-iff (leb (s .limit) textLimit) _ .0 (d .1) .0 }
 
 -- a state that breaks no rule, in either open phase
 pub sound-kept : (s : Stream) → isOpen (s .phase) ≡ true → isSound s ≡ true → Kept s
@@ -39,6 +34,6 @@ unfolding isSound
 sound-kept s o sound = go (s .phase) o sound
   where
     go : (phase : Phase) → isOpen phase ≡ true → isSoundIn phase s ≡ true → Kept s
-    go Ad f e = open-kept s (s .ad) (both-true (eqb (s .text) 0) (isSoundOpen s (s .ad)) e .1)
+    go Ad f e = open-kept s (s .ad) (and-eq-true-iff (eqb (s .text) 0) (isSoundOpen s (s .ad)) .0 e .1)
     go Text f e = open-kept s (s .text) e
     go Ended f e = absurd (false≢true f)

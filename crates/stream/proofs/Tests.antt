@@ -1,6 +1,6 @@
 -- What the tests say, one byte at a time, and the bound of a round count.
 use mathlib.Core.Path.{_≡_, refl, sym, ap, _∙_}
-use mathlib.Core.Bool.{Bool, true, false, cond, not, _&&_, false≢true}
+use mathlib.Core.Bool.{Bool, true, false, cond, not, _&&_, false≢true, and-eq-true-iff}
 use mathlib.Core.List.{List, [], _∷_}
 use Prim.Native.Nat.{ℕ, zero, suc, _+_, _-_, _*_, _/_, _≤_, _<_}
 use native.Mathlib.Nat.{le-trans, le-div-iff-mul-le, div-mul-le-self, mul-le-mul-right, div-le-self}
@@ -25,7 +25,7 @@ use Rattle.stream.specs.Calls.{filledRounds, closingRounds, limitedStart
 use Rattle.stream.specs.declared.Direction.{Direction}
 use Rattle.stream.specs.declared.Direction.the-variants.{Sealing, Checking}
 use Rattle.stream.specs.declared.Stream.{Stream}
-use Rattle.stream.proofs.Sound.{both-true, sound-kept}
+use Rattle.stream.proofs.Sound.{sound-kept}
 
 -- the element at i, and the rest
 pub zero-left : (xs : List ℕ) (i : ℕ) → i < length xs → allZero (drop i xs) ≡ (eqb (getD xs i 0) 0 && allZero (drop (i + 1) xs))
@@ -134,7 +134,7 @@ text-passed d s n room e =
 -- so the text stays within the largest limit
 pub within-largest : (d : Direction) (s : Stream) (n room : ℕ) → TextPassed d s n room → s .text + n ≤ textLimit
 within-largest d s n room passed =
-    let o = both-true (isOpen (s .phase)) (isDirection d (s .direction)) (passed .piece .in-phase) .0 in
+    let o = and-eq-true-iff (isOpen (s .phase)) (isDirection d (s .direction)) .0 (passed .piece .in-phase) .0 in
     omega (arith, passed .piece .within, leb-true (s .limit) textLimit (sound-kept s o (passed .piece .sound) .limit))
 
 pub record FinishPassed (d : Direction) (s : Stream) (n : ℕ) : Type 0 where

@@ -1,6 +1,6 @@
 //! The program or the command at work, with its streams in our hands.
 
-use crate::end::{broken_off, ends_whole};
+use crate::end::{broken_off, ends_whole, Whole};
 use crate::program::{ended, Task, Tried, LIMIT};
 use std::fs::{read_dir, read_to_string};
 use std::io::{Read, Write};
@@ -73,17 +73,20 @@ impl Session {
         self.fed.extend(bytes);
     }
 
-    /// Hands over bytes in pieces of this length, with a pause behind each, a short one where the pieces are short; panics when anything is printed while the input is open.
-    pub fn feed_in_pieces(&mut self, bytes: &[u8], piece: usize, pause: Duration) {
+    /// Hands over bytes in pieces of this length, with a pause behind each, a short one where the pieces are short, and says that nothing is printed while the input is open,
+    /// and then what the whole gives.
+    pub fn in_pieces(tried: Tried, task: Task, bytes: &[u8], piece: usize, pause: Duration) {
+        let mut session = Session::start_to(tried, task);
         for part in bytes.chunks(piece) {
-            self.feed(part);
+            session.feed(part);
             if piece < 60 {
                 sleep(Duration::from_millis(1));
             } else {
-                assert_eq!(self.after(pause), "", "the input is still open");
+                assert_eq!(session.after(pause), "", "the input is still open");
             }
         }
-        assert_eq!(self.after(pause), "", "the input is still open");
+        assert_eq!(session.after(pause), "", "the input is still open");
+        assert_eq!(session.close().as_bytes(), Whole::of(task, bytes).report);
     }
 
     /// Waits until as many bytes are printed, or the limit is past, and gives how many are.

@@ -212,10 +212,7 @@ fn pieces_and_pauses() {
             (&right, 200),
             (&broken, 64),
         ] {
-            let mut session = Session::start_to(tried, task);
-            session.feed_in_pieces(bytes, piece, PAUSE);
-            let wanted = Whole::of(task, bytes).report;
-            assert_eq!(session.close().as_bytes(), wanted);
+            Session::in_pieces(tried, task, bytes, piece, PAUSE);
             ran += 1;
         }
     }

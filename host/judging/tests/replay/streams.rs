@@ -214,10 +214,7 @@ fn pieces_and_pauses() {
     let mut ran = 0;
     for tried in Tried::BOTH {
         for piece in [1, 2, 7, 61, 200] {
-            let mut session = Session::start_to(tried, Task::Replay);
-            session.feed_in_pieces(&log, piece, PAUSE);
-            let wanted = Whole::of(Task::Replay, &log).report;
-            assert_eq!(session.close().as_bytes(), wanted);
+            Session::in_pieces(tried, Task::Replay, &log, piece, PAUSE);
             ran += 1;
         }
     }
