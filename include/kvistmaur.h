@@ -1,10 +1,13 @@
 /*
- * Whole-message sealing and opening of Ascon v1, by the verified model.
+ * Whole-message sealing and opening of Ascon v1 and v1.2, by the verified model.
  * Link with target/native/libgateway.a, which `host/archive gateway` writes.
  *
  * SETS
- *   1  Ascon-128: key, nonce and tag have 16 bytes each.
- *   2  Ascon-96:  key, nonce and tag have 12 bytes each.
+ *   1  Ascon-128 of v1:    key, nonce and tag have 16 bytes each.
+ *   2  Ascon-96 of v1:     key, nonce and tag have 12 bytes each.
+ *   3  Ascon-128 of v1.2:  key, nonce and tag have 16 bytes each.
+ *   4  Ascon-128a of v1.2: key, nonce and tag have 16 bytes each.
+ *   Sets 1 and 3 are different ciphers: what one sealed, the other does not open.
  *
  * SLICES
  *   Each slice is two arguments, a pointer and then the number of bytes that are lent behind it. That many bytes have
@@ -16,7 +19,7 @@
  * ANSWERS
  *   A call takes any numbers and bytes, and returns 16 * rounds + answer. See KVISTMAUR_ANSWER and KVISTMAUR_ROUNDS.
  *   The answer is the first in this list that holds; 0 when none of the others does.
- *     1  set is neither 1 nor 2
+ *     1  set is none of 1 to 4, however wide a number it is
  *     2  the key does not have the set's length
  *     3  the nonce does not have the set's length
  *     4  the tag, or the place lent for it, does not have exactly the set's length

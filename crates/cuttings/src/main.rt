@@ -376,10 +376,12 @@ fn try_starts(key: &[u8], nonce: &[u8]) {
     );
 }
 
-// A message in both sets, and the cases.
+// A message in each set, and the cases.
 fn try_all(key: &[u8], nonce: &[u8], ad: &[u8], text: &[u8]) {
     try_set(1, key, nonce, ad, text);
     try_set(2, part(key, 0, 12), part(nonce, 0, 12), ad, text);
+    try_set(3, key, nonce, ad, text);
+    try_set(4, key, nonce, ad, text);
     let long = long();
     let check = started(Direction::Checking, 1, key, nonce, [0; 16]);
     try_limits(check.stream, &long);

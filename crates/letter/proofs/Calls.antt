@@ -1,12 +1,16 @@
 -- Laws of any call: its one outcome, its listed answer.
 use mathlib.Core.Path.{_≡_, refl, sym, _∙_}
+use mathlib.Core.Bool.{false}
 use mathlib.Core.List.{[]}
+use mathlib.Core.Logic.{inl, inr}
 use Prim.Native.Nat.{ℕ, zero, suc}
 use native.Mathlib.Omega.{arith}
+use borrow.Author.Tests.{le-leb, lt-leb}
 use contract.Lifetimes.{Lfts}
 use Rattle.answers.specs.declared.Answer.{Answer}
 use Rattle.answers.specs.declared.Answer.the-variants.{Done}
-use Rattle.letter.specs.Calls.{Answered, Refused}
+use Rattle.ascon.specs.Sets.{table, isSet}
+use Rattle.letter.specs.Calls.{Answered, NoSet, Refused}
 
 -- some lifetimes
 abbrev pub lifetimes : (n : ℕ) → Lfts n
@@ -32,6 +36,12 @@ done-says answer Kept e = record { is = e; kept = λ r. absurd (r .0 e) }
 -- where something was kept
 pub says : (answer : Answer) (Kept : Type 0) → Kept → Says answer answer Kept
 says answer Kept k = record { is = refl; kept = λ _. k }
+
+-- a number that no set has is not taken for one
+pub no-set : (set : ℕ) → NoSet set → isSet set ≡ false
+unfolding isSet table
+no-set set (inl e) = rw e
+no-set set (inr h) = rw (le-leb 1 set (omega arith), lt-leb set 4 h)
 
 -- numbers that differ are not equal
 pub off : _≡_ {A = ℕ} 0 1 → ⊥

@@ -2,10 +2,11 @@
 use Rattle.ascon.specs.Sets.{rowOf}
 use Rattle.ascon.specs.Mode.{encrypted, sealed}
 use Rattle.permutation.proofs.Known as permutation
-use Rattle.ascon.proofs.Cases.{cases}
+use Rattle.ascon.proofs.Cases.{cases, later-cases}
 use Rattle.ascon.proofs.Known as ascon
 use Rattle.ascon.proofs.Sealing.{bytes-tag, bytes-encrypted, bytes-decrypted}
 use Rattle.sets.proofs.Rows.{row-fits}
+use Rattle.sets.proofs.Before.{sets-before}
 use Rattle.ascon.proofs.Rounds.{runs-total}
 use Rattle.ascon.proofs.Marks.{runs-marked}
 use Rattle.history.specs.History.{HistoryLaw}
@@ -46,7 +47,10 @@ letter =
       streams-before = as-before;
       reported = of-kept Reported reported;
       some-model = keeps;
+      placed = λ set. (row-fits set .placed, row-fits set .whole);
+      sets-before = sets-before;
       cases = cases;
+      later-cases = later-cases;
       known-runs = permutation.known;
       known-messages = ascon.known;
       counted = runs-total;

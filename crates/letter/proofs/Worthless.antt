@@ -20,7 +20,7 @@ use Rattle.answers.specs.Numbers.{numberOf, isDone}
 use Rattle.answers.proofs.Numbers.{done-is}
 use Rattle.answers.proofs.Order.{none-holds}
 use Rattle.ascon.specs.Sets.{table, isSet, rowOf}
-use Rattle.ascon.specs.Mode.{p, count, pad, firstBlock, initialise, separate, beforeText, encrypted, decrypted, finalise, Processed, Sealed, sealed, opened}
+use Rattle.ascon.specs.Mode.{p, count, pad, beforeKey, initialise, separate, beforeText, encrypted, decrypted, finalise, Processed, Sealed, sealed, opened}
 use Rattle.ascon.specs.Rounds.{adBlocks, textBlocks, messageRounds}
 use Rattle.ascon.proofs.Sealing.{decrypt-encrypted, open-sealed}
 use Rattle.sets.proofs.Rows.{row-fits, row-sizes}
@@ -56,7 +56,7 @@ zeros-tag = bytesOf 16 0xde6025e7f764968e6a9f3ad7fda2f60c
 
 -- they are, computed
 sealed-zeros : sealed (rowOf 1) sixteen sixteen [] (zeros 2) ≡ record { cipher = zeros-cipher; tag = zeros-tag }
-unfolding sealed encrypted beforeText separate initialise firstBlock pad count p permute rounds constantsOf constants round diffuse Σ₀ Σ₁ Σ₂ Σ₃ Σ₄ _⋙_ substitute substituted column fromBits bit sBox addConstant stringOf stateOf bytesOf strings.valueOf rowOf table roundsOf finalise
+unfolding sealed encrypted beforeText separate initialise beforeKey pad count p permute rounds constantsOf constants round diffuse Σ₀ Σ₁ Σ₂ Σ₃ Σ₄ _⋙_ substitute substituted column fromBits bit sBox addConstant stringOf stateOf bytesOf strings.valueOf rowOf table roundsOf finalise
 sealed-zeros = refl
 
 -- the ciphertext alone

@@ -4,7 +4,7 @@
 use mathlib.Core.Path.{_≡_}
 use mathlib.Core.List.{List}
 use mathlib.Core.Logic.{_⊎_}
-use Prim.Native.Nat.{ℕ}
+use Prim.Native.Nat.{ℕ, _<_}
 use denote.Ref.{RefT}
 use Rattle.answers.specs.declared.Answer.{Answer}
 use Rattle.answers.specs.declared.Answer.the-variants.{Done, TagDiffers}
@@ -46,9 +46,17 @@ Gives allowed a r = Leaves allowed a r a
 abbrev pub Never : {L A R : Type 0} → (L → A → R → A → Type 0) → A → R → Type 0
 Never {L} {A} allowed before r = (κ : L) (after : A) → allowed κ before r after → ⊥
 
+-- a contract allows no other result
+abbrev pub Only : {L A R : Type 0} → (L → A → R → A → Type 0) → A → R → Type 0
+Only {R = R} allowed before r = (other : R) → (other ≡ r → ⊥) → Never allowed before other
+
 -- a contract does not allow a result together with this in the lent places
 abbrev pub NeverLeaves : {L A R : Type 0} → (L → A → R → A → Type 0) → A → R → A → Type 0
 NeverLeaves {L} allowed before r after = (κ : L) → allowed κ before r after → ⊥
+
+-- a number that no set has, written out, and not by the table, which it is to try
+abbrev pub NoSet : ℕ → Type 0
+NoSet set = (set ≡ 0) ⊎ (4 < set)
 
 -- not done, and not 9
 abbrev pub Refused : Answer → Type 0

@@ -1,15 +1,16 @@
 -- What stands behind each yes, in one statement.
 use mathlib.Core.List.{List}
 use mathlib.Core.Path.{_≡_}
-use Prim.Native.Nat.{ℕ, _≤_, _<_}
+use Prim.Native.Nat.{ℕ, _+_, _*_, _≤_, _<_}
 use lib.ListN.{length}
 use Rattle.permutation.specs.Known as permutation
 use Rattle.permutation.specs.Strings.{Bytes}
 use Rattle.ascon.specs.Sets.{ParameterSet, rowOf}
-use Rattle.ascon.specs.Mode.{decrypted, sealed}
+use Rattle.ascon.specs.Mode.{beforeKey, decrypted, sealed}
 use Rattle.ascon.specs.Rounds.{runs, total, messageRounds, Marked}
-use Rattle.ascon.specs.Cases.{Cases}
+use Rattle.ascon.specs.Cases.{Cases, LaterCases}
 use Rattle.ascon.specs.Known as ascon
+use Rattle.sets.specs.Before.{SetsBefore}
 use Rattle.stream.specs.Before.{AsBefore}
 use Rattle.history.specs.History.{Streams, HistoryLaw}
 use Rattle.history.specs.Cuts.{CuttingDoesNotMatter, CuttingBefore}
@@ -47,8 +48,13 @@ pub record Letter : Type 2 where
   pub reported : (m : Model) → Keeps m → Reported m
   -- there is a model that keeps the contracts
   pub some-model : Keeps ours
-  -- the cases marked P
+  -- in every set the key lies where its row says, and what stands before it, the key and the nonce fill the 40 bytes of the initial value
+  pub placed : (set : ℕ) → let row = rowOf set in (length (beforeKey row) ≡ row .keyAt) × (row .keyAt + 2 * row .key ≡ 40)
+  -- sets 1 and 2 are what they were before the later edition came
+  pub sets-before : SetsBefore
+  -- the cases marked P, and the like of sets 3 and 4
   pub cases : Cases
+  pub later-cases : LaterCases
   -- known answers of the definitions: published ones, and the second program's where none is published
   pub known-runs : permutation.Known
   pub known-messages : ascon.Known

@@ -50,11 +50,11 @@ const DATA: [u64; 10] = [
 ];
 
 // How many starts, walks and states are tried.
-const STARTS: usize = 240;
+const STARTS: usize = 400;
 
-const WALKS: usize = 200;
+const WALKS: usize = 400;
 
-const STATES: usize = 1200;
+const STATES: usize = 2400;
 
 // What a call gave, and what its lent place then holds, mixed.
 struct Called {
@@ -80,14 +80,6 @@ fn first_of(s: &[u8], n: usize) -> &[u8] {
         return &s[0..n];
     }
     &s[..0]
-}
-
-// 16 in set 1, and 12 in set 2.
-fn length_in(set: u64) -> usize {
-    if set == 1 {
-        return 16;
-    }
-    12
 }
 
 // A direction by its number, 0 or 1.
@@ -256,11 +248,11 @@ fn finish_with(direction: usize, stream: Stream, tag: &mut [u8], change: u8) -> 
     placeless(stream.finish_checking(tag))
 }
 
-// The finish of a direction, with a tag of 12 bytes in set 2 and of 16 in any other.
+// The finish of a direction, with a tag of the set's length.
 fn finish(direction: usize, stream: Stream, change: u8) -> Called {
     let mut long = [90u8; 16];
     let mut short = [90u8; 12];
-    if stream.set == 2 {
+    if sets::key_length(stream.set) == 12 {
         return finish_with(direction, stream, &mut short, change);
     }
     finish_with(direction, stream, &mut long, change)
@@ -277,12 +269,12 @@ fn told(c: Called) -> Stream {
 
 // ---- starts
 
-// The k-th start, ten to a line: by its limit, the lengths of nonce and key, its set, of which the third is unknown, and its direction.
+// The k-th start, ten to a line: by its limit, the lengths of nonce and key, which are those of set 1 or 2, its set, of which the fifth is unknown, and its direction.
 fn try_start(k: usize, key: &[u8], nonce: &[u8]) {
-    let direction = k / 120 % 2;
-    let set = (k / 40 % 3) as u64 + 1;
-    let key = first_of(key, length_in((k / 20 % 2) as u64 + 1));
-    let nonce = first_of(nonce, length_in((k / 10 % 2) as u64 + 1));
+    let direction = k / 200 % 2;
+    let set = (k / 40 % 5) as u64 + 1;
+    let key = first_of(key, sets::key_length((k / 20 % 2) as u64 + 1));
+    let nonce = first_of(nonce, sets::key_length((k / 10 % 2) as u64 + 1));
     if k % 10 == 0 {
         say(b"starts direction=", direction as u64);
         say(b" set=", set);
@@ -345,10 +337,10 @@ fn walk_from(direction: usize, begun: Stream, walk: usize, l: usize, bytes: &[u8
 
 // The k-th walk: by its number, its limit, which is one of the first five, its set and its direction.
 fn try_walk(k: usize, key: &[u8], nonce: &[u8], bytes: &[u8]) {
-    let direction = k / 100 % 2;
-    let set = (k / 50 % 2) as u64 + 1;
+    let direction = k / 200 % 2;
+    let set = (k / 50 % 4) as u64 + 1;
     let limit = LIMITS[k / 10 % 5];
-    let length = length_in(set);
+    let length = sets::key_length(set);
     say(b"walk direction=", direction as u64);
     say(b" set=", set);
     say(b" limit=", limit);
@@ -394,17 +386,26 @@ fn try_calls(direction: usize, s: Stream, bytes: &[u8]) {
     say_word(b",", told_in(other, finish(direction, s, 0)));
 }
 
-// The place in its block of the next byte behind a count, in set 1 or 2.
+// The place in its block of the next byte behind a count.
 fn place_of(set: u64, count: u64) -> usize {
-    if set == 1 {
+    if sets::block_length(set) == 8 {
         return (count % 8) as usize;
     }
     (count % 16) as usize
 }
 
-// A state under words and a key of zeros: by its direction, set, phase, limit, and the count of its phase, of data before the text and else of text.
+// The key of a state that has not ended: zeros in sets 1 and 2; in sets 3 and 4 no zero, since a byte behind the twelfth breaks no rule there.
+fn key_in(set: u64) -> [u8; 16] {
+    if set <= 2 {
+        return [0; 16];
+    }
+    [7; 16]
+}
+
+// A state under words of zeros: by its direction, set, phase, limit, and the count of its phase, of data before the text and else of text.
 fn state_of(direction: usize, set: u64, phase: usize, limit: u64, count: u64) -> Stream {
     let place = if phase == 2 { 0 } else { place_of(set, count) };
+    let key = if phase == 2 { [0; 16] } else { key_in(set) };
     let ad = if phase == 0 { count as usize } else { 0 };
     let text = if phase == 0 { 0 } else { count as usize };
     Stream {
@@ -412,7 +413,7 @@ fn state_of(direction: usize, set: u64, phase: usize, limit: u64, count: u64) ->
         set,
         direction: direction_of(direction),
         phase: phase_of(phase),
-        key: [0; 16],
+        key,
         ad,
         text,
         place,
@@ -422,8 +423,8 @@ fn state_of(direction: usize, set: u64, phase: usize, limit: u64, count: u64) ->
 
 // The k-th state, ten to a line: by its count, its limit, its phase, its set and its direction.
 fn try_state(k: usize, bytes: &[u8]) {
-    let direction = k / 600 % 2;
-    let set = (k / 300 % 2) as u64 + 1;
+    let direction = k / 1200 % 2;
+    let set = (k / 300 % 4) as u64 + 1;
     let phase = k / 100 % 3;
     let limit = LIMITS[k / 10 % 10];
     let count = if phase == 0 {

@@ -61,6 +61,23 @@ longRecord rounds =
 abbrev pub threeLines : List ℕ
 threeLines = ascii "Count = 1\nKey = 00000000000000000000000000000000\nNonce = 00000000000000000000000000000000\n"
 
+-- a published entry of set 3, with a byte of text, and one of set 4, with nothing; and their records
+abbrev pub publishedThree : List ℕ
+publishedThree =
+    ascii "Count = 1\nKey = 000102030405060708090A0B0C0D0E0F\nNonce = 000102030405060708090A0B0C0D0E0F\nPT = 00\nAD = \nCT = BC18C3F4E39ECA7222490D967C79BFFC92\n\n"
+
+abbrev pub publishedFour : List ℕ
+publishedFour =
+    ascii "Count = 1\nKey = 000102030405060708090A0B0C0D0E0F\nNonce = 000102030405060708090A0B0C0D0E0F\nPT = \nAD = \nCT = 7A834E6F09210957067B10FD831F0078\n\n"
+
+abbrev pub recordThree : List ℕ
+recordThree =
+    ascii "set=3\nkey=000102030405060708090a0b0c0d0e0f\nnonce=000102030405060708090a0b0c0d0e0f\nad=\ntext=00\ncipher=bc\ntag=18c3f4e39eca7222490d967c79bffc92\nrounds=24\n"
+
+abbrev pub recordFour : List ℕ
+recordFour =
+    ascii "set=4\nkey=000102030405060708090a0b0c0d0e0f\nnonce=000102030405060708090a0b0c0d0e0f\nad=\ntext=\ncipher=\ntag=7a834e6f09210957067b10fd831f0078\nrounds=24\n"
+
 -- so many zero bytes in hex
 abbrev pub noughts : ℕ → List ℕ
 noughts n = replicate (2 * n) 0x30
@@ -90,6 +107,11 @@ pub record Known : Type 0 where
   -- an entry is read into a record, with the tag from the end of CT and the rounds of the formula; and written back
   pub import-bytes : moveAllCall (Import 2) bytesEntry (zeros 280) ≡ allLeaves (allMoved 1 129) (bytesRecord ++ zeros 151)
   pub export-bytes : moveAllCall Export bytesRecord (zeros 280) ≡ allLeaves (allMoved 1 123) (bytesEntry ++ zeros 157)
+  -- published entries of the later edition's sets
+  pub import-three : moveAllCall (Import 3) publishedThree (zeros 151) ≡ allLeaves (allMoved 1 151) recordThree
+  pub import-four : moveAllCall (Import 4) publishedFour (zeros 147) ≡ allLeaves (allMoved 1 147) recordFour
+  pub export-three : moveAllCall Export recordThree (zeros 145) ≡ allLeaves (allMoved 1 145) publishedThree
+  pub export-four : moveAllCall Export recordFour (zeros 141) ≡ allLeaves (allMoved 1 141) publishedFour
   -- two entries in a row; and back
   pub import-two : moveAllCall (Import 1) (firstEntry ++ secondEntry) (zeros 294) ≡ allLeaves (allMoved 2 294) (rightCase ++ rightCase)
   pub export-two : moveAllCall Export (rightCase ++ rightCase) (zeros 282) ≡ allLeaves (allMoved 2 282) (firstEntry ++ secondEntry)

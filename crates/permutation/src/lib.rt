@@ -1,4 +1,4 @@
-// The Ascon permutation, bit-sliced on five 64-bit words: one round, and the runs of twelve, eight and six.
+// The Ascon permutation, bit-sliced on five 64-bit words: one round, the run of twelve, and those of the first and the last eight and six.
 ghost use mathlib.Core.Path.{_≡_};
 ghost use Prim.Native.Nat.{_≤_};
 ghost use lib.Seq.{slice};
@@ -19,6 +19,8 @@ pub enum Run {
     Twelve,
     FirstEight,
     FirstSix,
+    LastEight,
+    LastSix,
 }
 
 // The state after the substitution of its 64 columns.
@@ -93,6 +95,8 @@ pub fn permuted(s: State, run: Run) -> State
         Run::Twelve => ran(s, 0, 12),
         Run::FirstEight => ran(s, 0, 8),
         Run::FirstSix => ran(s, 0, 6),
+        Run::LastEight => ran(s, 4, 12),
+        Run::LastSix => ran(s, 6, 12),
     }
 }
 

@@ -13,9 +13,12 @@ pub known : Known
 unfolding readCall readAny formOf insideMark readOf stepOf nameStep feedStep valueStep kindOf named valueKind withValue given refusedAt readAs name names withNumber withField blank fieldOf rowOf table digitIn
 known = record {
   whole-case = refl;
+  set-three = refl;
+  set-four = refl;
   name = refl;
   name-first = refl;
-  set-three = refl;
+  set-five = refl;
+  set-zero = refl;
   set-twelve = refl;
   set-nought = refl;
   first-digit = refl;
@@ -23,6 +26,7 @@ known = record {
   both-digits = refl;
   odd = refl;
   other-key = refl;
+  short-key = refl;
   too-few = refl;
   carriage-return = refl;
   needless-zero = refl;

@@ -3,7 +3,7 @@ use mathlib.Core.Path.{_≡_}
 use mathlib.Core.Bool.{true, false}
 use mathlib.Core.List.{List, [], _∷_, _++_}
 use Prim.Native.Nat.{ℕ}
-use lib.ListN.{replicate}
+use lib.ListN.{replicate, drop}
 use Rattle.permutation.specs.Strings.{zeros}
 use Rattle.digits.specs.Ascii.{ascii}
 use Rattle.record.specs.declared.form.Form.the-variants.{One, Two}
@@ -16,12 +16,12 @@ abbrev pub sevenLines : List ℕ
 sevenLines =
     ascii "set=1\nkey=00000000000000000000000000000000\nnonce=00000000000000000000000000000000\nad=\ntext=\ncipher=\ntag=00000000000000000000000000000000\n"
 
--- that case, with 25 rounds, and a chip
-abbrev pub wholeCase : ℕ → Record
-wholeCase chip =
+-- that case in a set whose keys are of 16 bytes, with 25 rounds, and a chip
+abbrev pub wholeCase : ℕ → ℕ → Record
+wholeCase set chip =
     let sixteen = fieldOf (zeros 16) in
     let none = fieldOf [] in
-    record { set = 1; chip = chip; key = sixteen; nonce = sixteen; ad = none; text = none; cipher = none; tag = sixteen; rounds = 25 }
+    record { set = set; chip = chip; key = sixteen; nonce = sixteen; ad = none; text = none; cipher = none; tag = sixteen; rounds = 25 }
 
 -- the first two lines of a record of set 2, with a key of 16 bytes
 abbrev pub otherKey : List ℕ
@@ -34,12 +34,16 @@ nineLines =
 
 pub record Known : Type 0 where
   -- the rules' whole case is read, with a further byte behind it
-  pub whole-case : readCall One (sevenLines ++ ascii "rounds=25\nx") ≡ readAs 147 (wholeCase 0)
+  pub whole-case : readCall One (sevenLines ++ ascii "rounds=25\nx") ≡ readAs 147 (wholeCase 1 0)
+  -- and in sets 3 and 4
+  pub set-three : readCall One (ascii "set=3\n" ++ (drop 6 sevenLines ++ ascii "rounds=25\n")) ≡ readAs 147 (wholeCase 3 0)
+  pub set-four : readCall One (ascii "set=4\n" ++ (drop 6 sevenLines ++ ascii "rounds=25\n")) ≡ readAs 147 (wholeCase 4 0)
   -- a wrong character in a name, and at the beginning of one
   pub name : readCall One (ascii "set=1\nkex=") ≡ refusedAt 2 3 false
   pub name-first : readCall One (ascii "x") ≡ refusedAt 1 1 false
-  -- an unknown set, a second digit, and a needless zero before it
-  pub set-three : readCall One (ascii "set=3\n") ≡ refusedAt 1 5 false
+  -- an unknown set, past the last one and before the first, a second digit, and a needless zero before it
+  pub set-five : readCall One (ascii "set=5\n") ≡ refusedAt 1 5 false
+  pub set-zero : readCall One (ascii "set=0\n") ≡ refusedAt 1 5 false
   pub set-twelve : readCall One (ascii "set=12\n") ≡ refusedAt 1 6 false
   pub set-nought : readCall One (ascii "set=01\n") ≡ refusedAt 1 5 false
   -- a wrong digit of a pair: the first, the second, both
@@ -48,8 +52,10 @@ pub record Known : Type 0 where
   pub both-digits : readCall One (ascii "set=1\nkey=00GG") ≡ refusedAt 2 7 false
   -- an odd number of digits: the line feed comes too early
   pub odd : readCall One (ascii "set=1\nkey=0\n") ≡ refusedAt 2 6 false
-  -- a key of the other set's length: its 25th digit
+  -- a key of 16 bytes in set 2: its 25th digit
   pub other-key : readCall One otherKey ≡ refusedAt 2 29 false
+  -- a key of 12 bytes in set 4: the line feed comes too early
+  pub short-key : readCall One (ascii "set=4\nkey=000000000000000000000000\n") ≡ refusedAt 2 29 false
   -- too few bytes, and a carriage return
   pub too-few : readCall One (ascii "set=2\nkey=00\n") ≡ refusedAt 2 7 false
   pub carriage-return : readCall One (ascii "set=1\r\n") ≡ refusedAt 1 6 false
@@ -63,7 +69,7 @@ pub record Known : Type 0 where
   pub missing : readCall One (ascii "set=1\n") ≡ refusedAt 2 1 true
   pub last-missing : readCall One sevenLines ≡ refusedAt 8 1 true
   -- the same in form 2, with its chip; and its last line missing, cut and wrong, by form 2's numbers
-  pub whole-two : readCall Two (nineLines ++ ascii "rounds=25\nx") ≡ readAs 161 (wholeCase 7)
+  pub whole-two : readCall Two (nineLines ++ ascii "rounds=25\nx") ≡ readAs 161 (wholeCase 1 7)
   pub two-missing : readCall Two nineLines ≡ refusedAt 10 1 true
   pub two-cut : readCall Two (nineLines ++ ascii "rounds=2") ≡ refusedAt 10 9 true
   pub two-wrong : readCall Two (nineLines ++ ascii "rounds=025\n") ≡ refusedAt 10 9 false
@@ -82,8 +88,8 @@ pub record Known : Type 0 where
   pub two-of-one : readCall Two (ascii "set=1\n") ≡ refusedAt 1 1 false
   pub one-of-two : readCall One (ascii "form=2\n") ≡ refusedAt 1 1 false
   -- of either form: what begins `form=` is of form 2, all else of form 1; inside that word it can still go on
-  pub any-two : readAny (nineLines ++ ascii "rounds=25\nx") ≡ readAs 161 (wholeCase 7)
-  pub any-one : readAny (sevenLines ++ ascii "rounds=25\nx") ≡ readAs 147 (wholeCase 0)
+  pub any-two : readAny (nineLines ++ ascii "rounds=25\nx") ≡ readAs 161 (wholeCase 1 7)
+  pub any-one : readAny (sevenLines ++ ascii "rounds=25\nx") ≡ readAs 147 (wholeCase 1 0)
   pub any-form-one : readAny (ascii "form=1\n") ≡ refusedAt 1 6 false
   pub any-nothing : readAny [] ≡ refusedAt 1 1 true
   pub any-inside : readAny (ascii "form") ≡ refusedAt 1 1 true

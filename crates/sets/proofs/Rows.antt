@@ -8,12 +8,12 @@ use lib.Dec.{eqb, leb}
 use lib.ListN.{length, getD, List·getD-eq-default}
 use borrow.Author.Tests.{eqb-true, leb-true, leb-false, le-leb}
 use Rattle.permutation.specs.declared.Run.{Run}
-use Rattle.permutation.specs.declared.Run.the-variants.{Twelve, FirstEight, FirstSix}
+use Rattle.permutation.specs.declared.Run.the-variants.{Twelve, FirstEight, FirstSix, LastEight, LastSix}
 use Rattle.permutation.specs.Strings.{_‖_, zeros, same, bytesOf, valueOf, stringOfWords}
 use Rattle.permutation.specs.Runs.{roundsOf, constantsOf, constants}
 use Rattle.permutation.proofs.Strings.{same-eq}
 use Rattle.ascon.specs.Sets.{ParameterSet, ascon128, table, isSet, rowOf}
-use Rattle.ascon.specs.Mode.{firstBlock}
+use Rattle.ascon.specs.Mode.{beforeKey}
 use Rattle.ascon.proofs.Sealing.{Fits}
 use Rattle.sets.specs.declared.Row.{Row}
 use Rattle.sets.specs.Rows.{inCode}
@@ -36,7 +36,7 @@ all-rows test (row ∷ rows) other h e i = go (test row) refl e i (λ f. all-row
     go true f e (suc i) rest = rest e i
 
 -- a test of the table tells of the row of each number
-each-row : (test : ParameterSet → Bool) → all test (ascon128 ∷ table) ≡ true → (set : ℕ) → test (rowOf set) ≡ true
+pub each-row : (test : ParameterSet → Bool) → all test (ascon128 ∷ table) ≡ true → (set : ℕ) → test (rowOf set) ≡ true
 unfolding rowOf
 each-row test e set = go (test ascon128) refl e
   where
@@ -79,12 +79,13 @@ unknown-set (suc n) e =
 -- ---- what each row keeps
 
 pub row-fits : (set : ℕ) → Fits (rowOf set)
-unfolding table firstBlock
+unfolding table beforeKey
 row-fits set =
     record {
       some-block = leb-true 1 _ (each-row (λ row. leb 1 (row .block)) refl set);
       room = leb-true _ 40 (each-row (λ row. leb (row .block + row .key) 40) refl set);
-      whole = eqb-true _ 40 (each-row (λ row. eqb (length (firstBlock row) + 2 * row .key) 40) refl set);
+      placed = eqb-true _ _ (each-row (λ row. eqb (length (beforeKey row)) (row .keyAt)) refl set);
+      whole = eqb-true _ 40 (each-row (λ row. eqb (row .keyAt + 2 * row .key) 40) refl set);
     }
 
 -- the run of twelve
@@ -92,11 +93,15 @@ abbrev isTwelve : Run → Bool
 isTwelve Twelve = true
 isTwelve FirstEight = false
 isTwelve FirstSix = false
+isTwelve LastEight = false
+isTwelve LastSix = false
 
 is-twelve : (run : Run) → isTwelve run ≡ true → run ≡ Twelve
 is-twelve Twelve e = refl
 is-twelve FirstEight e = absurd (false≢true e)
 is-twelve FirstSix e = absurd (false≢true e)
+is-twelve LastEight e = absurd (false≢true e)
+is-twelve LastSix e = absurd (false≢true e)
 
 -- what the code counts on
 pub record Sizes (row : ParameterSet) : Type 0 where
@@ -104,20 +109,20 @@ pub record Sizes (row : ParameterSet) : Type 0 where
   pub block : row .block ≤ 16
   pub some-key : 12 ≤ row .key
   pub key : row .key ≤ 16
-  pub first : stringOfWords (valueOf (row .word) ∷ 0 ∷ 0 ∷ 0 ∷ 0 ∷ []) ≡ firstBlock row ‖ zeros (2 * row .key)
+  pub first : stringOfWords (valueOf (row .word) ∷ 0 ∷ 0 ∷ 0 ∷ 0 ∷ []) ≡ beforeKey row ‖ zeros (2 * row .key)
   pub word : valueOf (row .word) < 2 ^ 64
   pub rounds : roundsOf (row .between) ≤ 8
   pub ends : row .ends ≡ Twelve
 
 pub row-sizes : (set : ℕ) → Sizes (rowOf set)
-unfolding table firstBlock valueOf bytesOf roundsOf constantsOf constants
+unfolding table beforeKey valueOf bytesOf roundsOf constantsOf constants
 row-sizes set =
     record {
       some-block = row-fits set .some-block;
       block = leb-true _ 16 (each-row (λ row. leb (row .block) 16) refl set);
       some-key = leb-true 12 _ (each-row (λ row. leb 12 (row .key)) refl set);
       key = leb-true _ 16 (each-row (λ row. leb (row .key) 16) refl set);
-      first = same-eq _ _ (each-row (λ row. same (stringOfWords (valueOf (row .word) ∷ 0 ∷ 0 ∷ 0 ∷ 0 ∷ [])) (firstBlock row ‖ zeros (2 * row .key))) refl set);
+      first = same-eq _ _ (each-row (λ row. same (stringOfWords (valueOf (row .word) ∷ 0 ∷ 0 ∷ 0 ∷ 0 ∷ [])) (beforeKey row ‖ zeros (2 * row .key))) refl set);
       word = leb-true _ (2 ^ 64) (each-row (λ row. leb (suc (valueOf (row .word))) (2 ^ 64)) refl set);
       rounds = leb-true _ 8 (each-row (λ row. leb (roundsOf (row .between)) 8) refl set);
       ends = is-twelve _ (each-row (λ row. isTwelve (row .ends)) refl set);

@@ -27,7 +27,7 @@ pub struct Row {
 }
 
 // How many sets there are.
-pub const ROWS: usize = 2;
+pub const ROWS: usize = 4;
 
 // The rows of the definition's table, set 1 first.
 const TABLE: [Row; ROWS] = [
@@ -44,6 +44,20 @@ const TABLE: [Row; ROWS] = [
         between: Run::FirstEight,
         rounds: 8,
         word: 0x600c080000000000,
+    },
+    Row {
+        key: 16,
+        block: 8,
+        between: Run::LastSix,
+        rounds: 6,
+        word: 0x80400c0600000000,
+    },
+    Row {
+        key: 16,
+        block: 16,
+        between: Run::LastEight,
+        rounds: 8,
+        word: 0x80800c0800000000,
     },
 ];
 

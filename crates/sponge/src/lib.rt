@@ -137,7 +137,7 @@ pub fn crypt(
     w
 }
 
-// The words after the start with a key and a nonce; of each, only as many bytes count as the set's keys have.
+// The words after the start with a key and a nonce; of each, only as many bytes count as the set's keys have. In every set key and nonce are the last bytes that are run.
 pub fn start(set: u64, key: [u8; 16], nonce: [u8; 16]) -> [u64; 5]
     ensures { λ r. ⌜ r ≡ started (rowOf set) key nonce ⌝ }
 {

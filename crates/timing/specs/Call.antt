@@ -21,6 +21,7 @@ called answer left = record { answer = answer; left = left }
 abbrev pub ran : Run → List ℕ → Called
 ran run words = called (roundsOf run) (permuteWords run words)
 
+-- the run of so many rounds, of v1's where both editions have one; any other number runs nothing
 unfoldable pub permuteCall : ℕ → List ℕ → Called
 permuteCall rounds words =
     cond (eqb rounds (roundsOf Twelve)) (ran Twelve words)

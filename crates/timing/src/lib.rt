@@ -4,7 +4,7 @@ ghost use Rattle.timing.specs.Call.{called, permuteCall, readDigits};
 use digits::Digit;
 use permutation::Run;
 
-// Runs twelve, eight or six rounds on the words and gives their number; any other number of rounds gives 0 and leaves the words.
+// Runs twelve, or v1's eight or six rounds, on the words and gives their number; any other number of rounds gives 0 and leaves the words.
 #[no_mangle]
 pub extern "C" fn kvistmaur_permute(rounds: u64, words: &mut [u64; 5]) -> u64
     ensures { λ r. ⌜ called r (now (words .exit)) ≡ permuteCall rounds (now (words .entry)) ⌝ }

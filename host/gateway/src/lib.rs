@@ -1,4 +1,4 @@
-//! Sealing and opening of whole messages with the verified model of Ascon v1.
+//! Sealing and opening of whole messages with the verified model of Ascon v1 and v1.2.
 //!
 //! ```
 //! use gateway::{open, seal, Refusal, Set};

@@ -61,7 +61,7 @@ fn key_of_15_bytes_in_set_1_with_a_wrong_nonce() {
     refused(spoil, Refusal::KeyLength, 2);
 }
 
-/// P7 to P12, run: the rounds of messages around the block edges and at both limits.
+/// P7 to P12, and their like of sets 3 and 4, run: the rounds of messages around the block edges and at both limits.
 #[test]
 fn rounds_of_the_table() {
     for (set, data, text, rounds) in [
@@ -71,6 +71,16 @@ fn rounds_of_the_table() {
         (Set::Ascon128, 1, 8, 36),
         (Set::Ascon96, 16, 15, 40),
         (Set::Ascon128, DATA_LIMIT, TEXT_LIMIT, 835_614),
+        (Set::Ascon128V12, 0, 0, 24),
+        (Set::Ascon128V12, 7, 7, 30),
+        (Set::Ascon128V12, 8, 0, 36),
+        (Set::Ascon128V12, 1, 8, 36),
+        (Set::Ascon128V12, DATA_LIMIT, TEXT_LIMIT, 835_614),
+        (Set::Ascon128aV12, 0, 0, 24),
+        (Set::Ascon128aV12, 15, 15, 32),
+        (Set::Ascon128aV12, 16, 0, 40),
+        (Set::Ascon128aV12, 1, 16, 40),
+        (Set::Ascon128aV12, DATA_LIMIT, TEXT_LIMIT, 557_088),
     ] {
         // One slice serves as key and as nonce: what is only read may be lent twice.
         let key = vec![7; set.key_length()];

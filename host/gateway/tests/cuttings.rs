@@ -1,11 +1,11 @@
 //! What the program `cuttings` is held to, computed again by the second program.
 
-use second::{calls::seal, cases::named_cases, hex::written};
+use second::{calls::seal, cases::named_cases, cipher::Set, cipher::SETS, hex::written};
 
 /// What the gate compares the program's output with.
 const EXPECTED: &str = include_str!("../../../crates/cuttings/stdout");
 
-/// The cases that the program prints behind its two messages, in its order.
+/// The cases that the program prints behind its messages, in its order.
 const PRINTED: [&str; 9] = [
     "65537 bytes of data",
     "65536 bytes of data",
@@ -19,14 +19,15 @@ const PRINTED: [&str; 9] = [
 ];
 
 /// The program's message in a set, sealed by the second program, as the program has to print it.
-fn sealed(set: u64, length: usize) -> String {
+fn sealed(set: &Set) -> String {
+    let (number, length) = (set.number, set.key);
     let key: Vec<u8> = (0..16).collect();
     let nonce: Vec<u8> = (16..32).collect();
     let ad: Vec<u8> = (0..37).map(|i| 1 + 7 * i).collect();
     let text: Vec<u8> = (0..53).map(|i| (3 + 11 * i) as u8).collect();
     let (mut out, mut tag) = (vec![0; text.len()], vec![0; length]);
     let answer = seal(
-        set,
+        number,
         &key[..length],
         &nonce[..length],
         &ad,
@@ -37,7 +38,7 @@ fn sealed(set: u64, length: usize) -> String {
     assert_eq!(answer.number, 0);
     let hex = |bytes: &[u8]| String::from_utf8(written(bytes)).expect("digits");
     format!(
-        "set={set}\ncipher={}\ntag={}\nrounds={}\nsealed alike=216\nchecked right=216\n",
+        "set={number}\ncipher={}\ntag={}\nrounds={}\nsealed alike=216\nchecked right=216\n",
         hex(&out),
         hex(&tag),
         answer.rounds
@@ -55,8 +56,7 @@ fn case(name: &str, cases: &[(String, u64)]) -> String {
 fn messages_and_cases_are_the_second_programs() {
     let cases = named_cases();
     let printed: String = PRINTED.iter().map(|name| case(name, &cases)).collect();
-    assert_eq!(
-        EXPECTED,
-        format!("{}{}{printed}", sealed(1, 16), sealed(2, 12))
-    );
+    let messages: Vec<String> = SETS.iter().map(sealed).collect();
+    assert_eq!(messages.len(), 4);
+    assert_eq!(EXPECTED, messages.concat() + &printed);
 }

@@ -88,5 +88,7 @@ int main(void)
 {
     every_answer(1, 16);
     every_answer(2, 12);
+    every_answer(3, 16);
+    every_answer(4, 16);
     return 0;
 }

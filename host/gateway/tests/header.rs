@@ -1,6 +1,7 @@
 //! A C program that knows only `include/kvistmaur.h`, compiled, linked with the archive and run.
 
 use second::calls::{seal, Answer};
+use second::cipher::{Set, SETS};
 use second::hex::written;
 use std::path::{Path, PathBuf};
 use std::process::Command;
@@ -9,7 +10,13 @@ const DATA: &[u8] = b"valve 12";
 const TEXT: &[u8] = b"close, then report in";
 
 /// What the program has to print for a set.
-fn wanted(set: u64, length: usize) -> String {
+fn wanted(
+    &Set {
+        number: set,
+        key: length,
+        ..
+    }: &Set,
+) -> String {
     let (key, nonce) = (vec![7; length], vec![1; length]);
     let (mut out, mut tag) = ([0xbb; 24], [0xaa; 16]);
     let whole = seal(set, &key, &nonce, DATA, TEXT, &mut out, &mut tag[..length]);
@@ -82,7 +89,8 @@ fn a_c_program_gets_what_the_header_says() {
     let ran = Command::new(&program).output().expect("cc wrote a program");
     assert!(ran.status.success(), "the program: {}", ran.status);
     let printed = String::from_utf8(ran.stdout).expect("the program prints text");
-    let wanted = wanted(1, 16) + &wanted(2, 12);
+    let wanted: String = SETS.iter().map(wanted).collect();
+    assert_eq!(wanted.lines().count(), 4 * 13);
     for (printed, wanted) in printed.lines().zip(wanted.lines()) {
         assert_eq!(printed, wanted);
     }

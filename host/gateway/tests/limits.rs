@@ -1,5 +1,6 @@
 //! What the program `limits` is held to, computed again by the second program.
 
+use second::cipher::{set_of, Set, SETS};
 use second::stream::{
     ad, check, finish_checking, finish_sealing, seal, start, Direction, Given, Phase, Stream,
 };
@@ -45,9 +46,8 @@ const BYTE: u8 = 165;
 /// The byte that lent places hold before a call.
 const LENT: u8 = 90;
 
-/// The directions, sets, with the lengths of key and nonce in each, and phases, in the program's order.
+/// The directions and phases, in the program's order.
 const DIRECTIONS: [(usize, Direction); 2] = [(0, Sealing), (1, Checking)];
-const SETS: [(u64, usize); 2] = [(1, 16), (2, 12)];
 const PHASES: [(usize, Phase); 3] = [(0, Phase::Data), (1, Phase::Text), (2, Phase::Ended)];
 
 /// What a call gave, and what its lent place then holds.
@@ -107,7 +107,7 @@ fn text(direction: Direction, stream: Stream, length: usize) -> Called {
 
 /// The finish of a direction; a checking is given the tag that its words would be sealed with, its first byte combined with `change`.
 fn finish(direction: Direction, stream: Stream, change: u8) -> Called {
-    let mut tag = vec![LENT; if stream.set == 2 { 12 } else { 16 }];
+    let mut tag = vec![LENT; set_of(stream.set).map_or(16, |set| set.key)];
     let sealing = Stream {
         direction: Sealing,
         ..stream
@@ -128,13 +128,13 @@ fn told(call: &Called) -> String {
     format!(" {answer},{rounds},{:016x}", mixed_call(call))
 }
 
-/// Starts with each limit, in each direction and in sets 1, 2 and 3, of which the last is unknown, with right and wrong lengths.
+/// Starts with each limit, in each direction, in each set and the one past the last, which is unknown, with keys and nonces of 16 and of 12 bytes.
 fn starts() -> Vec<String> {
     let mut lines = Vec::new();
     for (d, direction) in DIRECTIONS {
-        for set in 1..=3 {
-            for (_, key) in SETS {
-                for (_, nonce) in SETS {
+        for set in 1..=SETS.len() as u64 + 1 {
+            for key in [16, 12] {
+                for nonce in [16, 12] {
                     let (k, n) = (counting(0, key), counting(16, nonce));
                     let ten = LIMITS
                         .map(|limit| told(&placeless(start(direction, set, limit, &k, &n))))
@@ -162,9 +162,9 @@ fn lengths(walk: usize, limit: usize) -> [usize; 4] {
 }
 
 /// A walk from a start on: three bytes of data, four pieces of text, the finish with another tag, and with the right one, and a second one behind it, each told.
-fn walked(direction: Direction, (set, length): (u64, usize), limit: u64, walk: usize) -> String {
-    let (key, nonce) = (counting(0, length), counting(16, length));
-    let mut call = placeless(start(direction, set, limit, &key, &nonce));
+fn walked(direction: Direction, set: &Set, limit: u64, walk: usize) -> String {
+    let (key, nonce) = (counting(0, set.key), counting(16, set.key));
+    let mut call = placeless(start(direction, set.number, limit, &key, &nonce));
     let mut line = told(&call);
     let mut go_on = |next: &dyn Fn(Stream) -> Called| {
         call = next(call.0 .2);
@@ -185,11 +185,11 @@ fn walked(direction: Direction, (set, length): (u64, usize), limit: u64, walk: u
 fn walks() -> Vec<String> {
     let mut lines = Vec::new();
     for (d, direction) in DIRECTIONS {
-        for set in SETS {
+        for set in &SETS {
             for limit in &LIMITS[..5] {
                 for walk in 0..10 {
                     let calls = walked(direction, set, *limit, walk);
-                    let number = set.0;
+                    let number = set.number;
                     lines.push(format!(
                         "walk direction={d} set={number} limit={limit} number={walk}:{calls}\n"
                     ));
@@ -220,43 +220,44 @@ fn tried(direction: Direction, stream: Stream) -> String {
     format!(" {answers},{:016x}", mixed(0, calls.iter().map(mixed_call)))
 }
 
-/// A state under words and a key of zeros, with a count of its phase: of data before the text, else of text.
-fn state(direction: Direction, set: u64, phase: Phase, limit: u64, count: u64) -> Stream {
-    let block = if set == 1 { 8 } else { 16 };
+/// A state under words of zeros, with a count of its phase: of data before the text, else of text. In sets 3 and 4, where it has not ended, no byte of its key is zero.
+fn state(direction: Direction, set: &Set, phase: Phase, limit: u64, count: u64) -> Stream {
     let (ad_count, text_count) = match phase {
         Phase::Data => (count, 0),
         _ => (0, count),
     };
-    Stream {
+    let mut stream = Stream {
         words: [0; 5],
-        set,
+        set: set.number,
         direction,
         phase,
         key: [0; 16],
         ad_count,
         text_count,
-        place: if phase == Phase::Ended {
-            0
-        } else {
-            count % block
-        },
+        place: 0,
         limit,
+    };
+    if phase != Phase::Ended {
+        stream.key = if set.number <= 2 { [0; 16] } else { [7; 16] };
+        stream.place = count % set.block as u64;
     }
+    stream
 }
 
 /// States with each limit and ten counts, in each phase, set and direction.
 fn states() -> Vec<String> {
     let mut lines = Vec::new();
     for (d, direction) in DIRECTIONS {
-        for (set, _) in SETS {
+        for set in &SETS {
             for (p, phase) in PHASES {
+                let number = set.number;
                 let counts = if phase == Phase::Data { DATA } else { TEXTS };
                 for limit in LIMITS {
                     let ten = counts
                         .map(|count| tried(direction, state(direction, set, phase, limit, count)))
                         .concat();
                     lines.push(format!(
-                        "states direction={d} set={set} phase={p} limit={limit}:{ten}\n"
+                        "states direction={d} set={number} phase={p} limit={limit}:{ten}\n"
                     ));
                 }
             }
@@ -268,7 +269,7 @@ fn states() -> Vec<String> {
 #[test]
 fn starts_walks_and_states_are_the_second_programs() {
     let (starts, walks, states) = (starts(), walks(), states());
-    assert_eq!([starts.len(), walks.len(), states.len()], [24, 200, 120]);
+    assert_eq!([starts.len(), walks.len(), states.len()], [40, 400, 240]);
     let all = [starts, walks, states].concat().concat();
     assert!(
         EXPECTED == all,

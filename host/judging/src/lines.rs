@@ -55,7 +55,7 @@ impl Lines {
         Lines::of(form, &record)
     }
 
-    /// Gives a short right record with no empty field; the sets take turns by the number.
+    /// Gives a short right record with no empty field; sets 1 and 2 take turns by the number.
     pub fn short(form: Form, number: usize) -> Lines {
         Lines::right(form, &SETS[number % 2], 3, 5)
     }

@@ -53,11 +53,17 @@ impl Logged {
 /// A call, and what it is handed.
 pub type Handed = (Call, Vec<u8>);
 
-/// Gives the start of a set.
+/// Gives the sets that a log has a start for: 1 and 2.
+pub fn startable() -> &'static [Set; 2] {
+    SETS.first_chunk().expect("there are sets 1 and 2")
+}
+
+/// Gives the start of one of these sets.
 pub fn start(set: &Set) -> Handed {
     let call = match set.number {
         1 => Call::Start1,
-        _ => Call::Start2,
+        2 => Call::Start2,
+        other => panic!("a log has no start for set {other}"),
     };
     handed(call, 2 * set.key)
 }
@@ -92,9 +98,9 @@ pub fn message(set: &Set, data: &[usize], pieces: &[usize]) -> Vec<Handed> {
     calls
 }
 
-/// Gives calls of both sets, some of which are refused: before a start, data behind text, behind the end.
+/// Gives calls of both such sets, some of which are refused: before a start, data behind text, behind the end.
 pub fn of_all_kinds() -> Vec<Handed> {
-    let [one, two] = &SETS;
+    let [one, two] = startable();
     vec![
         text(2),
         start(one),

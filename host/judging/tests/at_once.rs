@@ -20,12 +20,12 @@ const STEP: Duration = Duration::from_millis(1);
 /// Long enough for the program to print whatever it would print.
 const PAUSE: Duration = Duration::from_millis(60);
 
-/// Says that it is so for every line of both forms in both sets, broken in eight ways each; once for each line and set by the command, too.
+/// Says that it is so for every line of both forms in sets 1 and 2, whose keys are of each length, broken in eight ways each; once for each line and set by the command, too.
 #[test]
 fn a_record_is_reported_with_the_byte_that_decides_it() {
     let mut cases = Vec::new();
     for form in [One, Two] {
-        for set in &SETS {
+        for set in &SETS[..2] {
             for (turn, line) in form.lines().iter().enumerate() {
                 let lines = Lines::right(form, set, 3, 5).with_chip(65);
                 let broken = faults(&lines, *line).map(|there| lines.with_line(*line, there));
@@ -82,7 +82,7 @@ fn faults(lines: &Lines, line: Line) -> [Vec<u8>; 8] {
     let ended = |value: &[u8]| [label, value, b"\n"].concat();
     let [one, other] = match line {
         Line::Form => [ended(b"1"), ended(b"22")],
-        Line::Set => [ended(b"3"), ended(b"12")],
+        Line::Set => [ended(b"5"), ended(b"12")],
         Line::Chip => [ended(b"00"), ended(b"65536")],
         Line::Ad | Line::Text | Line::Cipher => [ended(&value[..1]), ended(&b"5a".repeat(257))],
         Line::Rounds => [ended(b"012"), ended(b"12345678")],

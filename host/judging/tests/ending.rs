@@ -39,7 +39,7 @@ fn the_line_comes_last() {
             ("none", Vec::new()),
             ("one", record()),
             ("many", many(300)),
-            ("unread", [many(20), b"set=3\n".to_vec()].concat()),
+            ("unread", [many(20), b"set=5\n".to_vec()].concat()),
             ("cut", record()[..100].to_vec()),
         ] {
             let (mut reader, writer) = pipe().expect("a pipe");

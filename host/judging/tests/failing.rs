@@ -117,7 +117,7 @@ fn a_full_disk_at_the_last_record() {
         for (name, record) in [
             ("last-equal", equal(1)),
             ("last-differs", differs.clone()),
-            ("last-unread", b"set=3\n".to_vec()),
+            ("last-unread", b"set=5\n".to_vec()),
         ] {
             let output = run(tried.start(), file_of(name, &record), full()).expect("it ends");
             broke_off(tried, Task::Judge, &output, "bench: writing failed");

@@ -2,10 +2,9 @@
 
 use judging::classes::many;
 use judging::end::Whole;
-use judging::log::message;
+use judging::log::{message, startable};
 use judging::program::{Task, Tried};
 use judging::session::Session;
-use second::cipher::SETS;
 use second::judge::judge_all;
 use second::replay::right_log;
 
@@ -51,14 +50,14 @@ fn it_does_not_grow() {
     assert!(session.close().as_bytes() == wanted, "the reports differ");
 }
 
-/// How many messages of each set the log has, and after how many the memory is first looked at; a pipe holds little more than one of each.
+/// How many messages of each set that a log can start it has, and after how many the memory is first looked at; a pipe holds little more than one of each.
 const MESSAGES: usize = 150;
 const FIRST_MESSAGES: usize = 5;
 
 /// Says that the program has as much memory after a log of more than 8,000,000 bytes as after the first of them, and tells that it agrees.
 #[test]
 fn a_replay_does_not_grow() {
-    let calls = SETS
+    let calls = startable()
         .each_ref()
         .map(|set| message(set, &[256; 10], &[256; 20]));
     let part = right_log(&calls.concat());

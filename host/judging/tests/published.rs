@@ -102,6 +102,45 @@ fn the_sample_for_other_sets() {
     assert_eq!(output.stdout, b"record=1\nverdict=unread\nfield=1\n");
 }
 
+/// Says that the published answers of v1.2 become records of their set, which are equal and become the file again, that no other set makes them equal, and that
+/// set 2, whose keys are shorter, refuses them.
+#[test]
+fn the_published_answers_of_v12() {
+    let mut ran = 0;
+    for (own, sample, entries) in [
+        ("3", "published-v12-128.txt", 4),
+        ("4", "published-v12-128a.txt", 1),
+    ] {
+        let file = format!("samples/{sample}");
+        for set in ["1", "3", "4"] {
+            let read = ends(bench("", &["import", set, &file]), Stdio::null(), 0);
+            let done = format!("bench: done: records={entries}\n");
+            assert_eq!(read.stderr, done.as_bytes());
+            let kept = || Stdio::from(file_of("published-v12", &read.stdout));
+            let (equal, status) = if set == own { (entries, 0) } else { (0, 1) };
+            let judged = ends(bench("", &[]), kept(), status);
+            let differ = entries - equal;
+            let counts =
+                format!("bench: {entries} records: {equal} equal, {differ} differ, 0 unread\n");
+            assert_eq!(judged.stderr, counts.as_bytes(), "{sample} as set {set}");
+            let again = ends(bench("", &["export"]), kept(), 0);
+            assert!(
+                again.stdout == named_sample(sample),
+                "{sample} as set {set}"
+            );
+            ran += 1;
+        }
+        let refused = ends(bench("", &["import", "2", &file]), Stdio::null(), 1);
+        let said = b"bench: refused: answer=10 record=1 line=2 column=31\n";
+        assert_eq!(
+            (&refused.stdout[..], &refused.stderr[..]),
+            (&b""[..], &said[..])
+        );
+        ran += 1;
+    }
+    assert_eq!(ran, 8);
+}
+
 /// Says that the sample of a test file with a letter for a digit is refused there, by line and column, and is the beginning of the other without it.
 #[test]
 fn the_broken_sample() {

@@ -45,7 +45,7 @@ fn all_is_the_same() {
     }
     let library = small_answers();
     let mut ran = 0;
-    let broken = [many(5), b"set=3\n".to_vec()].concat();
+    let broken = [many(5), b"set=5\n".to_vec()].concat();
     for (task, records) in [
         (Task::Judge, Vec::new()),
         (Task::Judge, many(20)),

@@ -1,10 +1,19 @@
-//! One round of Ascon v1 on 64 columns of five bits, and runs of rounds.
+//! One round of Ascon on 64 columns of five bits, and runs of rounds in both editions.
 
 /// The state as five words, x0 first.
 pub type Words = [u64; 5];
 
 /// The state as 64 columns; column `j` holds bit `j` of every word, counted from the lowest.
 pub type Columns = [u8; 64];
+
+/// The editions of the cipher, which share the round.
+#[derive(Clone, Copy, Debug, PartialEq, Eq)]
+pub enum Edition {
+    /// Ascon v1, as source document 004 prints it.
+    V1,
+    /// Ascon v1.2, as request W5 tells where it differs.
+    V1Dot2,
+}
 
 /// The constants of rounds 0 to 11, as the v1 document prints them.
 pub const CONSTANTS: [u64; 12] = [
@@ -20,9 +29,15 @@ pub const TABLE: [u8; 32] = [
 /// For each word, the two distances by which it is turned right.
 pub const TURNS: [[u32; 2]; 5] = [[19, 28], [61, 39], [1, 6], [10, 17], [7, 41]];
 
-/// Gives the constants of a run of `n` rounds (at most 12): in v1 the first `n`, from round 0 on.
-pub fn constants_of_run(n: usize) -> &'static [u64] {
-    &CONSTANTS[..n]
+/// Gives the constants of a run of `n` rounds (at most 12), in their order.
+///
+/// In v1 they are the first `n`, from round 0 on (004, table 2); "a run of n rounds takes the last n
+/// constants" in v1.2 (W5).
+pub fn constants_of_run(edition: Edition, n: usize) -> &'static [u64] {
+    match edition {
+        Edition::V1 => &CONSTANTS[..n],
+        Edition::V1Dot2 => &CONSTANTS[CONSTANTS.len() - n..],
+    }
 }
 
 /// Gives the value that a column of the given value (below 32) is replaced by.

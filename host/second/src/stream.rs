@@ -134,7 +134,7 @@ fn state_at_text(set: &Set, stream: &Stream) -> (State, usize) {
     }
     if stream.ad_count > 0 {
         state.combine(place, &[0x80]);
-        state.run(set.middle);
+        state.run(set.edition, set.middle);
     }
     state.combine(39, &[1]);
     (state, 0)
@@ -212,7 +212,7 @@ pub fn ad(stream: Stream, piece: &[u8]) -> Given {
     let (unfilled, filled) = blocks.split_last().expect("there is always a last block");
     for block in filled {
         state.combine(0, block);
-        state.run(set.middle);
+        state.run(set.edition, set.middle);
     }
     state.combine(0, unfilled);
 
@@ -244,7 +244,7 @@ pub fn seal(stream: Stream, piece: &[u8], out: &mut [u8]) -> Given {
     for block in filled {
         state.combine(0, block);
         cipher.extend(state.first(set.block));
-        state.run(set.middle);
+        state.run(set.edition, set.middle);
     }
     state.combine(0, unfilled);
     cipher.extend(state.first(unfilled.len()));
@@ -268,7 +268,7 @@ pub fn check(stream: Stream, piece: &[u8]) -> Given {
     let (unfilled, filled) = blocks.split_last().expect("there is always a last block");
     for block in filled {
         state.replace_front(block);
-        state.run(set.middle);
+        state.run(set.edition, set.middle);
     }
     state.replace_front(unfilled);
 

@@ -25,9 +25,14 @@ fn short_length(random: &mut Random) -> usize {
     random.below(MOST_SHORT + 1)
 }
 
+/// How many sets take turns.
+fn turns() -> u64 {
+    SETS.len() as u64
+}
+
 /// Gives the right record of the next pseudo-random message; the sets take turns by `index`.
 pub fn record(random: &mut Random, index: u64) -> Record {
-    let set = &SETS[(index % 2) as usize];
+    let set = &SETS[(index % turns()) as usize];
     record_with(random, set, |random| length(random, set.block))
 }
 
@@ -47,9 +52,9 @@ fn record_with(random: &mut Random, set: &Set, length: impl Fn(&mut Random) -> u
     right_record(set.number, &key, &nonce, &ad, &text).expect("the message has a right form")
 }
 
-/// Gives a chip: by `index` the least, the greatest, one of at most two digits and any in turn, twice each.
+/// Gives a chip: by `index` the least, the greatest, one of at most two digits and any in turn, each once a set.
 pub fn chip(random: &mut Random, index: u64) -> u64 {
-    match index / 2 % 4 {
+    match index / turns() % 4 {
         0 => 0,
         1 => MOST_CHIP,
         2 => random.below(100) as u64,

@@ -1,7 +1,7 @@
 //! Every answer of the whole-message calls, each fault alone, in pairs and in all mixtures.
 
 use second::calls::{open, seal, Answer};
-use second::cipher::{open_published, seal_published, set_of};
+use second::cipher::{open_published, seal_published, set_numbers, set_of, SETS};
 use second::formula::rounds_by_formula;
 
 /// The faults that a caller can bring; data and text past their limits are two.
@@ -82,7 +82,7 @@ fn other_length(bytes: &mut Vec<u8>, way: usize) {
 /// Puts a fault into the parts in the given way (all but the output, which comes last).
 fn put(parts: &mut Parts, fault: Fault, way: usize) {
     match fault {
-        Set => parts.set = [0, 3, 16, 1 << 32 | 1, u64::MAX][way],
+        Set => parts.set = [0, 5, 16, 1 << 32 | 3, u64::MAX][way],
         Key => other_length(&mut parts.key, way),
         Nonce => other_length(&mut parts.nonce, way),
         Tag => other_length(&mut parts.tag, way),
@@ -201,7 +201,7 @@ fn check_open(number: u64, faults: &[(Fault, usize)]) {
 #[test]
 fn each_fault_alone() {
     let mut ran = 0;
-    for number in [1, 2] {
+    for number in set_numbers() {
         check_seal(number, &[]);
         check_open(number, &[]);
         ran += 2;
@@ -213,14 +213,14 @@ fn each_fault_alone() {
             }
         }
     }
-    assert_eq!(ran, 2 * 2 * (1 + 4 * 5 + 4 * 2));
+    assert_eq!(ran, SETS.len() * 2 * (1 + 4 * 5 + 4 * 2));
 }
 
 /// Says that of each pair of faults, in all their ways, the earlier test is answered.
 #[test]
 fn each_pair_of_faults() {
     let (mut pairs, mut ran) = (0, 0);
-    for number in [1, 2] {
+    for number in set_numbers() {
         for (place, first) in ALL.into_iter().enumerate() {
             for second in ALL.into_iter().skip(place + 1) {
                 pairs += 1;
@@ -233,15 +233,16 @@ fn each_pair_of_faults() {
             }
         }
     }
-    // Ways: 5 × 5 in 6 pairs, 5 × 2 in 16 pairs, 2 × 2 in 6 pairs.
-    assert_eq!((pairs, ran), (2 * 28, 2 * 2 * (6 * 25 + 16 * 10 + 6 * 4)));
+    // 5 × 5 ways in 6 pairs, 5 × 2 in 16 pairs, 2 × 2 in 6 pairs.
+    let ways = 6 * 25 + 16 * 10 + 6 * 4;
+    assert_eq!((pairs, ran), (SETS.len() * 28, SETS.len() * 2 * ways));
 }
 
 /// Says that every mixture of faults is answered with the earliest test that holds.
 #[test]
 fn every_mixture_of_faults() {
     let mut ran = 0;
-    for number in [1, 2] {
+    for number in set_numbers() {
         for mixture in 0..256 {
             let chosen = ALL
                 .iter()
@@ -253,44 +254,57 @@ fn every_mixture_of_faults() {
             ran += 2;
         }
     }
-    assert_eq!(ran, 2 * 2 * 256);
+    assert_eq!(ran, SETS.len() * 2 * 256);
 }
 
-/// Says that the parts of one set under the other set's number are refused with 2.
+/// Says that the parts of one set under another set's number are refused with 2, or with 9 if their lengths fit.
 #[test]
-fn the_other_set_is_a_wrong_key_length() {
-    let mut ran = 0;
-    for number in [1, 2] {
-        let mut parts = faulty(number, &[]);
-        parts.set = 3 - number;
-        let before = parts.clone();
-        let answer = seal(
-            parts.set,
-            &parts.key,
-            &parts.nonce,
-            &parts.ad,
-            &parts.body,
-            &mut parts.out,
-            &mut parts.tag,
-        );
-        assert_eq!(
-            answer,
-            Answer {
-                number: 2,
-                rounds: 0
+fn the_parts_of_another_set() {
+    let (mut lengths, mut tags) = (0, 0);
+    for own in &SETS {
+        for other in SETS.iter().filter(|other| other.number != own.number) {
+            let parts = faulty(own.number, &[]);
+            let mut out = parts.out.clone();
+            let given = open(
+                other.number,
+                &parts.key,
+                &parts.nonce,
+                &parts.ad,
+                &parts.body,
+                &parts.tag,
+                &mut out,
+            );
+            if own.key == other.key {
+                assert_eq!(given.number, 9);
+                tags += 1;
+                continue;
             }
-        );
-        assert!(parts.out == before.out && parts.tag == before.tag);
-        ran += 1;
+            let (number, rounds) = (2, 0);
+            assert_eq!(given, Answer { number, rounds });
+            let mut tag = parts.tag.clone();
+            let given = seal(
+                other.number,
+                &parts.key,
+                &parts.nonce,
+                &parts.ad,
+                &parts.body,
+                &mut out,
+                &mut tag,
+            );
+            assert_eq!(given, Answer { number, rounds });
+            assert!(out == parts.out && tag == parts.tag);
+            lengths += 1;
+        }
     }
-    assert_eq!(ran, 2);
+    // Set 2 beside each of the three others, either way; and those three beside one another.
+    assert_eq!((lengths, tags), (6, 6));
 }
 
 /// Says that an empty message needs no output byte and touches none.
 #[test]
 fn empty_message_and_empty_output() {
     let mut ran = 0;
-    for number in [1, 2] {
+    for number in set_numbers() {
         let set = set_of(number).expect("a known set");
         let key = vec![3; set.key];
         for spare in [0, 5] {
@@ -312,5 +326,5 @@ fn empty_message_and_empty_output() {
             ran += 1;
         }
     }
-    assert_eq!(ran, 4);
+    assert_eq!(ran, SETS.len() * 2);
 }

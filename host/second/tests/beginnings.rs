@@ -3,8 +3,9 @@
 mod forms;
 
 use forms::{
-    each_change, each_short_value, in_form_2, place_of, text_of, Forms, FORMS, SET_1, SET_2,
+    each_change, each_short_value, in_form_2, place_of, text_of, Forms, FORMS, RECORDS, SET_2,
 };
+use second::cipher::SETS;
 use second::make::lines_of;
 use second::random::Random;
 use second::record::{may_begin, may_begin_in, read, Form};
@@ -51,7 +52,7 @@ fn check_beginnings(text: &[u8]) -> usize {
 /// Says what is told in cases small enough to be read off.
 #[test]
 fn cases_written_down() {
-    let good: [&[u8]; 20] = [
+    let good: [&[u8]; 24] = [
         b"",
         b"s",
         b"se",
@@ -59,8 +60,12 @@ fn cases_written_down() {
         b"set=",
         b"set=1",
         b"set=2",
+        b"set=3",
+        b"set=4",
         b"set=1\n",
         b"set=2\n",
+        b"set=3\nkey=000102030405060708090a0b0c0d0e0f\n",
+        b"set=4\nkey=000102030405060708090a0b0c0d0e0f\n",
         b"set=1\nk",
         b"set=1\nkey=",
         b"set=1\nkey=0",
@@ -73,7 +78,7 @@ fn cases_written_down() {
         b"set=1\nkey=000102030405060708090a0b0c0d0e0f",
         b"set=1\nkey=000102030405060708090a0b0c0d0e0f\n",
     ];
-    let bad: [&[u8]; 22] = [
+    let bad: [&[u8]; 26] = [
         b"\n",
         b" ",
         b"\xff",
@@ -83,8 +88,12 @@ fn cases_written_down() {
         b"set\n",
         b"set=\n",
         b"set=0",
-        b"set=3",
+        b"set=5",
         b"set=11",
+        b"set=33",
+        b"set=41",
+        b"set=3\nkey=000102030405060708090a0b\n",
+        b"set=4\nkey=000102030405060708090a0b0c0d0e0f0",
         b"set=1 ",
         b"set=1\r",
         b"set=1\n\n",
@@ -97,8 +106,8 @@ fn cases_written_down() {
         b"set=2\nkey=000102030405060708090a0b0",
         b"set=1\nkey=000102030405060708090a0b0c0d0e0f0",
     ];
-    assert_eq!(good.iter().filter(|text| may_begin(text)).count(), 20);
-    assert_eq!(bad.iter().filter(|text| !may_begin(text)).count(), 22);
+    assert_eq!(good.iter().filter(|text| may_begin(text)).count(), 24);
+    assert_eq!(bad.iter().filter(|text| !may_begin(text)).count(), 26);
 }
 
 /// Says what is told of the front of form 2 in cases small enough to be read off.
@@ -146,7 +155,7 @@ fn cases_of_form_2_written_down() {
         b"form=2\nform=2",
         b"form=2\nchip",
         b"form=2\nkey",
-        b"form=2\nset=3",
+        b"form=2\nset=5",
         b"form=2\nset=1\nk",
         b"form=2\nset=1\nkey=00",
         b"form=2\nset=1\nchip=\n",
@@ -218,7 +227,7 @@ fn last_lines_written_down() {
         (8, b"rounds=3\ns"),
     ];
     let mut ran = 0;
-    for record in [SET_1, SET_2] {
+    for record in RECORDS {
         let one = |number: usize, last: &[u8]| [&text_of(&record[..number - 1]), last].concat();
         let lines = in_form_2(&record);
         let two = |number: usize, last: &[u8]| [&text_of(&lines[..number + 1]), last].concat();
@@ -233,7 +242,7 @@ fn last_lines_written_down() {
             ran += 1;
         }
     }
-    assert_eq!(ran, 2 * 44);
+    assert_eq!(ran, SETS.len() * 44);
 }
 
 /// Says that a field may go on up to 512 digits and not beyond, and end only after whole bytes.
@@ -292,7 +301,7 @@ fn every_change_of_one_byte() {
             ran += 2;
         });
     }
-    assert_eq!(ran, (163 + 139 + 180 + 156) * 256 * 2);
+    assert_eq!(ran, (3 * 163 + 139 + 3 * 180 + 156) * 256 * 2);
 }
 
 /// Says that search and reading agree for all short values of each line, ended or not.
@@ -306,7 +315,7 @@ fn all_short_values() {
             ran += 1;
         });
     }
-    assert_eq!(ran, 2 * (8 + 10) * (1 + 12 + 144 + 1_728) * 3);
+    assert_eq!(ran, SETS.len() * (8 + 10) * (1 + 12 + 144 + 1_728) * 3);
 }
 
 /// Says that reading agrees at every length of records with bytes changed, lost and put in.

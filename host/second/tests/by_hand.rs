@@ -1,6 +1,6 @@
 //! Whole messages worked out word by word, with every constant written out here.
 
-use second::cipher::{open_published, padded_data, padded_text, seal_published, set_of};
+use second::cipher::{open_published, padded_data, padded_text, seal_published, set_of, SETS};
 use second::permutation::run;
 
 const SIX: [u64; 6] = [0xf0, 0xe1, 0xd2, 0xc3, 0xb4, 0xa5];
@@ -16,11 +16,11 @@ fn bytes(words: &[u64]) -> Vec<u8> {
     words.iter().flat_map(|word| word.to_be_bytes()).collect()
 }
 
-/// Gives cipher and tag of set 1 with 9 bytes of data and 11 of text, worked out on words.
-fn set_1_by_hand(middle: &[u64]) -> (Vec<u8>, Vec<u8>) {
+/// Gives cipher and tag of set 1 or 3 with 9 bytes of data and 11 of text, worked out on words.
+fn blocks_of_8_by_hand(first: u64, middle: &[u64]) -> (Vec<u8>, Vec<u8>) {
     let (k0, k1) = (0x0001020304050607, 0x08090a0b0c0d0e0f);
     let (n0, n1) = (0x1011121314151617, 0x18191a1b1c1d1e1f);
-    let mut x = run([0x800c060000000000, k0, k1, n0, n1], &TWELVE);
+    let mut x = run([first, k0, k1, n0, n1], &TWELVE);
     x[3] ^= k0;
     x[4] ^= k1;
     x[0] ^= 0x2021222324252627;
@@ -73,11 +73,41 @@ fn set_2_by_hand(middle: &[u64]) -> (Vec<u8>, Vec<u8>) {
     (cipher, tag[4..].to_vec())
 }
 
-/// Gives cipher and tag of a message of nothing at all in set 1, worked out on words.
-fn nothing_by_hand() -> (Vec<u8>, Vec<u8>) {
+/// Gives cipher and tag of set 4 with 16 bytes of data and 37 of text, worked out on words.
+fn set_4_by_hand(middle: &[u64]) -> (Vec<u8>, Vec<u8>) {
     let (k0, k1) = (0x0001020304050607, 0x08090a0b0c0d0e0f);
     let (n0, n1) = (0x1011121314151617, 0x18191a1b1c1d1e1f);
-    let mut x = run([0x800c060000000000, k0, k1, n0, n1], &TWELVE);
+    let mut x = run([0x80800c0800000000, k0, k1, n0, n1], &TWELVE);
+    x[3] ^= k0;
+    x[4] ^= k1;
+    x[0] ^= 0x2021222324252627;
+    x[1] ^= 0x28292a2b2c2d2e2f;
+    x = run(x, middle);
+    x[0] ^= 0x8000000000000000;
+    x = run(x, middle);
+    x[4] ^= 1;
+    x[0] ^= 0x3031323334353637;
+    x[1] ^= 0x38393a3b3c3d3e3f;
+    let mut cipher = bytes(&x[..2]);
+    x = run(x, middle);
+    x[0] ^= 0x4041424344454647;
+    x[1] ^= 0x48494a4b4c4d4e4f;
+    cipher.extend(bytes(&x[..2]));
+    x = run(x, middle);
+    x[0] ^= 0x5051525354800000;
+    cipher.extend(&bytes(&x[..2])[..5]);
+    // The key lies behind the block of two words, and the tail of the last word stays as it is.
+    x[2] ^= k0;
+    x[3] ^= k1;
+    x = run(x, &TWELVE);
+    (cipher, bytes(&[x[3] ^ k0, x[4] ^ k1]))
+}
+
+/// Gives cipher and tag of a message of nothing at all in a set with blocks of 8, worked out on words.
+fn nothing_by_hand(first: u64) -> (Vec<u8>, Vec<u8>) {
+    let (k0, k1) = (0x0001020304050607, 0x08090a0b0c0d0e0f);
+    let (n0, n1) = (0x1011121314151617, 0x18191a1b1c1d1e1f);
+    let mut x = run([first, k0, k1, n0, n1], &TWELVE);
     x[3] ^= k0;
     x[4] ^= k1 ^ 1;
     x[0] ^= 0x8000000000000000;
@@ -92,13 +122,24 @@ fn counting(first: u8, count: u8) -> Vec<u8> {
     (first..first + count).collect()
 }
 
-/// Says that sealing and opening agree with the three messages worked out here.
+/// The first word of set 1, as the rules print it.
+const FIRST_1: u64 = 0x800c060000000000;
+
+/// The first word of set 3, as W5 prints it.
+const FIRST_3: u64 = 0x80400c0600000000;
+
+/// Says that sealing and opening agree with the messages worked out here.
 #[test]
 fn sealing_is_what_the_hand_gives() {
+    let set_1 = blocks_of_8_by_hand(FIRST_1, &SIX);
+    let set_3 = blocks_of_8_by_hand(FIRST_3, &LAST_SIX);
     let cases = [
-        (1, 9, counting(0x30, 11), set_1_by_hand(&SIX), 42),
+        (1, 9, counting(0x30, 11), set_1, 42),
         (2, 16, counting(0x30, 32), set_2_by_hand(&EIGHT), 56),
-        (1, 0, Vec::new(), nothing_by_hand(), 24),
+        (3, 9, counting(0x30, 11), set_3, 42),
+        (4, 16, counting(0x30, 37), set_4_by_hand(&LAST_EIGHT), 56),
+        (1, 0, Vec::new(), nothing_by_hand(FIRST_1), 24),
+        (3, 0, Vec::new(), nothing_by_hand(FIRST_3), 24),
     ];
     let mut ran = 0;
     for (number, ad, text, (cipher, tag), rounds) in cases {
@@ -115,22 +156,27 @@ fn sealing_is_what_the_hand_gives() {
         assert_eq!(opened.rounds, rounds);
         ran += 1;
     }
-    assert_eq!(ran, 3);
+    assert_eq!(ran, 6);
 }
 
-/// Says that the cases above would notice middle rounds with the last constants.
+/// Says that the cases above would notice middle rounds with the constants of the other edition.
 #[test]
 fn other_constants_would_be_noticed() {
-    assert_ne!(set_1_by_hand(&SIX), set_1_by_hand(&LAST_SIX));
+    for first in [FIRST_1, FIRST_3] {
+        assert_ne!(
+            blocks_of_8_by_hand(first, &SIX),
+            blocks_of_8_by_hand(first, &LAST_SIX)
+        );
+    }
     assert_ne!(set_2_by_hand(&EIGHT), set_2_by_hand(&LAST_EIGHT));
+    assert_ne!(set_4_by_hand(&EIGHT), set_4_by_hand(&LAST_EIGHT));
 }
 
 /// Says that padded blocks are right in number, length and content for all small lengths.
 #[test]
 fn padded_blocks() {
     let mut ran = 0;
-    for number in [1, 2] {
-        let set = set_of(number).expect("a known set");
+    for set in &SETS {
         for length in 0..=100 {
             let bytes = counting(1, length);
             let length = usize::from(length);
@@ -146,5 +192,5 @@ fn padded_blocks() {
             ran += 1;
         }
     }
-    assert_eq!(ran, 202);
+    assert_eq!(ran, SETS.len() * 101);
 }

@@ -31,6 +31,9 @@ fn refused(call: Call, data: &[u8], answer: u64) -> Entry {
     }
 }
 
+/// The sets of which logs have a start: W12 names no others, and W5 adds none.
+const LOGGED: [u64; 2] = [1, 2];
+
 /// Gives the start of the set.
 fn start_of(set: u64) -> Call {
     match set {
@@ -132,7 +135,7 @@ fn cut<'a>(random: &mut Random, set: &Set, bytes: &'a [u8], way: usize) -> Vec<&
 fn cut_messages() {
     let mut random = Random::new(81);
     let mut ran = 0;
-    for number in [1, 2] {
+    for number in LOGGED {
         let b = set_of(number).expect("a known set").block;
         let edges = [0, 1, b - 1, b, b + 1, 3 * b];
         for pair in 0..36 {
@@ -160,7 +163,7 @@ fn cut_messages() {
 fn the_longest_pieces() {
     let mut random = Random::new(82);
     let mut ran = 0;
-    for number in [1, 2] {
+    for number in LOGGED {
         for length in [255, 256] {
             let m = message(&mut random, number, length, length);
             check_agree(&entries_of(&m, &[&m.ad], &[&m.text]));
@@ -207,7 +210,7 @@ fn refusals(entries: &[Entry], place: usize) -> Vec<Entry> {
 fn refused_calls_leave_the_state() {
     let mut random = Random::new(83);
     let mut ran = 0;
-    for set in [1, 2] {
+    for set in LOGGED {
         let entries = sample(&mut random, set);
         let mut with_all = Vec::new();
         for place in 0..=entries.len() {
@@ -252,7 +255,7 @@ fn refused_calls_leave_the_state() {
 fn finishing_twice() {
     let mut random = Random::new(84);
     let mut ran = 0;
-    for set in [1, 2] {
+    for set in LOGGED {
         for ad in [0, 5, 16, 20] {
             let m = message(&mut random, set, ad, 0);
             let mut entries = entries_of(&m, &[&m.ad], &[]);
@@ -273,8 +276,8 @@ fn finishing_twice() {
 fn restarts() {
     let mut random = Random::new(85);
     let mut ran = 0;
-    for first in [1, 2] {
-        for second in [1, 2] {
+    for first in LOGGED {
+        for second in LOGGED {
             let (one, other) = (sample(&mut random, first), sample(&mut random, second));
             for place in 0..=one.len() {
                 let entries = [&one[..place], &other, &one, &other[..1]].concat();
@@ -309,7 +312,7 @@ fn restarts_without_their_start() {
 fn the_limit_of_data() {
     let mut random = Random::new(87);
     let mut ran = 0;
-    for set in [1, 2] {
+    for set in LOGGED {
         let m = message(&mut random, set, 65_536, 20);
         let data: Vec<&[u8]> = m.ad.chunks(256).collect();
         let right = entries_of(&m, &data, &[&m.text]);
@@ -340,7 +343,7 @@ fn the_limit_of_data() {
 #[test]
 fn one_byte_below_the_limit_of_data() {
     let mut random = Random::new(88);
-    for set in [1, 2] {
+    for set in LOGGED {
         let m = message(&mut random, set, 65_536, 3);
         let (most, last) = m.ad.split_at(65_535);
         let mut data: Vec<&[u8]> = most.chunks(256).collect();
@@ -359,7 +362,7 @@ fn one_byte_below_the_limit_of_data() {
 #[test]
 fn the_limit_of_text() {
     let mut random = Random::new(89);
-    for set in [1, 2] {
+    for set in LOGGED {
         let m = message(&mut random, set, 10, 1_048_576);
         let (most, last) = m.text.split_at(1_048_575);
         let mut pieces: Vec<&[u8]> = most.chunks(256).collect();
@@ -399,7 +402,7 @@ fn the_limit_of_text() {
 fn outs_of_calls_that_have_none() {
     let mut random = Random::new(90);
     let mut ran = 0;
-    for set in [1, 2] {
+    for set in LOGGED {
         let right = sample(&mut random, set);
         for (place, entry) in right.iter().enumerate() {
             if !entry.out.is_empty() {

@@ -4,8 +4,9 @@ mod forms;
 
 use forms::{
     count_of_lines, each_change, each_short_value, in_form_2, label_of, place_of, records_in,
-    text_of, Forms, FORMS, SET_1, SET_2,
+    text_of, Forms, FORMS, RECORDS, SET_1, SET_2,
 };
+use second::cipher::SETS;
 use second::record::{read, Broken, Form};
 
 /// A broken line and the column of its fault.
@@ -34,7 +35,7 @@ fn check_lines(form: Form, lines: &[&[u8]], number: usize, rows: &[Row]) -> usiz
             b"\n",
             &[b"\n", &after[..]].concat(),
             b"\n\xff\n\n",
-            b"\nset=3\n",
+            b"\nset=5\n",
         ] {
             let text = [&before, *broken, rest].concat();
             check_in(form, &text, number as u64, *column);
@@ -53,26 +54,41 @@ fn check_rows(record: &[&[u8]; 8], number: usize, rows: &[Row]) -> usize {
     ran
 }
 
-/// Checks the rows in both sets, and gives how many texts it read in each form.
-fn check_in_both_sets(number: usize, rows: &[Row]) -> usize {
-    check_rows(&SET_1, number, rows) + check_rows(&SET_2, number, rows)
+/// Checks the rows in all sets, and gives how many texts it read in each form.
+fn check_in_all_sets(number: usize, rows: &[Row]) -> usize {
+    RECORDS
+        .map(|record| check_rows(&record, number, rows))
+        .iter()
+        .sum()
 }
 
-/// Says that the two records from which all others are made are right.
+/// Checks the rows in the sets with keys of 16 bytes, and gives how many texts it read in each.
+fn check_long_keys(number: usize, rows: &[Row]) -> usize {
+    let [one, _, three, four] = RECORDS.map(|record| move || check_rows(&record, number, rows));
+    let ran = one();
+    assert_eq!((three(), four()), (ran, ran));
+    ran
+}
+
+/// Says that the records from which all others are made are right.
 #[test]
 fn the_right_records() {
-    let (one, two) = (text_of(&SET_1), text_of(&SET_2));
+    let [one, two, three, four] = RECORDS.map(|record| text_of(&record));
     // The lengths of the lines and the eight line feeds.
     assert_eq!(one.len(), 5 + 36 + 38 + 7 + 11 + 13 + 36 + 9 + 8);
     assert_eq!(two.len(), 5 + 28 + 30 + 7 + 11 + 13 + 28 + 9 + 8);
     assert_eq!(read(Form::One, &one).map(|(_, taken)| taken), Ok(163));
     assert_eq!(read(Form::One, &two).map(|(_, taken)| taken), Ok(139));
+    for (text, set) in [(one, 1), (two, 2), (three, 3), (four, 4)] {
+        let record = read(Form::One, &text).map(|(record, _)| record.set);
+        assert_eq!(record, Ok(set));
+    }
 }
 
 /// Says where the set line breaks.
 #[test]
 fn the_set_line() {
-    let rows: [Row; 68] = [
+    let rows: [Row; 75] = [
         (b"", 1),
         (b"1", 1),
         (b"=1", 1),
@@ -108,9 +124,11 @@ fn the_set_line() {
         (b"set\r=1", 4),
         (b"set=", 5),
         (b"set=0", 5),
-        (b"set=3", 5),
-        (b"set=4", 5),
+        (b"set=5", 5),
+        (b"set=6", 5),
         (b"set=9", 5),
+        (b"set=03", 5),
+        (b"set=53", 5),
         (b"set=01", 5),
         (b"set=02", 5),
         (b"set=a", 5),
@@ -132,6 +150,11 @@ fn the_set_line() {
         (b"set=11", 6),
         (b"set=22", 6),
         (b"set=10", 6),
+        (b"set=13", 6),
+        (b"set=34", 6),
+        (b"set=40", 6),
+        (b"set=3 ", 6),
+        (b"set=4294967299", 6),
         (b"set=1 ", 6),
         (b"set=1\t", 6),
         (b"set=2\r", 6),
@@ -142,7 +165,7 @@ fn the_set_line() {
         (b"set=2key=000102030405060708090a0b", 6),
         (b"set=1 # the first", 6),
     ];
-    assert_eq!(check_in_both_sets(1, &rows), 2 * 68 * 5);
+    assert_eq!(check_in_all_sets(1, &rows), SETS.len() * 75 * 5);
 }
 
 /// Says where the name of the key line breaks.
@@ -174,7 +197,7 @@ fn the_name_of_the_key_line() {
         (b"keys=00", 4),
         (b"key\t=00", 4),
     ];
-    assert_eq!(check_in_both_sets(2, &rows), 2 * 24 * 5);
+    assert_eq!(check_in_all_sets(2, &rows), SETS.len() * 24 * 5);
 }
 
 /// Says where the first digits of a key break.
@@ -219,12 +242,12 @@ fn the_first_digits_of_the_key() {
         (b"key=00A1", 7),
         (b"key=000", 8),
     ];
-    assert_eq!(check_in_both_sets(2, &rows), 2 * 37 * 5);
+    assert_eq!(check_in_all_sets(2, &rows), SETS.len() * 37 * 5);
 }
 
-/// Says where the last digits and the end of a key of set 1 break.
+/// Says where the last digits and the end of a key of 16 bytes break.
 #[test]
-fn the_end_of_the_key_in_set_1() {
+fn the_end_of_a_long_key() {
     let rows: [Row; 27] = [
         // The length that is right in set 2.
         (b"key=000102030405060708090a0b", 29),
@@ -256,12 +279,12 @@ fn the_end_of_the_key_in_set_1() {
         (b"key=0001020304050607X8090a0b0c0d0e0f00", 21),
         (b"key=000102030405060708090a0b0c0d0e0f0g", 37),
     ];
-    assert_eq!(check_rows(&SET_1, 2, &rows), 27 * 5);
+    assert_eq!(check_long_keys(2, &rows), 27 * 5);
 }
 
-/// Says where the last digits and the end of a key of set 2 break.
+/// Says where the last digits and the end of a key of 12 bytes break.
 #[test]
-fn the_end_of_the_key_in_set_2() {
+fn the_end_of_a_short_key() {
     let rows: [Row; 23] = [
         (b"key=000102030405060708090a", 27),
         (b"key=000102030405060708090ag", 27),
@@ -274,7 +297,7 @@ fn the_end_of_the_key_in_set_2() {
         (b"key=000102030405060708090a0b0", 29),
         (b"key=000102030405060708090a0b0c", 29),
         (b"key=000102030405060708090a0b0c0d0e0", 29),
-        // The length that is right in set 1.
+        // The length that is right in the other sets.
         (b"key=000102030405060708090a0b0c0d0e0f", 29),
         (b"key=000102030405060708090a0b0c0d0e0f\r", 29),
         (b"key=000102030405060708090a0b0c0d0e0f00", 29),
@@ -340,13 +363,13 @@ fn the_nonce_line() {
         (b"nonce=10:11", 9),
         (b"nonce=10A1", 9),
     ];
-    assert_eq!(check_in_both_sets(3, &rows), 2 * 44 * 5);
+    assert_eq!(check_in_all_sets(3, &rows), SETS.len() * 44 * 5);
 }
 
 /// Says where the last digits and the end of the nonce break in each set.
 #[test]
 fn the_end_of_the_nonce() {
-    let in_set_1: [Row; 14] = [
+    let long: [Row; 14] = [
         (b"nonce=101112131415161718191a1b", 31),
         (b"nonce=101112131415161718191a1b1c1d1e", 37),
         (b"nonce=101112131415161718191a1b1c1d1eg0", 37),
@@ -362,7 +385,7 @@ fn the_end_of_the_nonce() {
         (b"nonce=101112131415161718191a1b1c1d1e1f\0", 39),
         (b"nonce=101112131415161718191a1b1c1d1e1fad=a0", 39),
     ];
-    let in_set_2: [Row; 13] = [
+    let short: [Row; 13] = [
         (b"nonce=101112131415161718191a", 29),
         (b"nonce=101112131415161718191ag0", 29),
         (b"nonce=101112131415161718191a1", 30),
@@ -377,8 +400,8 @@ fn the_end_of_the_nonce() {
         (b"nonce=101112131415161718191a1b\0", 31),
         (b"nonce=101112131415161718191a1bad=a0", 31),
     ];
-    assert_eq!(check_rows(&SET_1, 3, &in_set_1), 14 * 5);
-    assert_eq!(check_rows(&SET_2, 3, &in_set_2), 13 * 5);
+    assert_eq!(check_long_keys(3, &long), 14 * 5);
+    assert_eq!(check_rows(&SET_2, 3, &short), 13 * 5);
 }
 
 /// Says where the ad line breaks.
@@ -439,7 +462,7 @@ fn the_ad_line() {
         (b"ad=a0a1a", 9),
         (b"ad=a0a1a2a3a4a5a6a7a8a9aaabacadaeafXX", 36),
     ];
-    assert_eq!(check_in_both_sets(4, &rows), 2 * 53 * 5);
+    assert_eq!(check_in_all_sets(4, &rows), SETS.len() * 53 * 5);
 }
 
 /// Says where the text line breaks.
@@ -495,7 +518,7 @@ fn the_text_line() {
         (b"text=b0b1b2\t", 12),
         (b"text=b0b1b2b", 13),
     ];
-    assert_eq!(check_in_both_sets(5, &rows), 2 * 47 * 5);
+    assert_eq!(check_in_all_sets(5, &rows), SETS.len() * 47 * 5);
 }
 
 /// Says where the cipher line breaks.
@@ -549,7 +572,7 @@ fn the_cipher_line() {
         (b"cipher=c0c", 11),
         (b"cipher=c0c1c2tag=f0", 14),
     ];
-    assert_eq!(check_in_both_sets(6, &rows), 2 * 46 * 5);
+    assert_eq!(check_in_all_sets(6, &rows), SETS.len() * 46 * 5);
 }
 
 /// Says where the tag line breaks in either set.
@@ -590,13 +613,13 @@ fn the_tag_line() {
         (b"tag=f0", 7),
         (b"tag=f0 e0", 7),
     ];
-    assert_eq!(check_in_both_sets(7, &rows), 2 * 33 * 5);
+    assert_eq!(check_in_all_sets(7, &rows), SETS.len() * 33 * 5);
 }
 
 /// Says where the last digits and the end of the tag break in each set.
 #[test]
 fn the_end_of_the_tag() {
-    let in_set_1: [Row; 13] = [
+    let long: [Row; 13] = [
         (b"tag=f0e0d0c0b0a0908070605040", 29),
         (b"tag=f0e0d0c0b0a0908070605040302010", 35),
         (b"tag=f0e0d0c0b0a0908070605040302010g0", 35),
@@ -611,7 +634,7 @@ fn the_end_of_the_tag() {
         (b"tag=f0e0d0c0b0a090807060504030201000\0", 37),
         (b"tag=f0e0d0c0b0a090807060504030201000rounds=30", 37),
     ];
-    let in_set_2: [Row; 11] = [
+    let short: [Row; 11] = [
         (b"tag=f0e0d0c0b0a09080706050", 27),
         (b"tag=f0e0d0c0b0a09080706050g0", 27),
         (b"tag=f0e0d0c0b0a090807060504", 28),
@@ -624,8 +647,8 @@ fn the_end_of_the_tag() {
         (b"tag=f0e0d0c0b0a0908070605040\r", 29),
         (b"tag=f0e0d0c0b0a0908070605040rounds=30", 29),
     ];
-    assert_eq!(check_rows(&SET_1, 7, &in_set_1), 13 * 5);
-    assert_eq!(check_rows(&SET_2, 7, &in_set_2), 11 * 5);
+    assert_eq!(check_long_keys(7, &long), 13 * 5);
+    assert_eq!(check_rows(&SET_2, 7, &short), 11 * 5);
 }
 
 /// Says where the rounds line breaks.
@@ -712,7 +735,7 @@ fn the_rounds_line() {
         (b"rounds=12345678a", 15),
         (b"rounds=123456789012345678901234567890", 15),
     ];
-    assert_eq!(check_in_both_sets(8, &rows), 2 * 78 * 5);
+    assert_eq!(check_in_all_sets(8, &rows), SETS.len() * 78 * 5);
 }
 
 /// Says where a field of 256 bytes or nearly so breaks.
@@ -745,10 +768,10 @@ fn the_most_bytes() {
             (509, "", column - 3),
         ] {
             let broken = line(digits, end);
-            ran += check_in_both_sets(number, &[(broken.as_bytes(), column)]);
+            ran += check_in_all_sets(number, &[(broken.as_bytes(), column)]);
         }
         // With all 512 digits the line is right, and so is the record.
-        for record in [SET_1, SET_2] {
+        for record in RECORDS {
             let full = line(512, "");
             let mut lines = record;
             lines[number - 1] = full.as_bytes();
@@ -764,14 +787,14 @@ fn the_most_bytes() {
             ran += 2;
         }
     }
-    assert_eq!(ran, 3 * (20 * 2 * 5 + 2 * 2));
+    assert_eq!(ran, 3 * SETS.len() * (20 * 5 + 2));
 }
 
 /// Says that a wrong character at any place of any line is told at its column.
 #[test]
 fn every_place_of_every_line() {
     let mut ran = 0;
-    for record in [SET_1, SET_2] {
+    for record in RECORDS {
         for (line, number) in record.iter().zip(1..) {
             for column in 1..=line.len() {
                 for wrong in b"XG~ \t\r\0\x80\xff/:`@-" {
@@ -782,15 +805,15 @@ fn every_place_of_every_line() {
             }
         }
     }
-    // The lengths of the lines of both records.
-    assert_eq!(ran, (155 + 131) * 14 * 5);
+    // The lengths of the lines of the records.
+    assert_eq!(ran, (155 + 131 + 155 + 155) * 14 * 5);
 }
 
 /// Says that a wrong character put in at any place of any line, or at its end, is told there.
 #[test]
 fn put_in_at_every_place_of_every_line() {
     let mut ran = 0;
-    for record in [SET_1, SET_2] {
+    for record in RECORDS {
         for (line, number) in record.iter().zip(1..) {
             for column in 1..=line.len() + 1 {
                 for wrong in b"XG \t\r\0\xff" {
@@ -801,17 +824,17 @@ fn put_in_at_every_place_of_every_line() {
             }
         }
     }
-    // The lengths of the lines of both records, and the end of each line.
-    assert_eq!(ran, (155 + 8 + 131 + 8) * 7 * 5);
+    // The lengths of the lines of the records, and the end of each line.
+    assert_eq!(ran, (163 + 139 + 163 + 163) * 7 * 5);
 }
 
 /// Says that an input that ends at any place is broken one past its last character.
 #[test]
 fn the_input_ends_at_every_place() {
     let mut ran = 0;
-    let in_set_1 = [5, 36, 38, 7, 11, 13, 36, 9];
-    let in_set_2 = [5, 28, 30, 7, 11, 13, 28, 9];
-    for (record, lengths) in [(SET_1, in_set_1), (SET_2, in_set_2)] {
+    let long = [5, 36, 38, 7, 11, 13, 36, 9];
+    let short = [5, 28, 30, 7, 11, 13, 28, 9];
+    for (record, lengths) in RECORDS.into_iter().zip([long, short, long, long]) {
         let text = text_of(&record);
         let mut end = 0;
         for (length, line) in lengths.into_iter().zip(1..) {
@@ -824,14 +847,14 @@ fn the_input_ends_at_every_place() {
         }
         assert_eq!(end, text.len());
     }
-    assert_eq!(ran, 163 + 139);
+    assert_eq!(ran, 163 + 139 + 163 + 163);
 }
 
 /// Says where a line feed put in at any place of a line breaks the record.
 #[test]
 fn a_line_feed_at_every_place() {
     let mut ran = 0;
-    for record in [SET_1, SET_2] {
+    for record in RECORDS {
         for (line, number) in record.iter().zip(1..) {
             for column in 1..=line.len() {
                 let (front, back) = line.split_at(column - 1);
@@ -855,14 +878,14 @@ fn a_line_feed_at_every_place() {
             }
         }
     }
-    assert_eq!(ran, 155 + 131);
+    assert_eq!(ran, 155 + 131 + 155 + 155);
 }
 
 /// Says where records with lines lost, doubled, exchanged, joined or empty break.
 #[test]
 fn lines_out_of_order() {
     let mut ran = 0;
-    for record in [SET_1, SET_2] {
+    for record in RECORDS {
         for place in 0..7 {
             let number = place as u64 + 1;
             let mut lines = record.to_vec();
@@ -895,7 +918,7 @@ fn lines_out_of_order() {
         check_at(&text_of(&record[..7]), 8, 1);
         ran += 3;
     }
-    assert_eq!(ran, 2 * (7 * 5 + 3));
+    assert_eq!(ran, SETS.len() * (7 * 5 + 3));
 }
 
 /// Says where whole texts break that a technician may meet.
@@ -920,6 +943,10 @@ fn whole_texts() {
         // The record of one set under the number of the other.
         (one.replace("set=1", "set=2"), 2, 29),
         (two.replace("set=2", "set=1"), 2, 29),
+        (two.replace("set=2", "set=3"), 2, 29),
+        (two.replace("set=2", "set=4"), 2, 29),
+        // A set that there isn't.
+        (one.replace("set=1", "set=5"), 1, 5),
         // Each character is as many columns as it has bytes.
         (one.replace("ad=a0", "ad=\u{e4}0"), 4, 4),
         (one.replace("ad=a0", "\u{e4}d=a0"), 4, 1),
@@ -940,23 +967,28 @@ fn whole_texts() {
         check_at(text.as_bytes(), line, column);
         ran += 1;
     }
-    assert_eq!(ran, 19);
+    assert_eq!(ran, 22);
 }
 
-/// Checks each broken line in place of line `number` of form 2 in both sets, and gives how many texts it read.
+/// Checks each broken line in place of line `number` of form 2 in all sets, and gives how many texts it read.
 fn check_in_form_2(number: usize, rows: &[Row]) -> usize {
-    let [one, two] = records_in(Form::Two);
-    check_lines(Form::Two, &one, number, rows) + check_lines(Form::Two, &two, number, rows)
+    let records = records_in(Form::Two);
+    let ran = records.map(|record| check_lines(Form::Two, &record, number, rows));
+    ran.iter().sum()
 }
 
-/// Says that the two records of form 2 from which all others are made are right.
+/// Says that the records of form 2 from which all others are made are right.
 #[test]
 fn the_right_records_of_form_2() {
-    let [one, two] = records_in(Form::Two).map(|record| text_of(&record));
+    let [one, two, three, four] = records_in(Form::Two).map(|record| text_of(&record));
     // As in form 1, and two lines of 6 and of 9 characters with their line feeds.
     assert_eq!((one.len(), two.len()), (163 + 17, 139 + 17));
     assert_eq!(read(Form::Two, &one).map(|(_, taken)| taken), Ok(180));
     assert_eq!(read(Form::Two, &two).map(|(_, taken)| taken), Ok(156));
+    for (text, set) in [(one, 1), (two, 2), (three, 3), (four, 4)] {
+        let record = read(Form::Two, &text).map(|(record, _)| record.set);
+        assert_eq!(record, Ok(set));
+    }
 }
 
 /// Says where the form line breaks.
@@ -1020,7 +1052,7 @@ fn the_form_line() {
         (b"form=2=", 7),
         (b"form=2set=1", 7),
     ];
-    assert_eq!(check_in_form_2(1, &rows), 2 * 56 * 5);
+    assert_eq!(check_in_form_2(1, &rows), SETS.len() * 56 * 5);
 }
 
 /// Says where the chip line breaks.
@@ -1123,7 +1155,7 @@ fn the_chip_line() {
         (b"chip=10000 ", 11),
         (b"chip=65535key=00", 11),
     ];
-    assert_eq!(check_in_form_2(3, &rows), 2 * 92 * 5);
+    assert_eq!(check_in_form_2(3, &rows), SETS.len() * 92 * 5);
 }
 
 /// Says that a wrong character at or put in at any place of the form and chip lines is told there.
@@ -1145,16 +1177,16 @@ fn every_place_of_the_lines_only_form_2_has() {
             }
         }
     }
-    assert_eq!(ran, (6 + 7 + 9 + 10) * 14 * 2 * 5);
+    assert_eq!(ran, (6 + 7 + 9 + 10) * 14 * SETS.len() * 5);
 }
 
 /// Says that an input of form 2 that ends at any place is broken one past its last character.
 #[test]
 fn the_input_of_form_2_ends_at_every_place() {
     let mut ran = 0;
-    let in_set_1 = [6, 5, 9, 36, 38, 7, 11, 13, 36, 9];
-    let in_set_2 = [6, 5, 9, 28, 30, 7, 11, 13, 28, 9];
-    for (record, lengths) in records_in(Form::Two).iter().zip([in_set_1, in_set_2]) {
+    let long = [6, 5, 9, 36, 38, 7, 11, 13, 36, 9];
+    let short = [6, 5, 9, 28, 30, 7, 11, 13, 28, 9];
+    for (record, lengths) in records_in(Form::Two).iter().zip([long, short, long, long]) {
         let text = text_of(record);
         let mut end = 0;
         for (length, line) in lengths.into_iter().zip(1..) {
@@ -1166,7 +1198,7 @@ fn the_input_of_form_2_ends_at_every_place() {
         }
         assert_eq!(end, text.len());
     }
-    assert_eq!(ran, 180 + 156);
+    assert_eq!(ran, 180 + 156 + 180 + 180);
 }
 
 /// Says where records of form 2 with lines lost, doubled, exchanged or empty break.
@@ -1202,13 +1234,13 @@ fn lines_of_form_2_out_of_order() {
         check_in(Form::Two, &text_of(&record[..9]), 10, 1);
         ran += 2;
     }
-    assert_eq!(ran, 2 * (9 * 5 + 2));
+    assert_eq!(ran, SETS.len() * (9 * 5 + 2));
 }
 
 /// Says where whole texts of form 2 break that a technician may meet.
 #[test]
 fn whole_texts_of_form_2() {
-    let [one, two] = records_in(Form::Two)
+    let [one, two, ..] = records_in(Form::Two)
         .map(|record| String::from_utf8(text_of(&record)).expect("plain text"));
     let old = String::from_utf8(text_of(&SET_1)).expect("plain text");
     let cases = [
@@ -1242,7 +1274,7 @@ fn whole_texts_of_form_2() {
             3,
             10,
         ),
-        (one.replace("set=1", "set=3").replace("6553", "x"), 2, 5),
+        (one.replace("set=1", "set=5").replace("6553", "x"), 2, 5),
         (one.replace("rounds=30", "rounds=030"), 10, 9),
     ];
     let mut ran = 0;
@@ -1264,7 +1296,7 @@ fn form_2_read_as_form_1() {
         check_at(&text[7..], 2, 1);
         ran += 1;
     }
-    assert_eq!(ran, 2);
+    assert_eq!(ran, SETS.len());
 }
 
 /// Says whether the characters, line feed included, are a right line `number` of the text.
@@ -1329,13 +1361,15 @@ fn check_changes(form: Form) -> (usize, usize) {
 fn the_definition_for_every_change_of_one_byte() {
     let (broken, right) = check_changes(Form::One);
     // Right are: no change, any digit for another of 112 and 88 in hex, and in `30` any digit but
-    // a zero in front, or a line feed for the last.
-    assert_eq!(right, 163 + 112 * 15 + 18 + 139 + 88 * 15 + 18);
-    assert_eq!(broken + right, (163 + 139) * 256);
+    // a zero in front, or a line feed for the last; and each of sets 1, 3 and 4 for the two others.
+    let (long, short) = (163 + 112 * 15 + 18 + 2, 139 + 88 * 15 + 18);
+    assert_eq!(right, long + short + long + long);
+    assert_eq!(broken + right, (163 + 139 + 163 + 163) * 256);
     let (broken, right) = check_changes(Form::Two);
     // In form 2 also any digit in `6553` but a zero in front.
-    assert_eq!(right, 180 + 112 * 15 + 18 + 35 + 156 + 88 * 15 + 18 + 35);
-    assert_eq!(broken + right, (180 + 156) * 256);
+    let (long, short) = (long + 17 + 35, short + 17 + 35);
+    assert_eq!(right, long + short + long + long);
+    assert_eq!(broken + right, (180 + 156 + 180 + 180) * 256);
 }
 
 /// Checks the definition for each byte lost, each byte put in and each cut, and gives how many texts it read.
@@ -1366,9 +1400,11 @@ fn check_lost_and_put_in(form: Form) -> usize {
 #[test]
 fn the_definition_for_bytes_lost_and_put_in() {
     let in_form_1 = check_lost_and_put_in(Form::One);
-    assert_eq!(in_form_1, (164 + 140) * (31 + 2) + 163 + 139);
+    let lengths = 163 + 139 + 163 + 163;
+    assert_eq!(in_form_1, (lengths + 4) * (31 + 2) + lengths);
     let in_form_2 = check_lost_and_put_in(Form::Two);
-    assert_eq!(in_form_2, (181 + 157) * (31 + 2) + 180 + 156);
+    let lengths = 180 + 156 + 180 + 180;
+    assert_eq!(in_form_2, (lengths + 4) * (31 + 2) + lengths);
 }
 
 /// Says that the definition holds for all short values of each line, and for all short name ends.
@@ -1383,7 +1419,8 @@ fn the_definition_for_all_short_values() {
             ran += 2;
         });
     }
-    assert_eq!(ran, 2 * (8 + 10) * (1 + 12 + 144 + 1_728) * 3 * 2);
+    let values = 1 + 12 + 144 + 1_728;
+    assert_eq!(ran, SETS.len() * (8 + 10) * values * 3 * 2);
 }
 
 /// Says that the definition holds for values of many lengths, ended rightly and wrongly.
@@ -1408,7 +1445,7 @@ fn the_definition_for_values_of_many_lengths() {
             }
         }
     }
-    assert_eq!(ran, 2 * (8 + 10) * (41 + 16) * 4);
+    assert_eq!(ran, SETS.len() * (8 + 10) * (41 + 16) * 4);
 }
 
 /// Says that the definition holds for each number of one to six digits, and zeros before it, as a chip.
@@ -1416,7 +1453,7 @@ fn the_definition_for_values_of_many_lengths() {
 fn the_definition_for_many_chips() {
     let forms = Forms::new();
     let (mut broken, mut right) = (0, 0);
-    let [record, _] = records_in(Form::Two);
+    let [record, ..] = records_in(Form::Two);
     let after = text_of(&record[3..]);
     for number in (0..=70_000).chain([99_999, 100_000, 655_350, 655_351, 999_999]) {
         for zeros in ["", "0", "00"] {
@@ -1448,5 +1485,5 @@ fn completions_are_read() {
             }
         }
     }
-    assert_eq!(ran, 164 + 140 + 181 + 157);
+    assert_eq!(ran, 3 * 164 + 140 + 3 * 181 + 157);
 }

@@ -39,14 +39,15 @@ fn judged_broken(input: &[u8]) -> (String, String) {
     (text(output.stdout), text(output.stderr))
 }
 
-/// Says that made records are right, the same for the same seed, and of both sets.
+/// Says that made records are right, the same for the same seed, and of all sets.
 #[test]
 fn vectors_and_judge() {
     let records = done(&["vectors", "500", "42"], b"");
     assert_eq!(records, done(&["vectors", "500", "42"], b""));
     assert_ne!(records, done(&["vectors", "500", "43"], b""));
-    assert_eq!(records.matches("set=1\n").count(), 250);
-    assert_eq!(records.matches("set=2\n").count(), 250);
+    for set in ["set=1\n", "set=2\n", "set=3\n", "set=4\n"] {
+        assert_eq!(records.matches(set).count(), 125);
+    }
     assert_eq!(records.lines().count(), 500 * 8);
     let report = done(&["judge"], records.as_bytes());
     assert_eq!(report.as_bytes(), judge_all(records.as_bytes()));
@@ -62,8 +63,15 @@ fn vectors_of_form_2_and_judge() {
     let records = done(&["vectors2", "400", "42"], b"");
     assert_eq!(records, done(&["vectors2", "400", "42"], b""));
     assert_ne!(records, done(&["vectors2", "400", "43"], b""));
-    assert_eq!(records.matches("form=2\nset=1\nchip=").count(), 200);
-    assert_eq!(records.matches("form=2\nset=2\nchip=").count(), 200);
+    for set in [1, 2, 3, 4] {
+        let front = format!("form=2\nset={set}\nchip=");
+        assert_eq!(records.matches(&front).count(), 100);
+        // Each set has each kind of chip.
+        for chip in ["0\n", "65535\n"] {
+            let line = format!("{front}{chip}");
+            assert!(records.matches(&line).count() >= 25, "{line}");
+        }
+    }
     assert_eq!(records.lines().count(), 400 * 10);
     let of_chip_0 = records.matches("\nchip=0\n").count();
     let of_chip_65535 = records.matches("\nchip=65535\n").count();
@@ -288,11 +296,11 @@ fn import_and_export() {
             1,
         ),
         (&["import", "0"], both.clone(), "", "refused: answer=1", 1),
-        (&["import", "3"], both.clone(), "", "refused: answer=1", 1),
-        (&["import", "3"], String::new(), "", "refused: answer=1", 1),
+        (&["import", "5"], both.clone(), "", "refused: answer=1", 1),
+        (&["import", "5"], String::new(), "", "refused: answer=1", 1),
         (&["import", "12"], two.clone(), "", "refused: answer=1", 1),
         (
-            &["import", "4294967298"],
+            &["import", "4294967299"],
             one.clone(),
             "",
             "refused: answer=1",
@@ -430,7 +438,7 @@ fn nowhere_to_tell_of_a_replay() {
 #[test]
 fn made_entries_there_and_back() {
     let mut ran = 0;
-    for (set, other) in [("1", "2"), ("2", "1")] {
+    for (set, other) in [("1", "2"), ("2", "1"), ("3", "2"), ("4", "2"), ("2", "4")] {
         let entries = done(&["entries", set, "300", "42"], b"");
         assert_eq!(entries, done(&["entries", set, "300", "42"], b""));
         assert_ne!(entries, done(&["entries", set, "300", "43"], b""));
@@ -446,7 +454,7 @@ fn made_entries_there_and_back() {
         assert_eq!(moved("export", &records), (Some(0), entries.clone(), said));
         let (status, records, said) = moved_by(&["import", other], &entries);
         assert_eq!((status, &records[..]), (Some(1), ""));
-        // The 25th digit of a key of set 1 is too many in set 2; a key of set 2 ends before it.
+        // The 25th digit of a key of 16 bytes is too many in set 2; a key of set 2 ends before it.
         assert_eq!(
             said,
             "bench: refused: answer=10 record=1 line=2 column=31\n"
@@ -454,7 +462,7 @@ fn made_entries_there_and_back() {
         assert_eq!(done(&["entries", set, "0", "1"], b""), "");
         ran += 1;
     }
-    assert_eq!(ran, 2);
+    assert_eq!(ran, 5);
 }
 
 /// Says that the printed case of the rules comes out through the program.
@@ -515,7 +523,7 @@ fn broken_records() {
 fn nowhere_to_tell_a_fault() {
     let key = "00".repeat(12);
     let right = done(&["seal", "2", &key, &key, "", ""], b"");
-    let broken = right.clone() + "set=3\n";
+    let broken = right.clone() + "set=5\n";
     let equal = "record=1\nverdict=equal\nfield=none\n".to_string();
     let unread = equal.clone() + "record=2\nverdict=unread\nfield=1\n";
     let mut ran = 0;
@@ -547,7 +555,7 @@ fn value<'a>(text: &'a str, label: &str) -> &'a str {
 #[test]
 fn seal_then_open() {
     let mut ran = 0;
-    for (set, length) in [("1", 16), ("2", 12)] {
+    for (set, length) in [("1", 16), ("2", 12), ("3", 16), ("4", 16)] {
         for (ad, text) in [
             ("", ""),
             ("00ff", ""),
@@ -569,8 +577,8 @@ fn seal_then_open() {
             ran += 1;
         }
     }
-    assert_eq!(ran, 8);
-    let refused = done(&["open", "3", "", "", "", "", ""], b"");
+    assert_eq!(ran, 16);
+    let refused = done(&["open", "5", "", "", "", "", ""], b"");
     assert_eq!(refused, "answer=1\nrounds=0\ntext=\n");
     let refused = done(&["open", "1", "00", "", "", "", ""], b"");
     assert_eq!(refused, "answer=2\nrounds=0\ntext=\n");
@@ -580,7 +588,7 @@ fn seal_then_open() {
 #[test]
 fn ciphers_of_another_length() {
     let mut ran = 0;
-    for (set, length) in [("1", 16), ("2", 12)] {
+    for (set, length) in [("1", 16), ("2", 12), ("3", 16), ("4", 16)] {
         let key = "5a".repeat(length);
         let record = done(&["seal", set, &key, &key, "00ff", "6162636465"], b"");
         let cipher = value(&record, "cipher=");
@@ -592,7 +600,7 @@ fn ciphers_of_another_length() {
             ran += 1;
         }
     }
-    assert_eq!(ran, 6);
+    assert_eq!(ran, 12);
 }
 
 /// Says that the rounds command prints the counted rounds.
@@ -605,13 +613,17 @@ fn rounds() {
         (["1", "1", "8"], "36\n"),
         (["2", "16", "15"], "40\n"),
         (["1", "65536", "1048576"], "835614\n"),
+        (["3", "8", "0"], "36\n"),
+        (["3", "65536", "1048576"], "835614\n"),
+        (["4", "16", "15"], "40\n"),
+        (["4", "65536", "1048576"], "557088\n"),
     ];
     let mut ran = 0;
     for ([set, ad, text], wanted) in cases {
         assert_eq!(done(&["rounds", set, ad, text], b""), wanted);
         ran += 1;
     }
-    assert_eq!(ran, 6);
+    assert_eq!(ran, 10);
 }
 
 /// Says that a bad command line prints usage on standard error only, with status 2.
@@ -686,8 +698,8 @@ fn refused_messages() {
     let long = "00".repeat(257);
     let cases: [(&[&str], &str); 10] = [
         (&["entries", "0", "5", "1"], "refused with answer 1"),
-        (&["entries", "3", "5", "1"], "refused with answer 1"),
-        (&["seal", "3", &key, &key, "", ""], "refused with answer 1"),
+        (&["entries", "5", "5", "1"], "refused with answer 1"),
+        (&["seal", "5", &key, &key, "", ""], "refused with answer 1"),
         (&["seal", "2", &key, &key, "", ""], "refused with answer 2"),
         (&["seal", "1", &key, "00", "", ""], "refused with answer 3"),
         (&["seal", "1", &key, &key, &long, ""], "too long for line 4"),
@@ -782,7 +794,7 @@ fn failed_writes() {
         &["vectors", "3", "1"],
         &["vectors", "300", "1"],
         &["rounds", "1", "0", "0"],
-        &["open", "3", "", "", "", "", ""],
+        &["open", "5", "", "", "", "", ""],
     ];
     let mut ran = 0;
     for arguments in cases {

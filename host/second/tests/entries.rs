@@ -3,6 +3,7 @@
 mod published;
 
 use published::{broken, entries, entry, record, tried, Given};
+use second::cipher::{set_numbers, SETS};
 use second::exchange::{import, Done};
 use second::random::Random;
 
@@ -46,9 +47,23 @@ fn check_in_entries(set: u64, line: usize, rows: &[Row]) -> usize {
         .sum()
 }
 
-/// Checks the rows in both sets, and gives how many texts it read.
-fn check_in_both_sets(line: usize, rows: &[Row]) -> usize {
-    check_in_entries(1, line, rows) + check_in_entries(2, line, rows)
+/// How many times a row is read in all sets: with five endings, in three entries each.
+const ALL: usize = 5 * 3 * SETS.len();
+
+/// Checks the rows in all sets, and gives how many texts it read.
+fn check_in_all_sets(line: usize, rows: &[Row]) -> usize {
+    let ran = set_numbers().map(|set| check_in_entries(set, line, rows));
+    ran.sum()
+}
+
+/// The sets with keys of 16 bytes.
+const LONG: [u64; 3] = [1, 3, 4];
+
+/// Checks the rows in the sets with keys of 16 bytes, and gives how many texts it read in each.
+fn check_long_keys(line: usize, rows: &[Row]) -> usize {
+    let ran = LONG.map(|set| check_in_entries(set, line, rows));
+    assert_eq!(ran, [ran[0]; 3]);
+    ran[0]
 }
 
 /// Gives a line of that label and so many digits.
@@ -64,8 +79,10 @@ fn the_right_entries() {
     // The lengths of the lines and the seven line feeds.
     assert_eq!(entry(1, 1).len(), 9 + 38 + 40 + 11 + 9 + 43 + 7);
     assert_eq!(entry(2, 1).len(), 9 + 30 + 32 + 5 + 5 + 29 + 7);
+    assert_eq!(entry(3, 1), entry(1, 1));
+    assert_eq!(entry(4, 1).len(), 9 + 38 + 40 + 37 + 23 + 39 + 7);
     let mut ran = 0;
-    for set in [1, 2] {
+    for set in set_numbers() {
         for count in [1, 2, 12, 13] {
             let written = record(set).len() * count;
             let records = count as u64;
@@ -74,7 +91,7 @@ fn the_right_entries() {
             ran += 1;
         }
     }
-    assert_eq!(ran, 8);
+    assert_eq!(ran, SETS.len() * 4);
 }
 
 /// Says where the name of the count line breaks, in any entry.
@@ -107,7 +124,7 @@ fn the_name_of_the_count_line() {
         (b"Count =", 8),
         (b"Count =1", 8),
     ];
-    assert_eq!(check_in_both_sets(1, &rows), 25 * 5 * 6);
+    assert_eq!(check_in_all_sets(1, &rows), 25 * ALL);
 }
 
 /// Says where the count of the first entry breaks.
@@ -136,8 +153,8 @@ fn the_count_of_the_first_entry() {
         (b"Count = 11", 10),
         (b"Count = 18446744073709551617", 10),
     ];
-    let ran = check_rows(1, 1, 1, &rows) + check_rows(2, 1, 1, &rows);
-    assert_eq!(ran, 2 * 21 * 5);
+    let ran: usize = set_numbers().map(|set| check_rows(set, 1, 1, &rows)).sum();
+    assert_eq!(ran, SETS.len() * 21 * 5);
 }
 
 /// Says where the count of the twelfth entry breaks.
@@ -159,8 +176,8 @@ fn the_count_of_the_twelfth_entry() {
         (b"Count = 120", 11),
         (b"Count = 123", 11),
     ];
-    let ran = check_rows(1, 12, 1, &rows) + check_rows(2, 12, 1, &rows);
-    assert_eq!(ran, 2 * 14 * 5);
+    let ran: usize = set_numbers().map(|set| check_rows(set, 12, 1, &rows)).sum();
+    assert_eq!(ran, SETS.len() * 14 * 5);
 }
 
 /// Says where counts break before and after they get one digit more.
@@ -237,7 +254,7 @@ fn counts_beside_powers_of_ten() {
 #[test]
 fn skipped_and_repeated_entries() {
     let mut ran = 0;
-    for set in [1, 2] {
+    for set in set_numbers() {
         let cases = [
             (vec![2], 1, 9),
             (vec![0, 1], 1, 9),
@@ -254,7 +271,7 @@ fn skipped_and_repeated_entries() {
             ran += 1;
         }
     }
-    assert_eq!(ran, 16);
+    assert_eq!(ran, SETS.len() * 8);
 }
 
 /// Says where the key line breaks.
@@ -287,11 +304,11 @@ fn the_key_line() {
         (b"Key = 0x00", 8),
         (b"Key = 00 01", 9),
     ];
-    assert_eq!(check_in_both_sets(2, &rows), 25 * 5 * 6);
+    assert_eq!(check_in_all_sets(2, &rows), 25 * ALL);
     let lengths = |set, cases: [(usize, u64); 7]| {
         cases.map(|(count, column)| check_in_entries(set, 2, &[(&digits("Key = ", count), column)]))
     };
-    let set_1 = [
+    let long = [
         (2, 9),
         (24, 31),
         (30, 37),
@@ -300,7 +317,7 @@ fn the_key_line() {
         (34, 39),
         (64, 39),
     ];
-    let set_2 = [
+    let short = [
         (2, 9),
         (22, 29),
         (23, 30),
@@ -309,10 +326,10 @@ fn the_key_line() {
         (32, 31),
         (64, 31),
     ];
-    assert_eq!(lengths(1, set_1), [15; 7]);
-    assert_eq!(lengths(2, set_2), [15; 7]);
+    assert_eq!(LONG.map(|set| lengths(set, long)), [[15; 7]; 3]);
+    assert_eq!(lengths(2, short), [15; 7]);
     let full = [digits("Key = ", 32), b" ".to_vec()].concat();
-    assert_eq!(check_in_entries(1, 2, &[(&full, 39)]), 15);
+    assert_eq!(check_long_keys(2, &[(&full, 39)]), 15);
     let full = [digits("Key = ", 24), b"\r".to_vec()].concat();
     assert_eq!(check_in_entries(2, 2, &[(&full, 31)]), 15);
 }
@@ -339,16 +356,16 @@ fn the_nonce_line() {
         (b"Nonce = Ff", 10),
         (b"Nonce = FFf", 11),
     ];
-    assert_eq!(check_in_both_sets(3, &rows), 17 * 5 * 6);
+    assert_eq!(check_in_all_sets(3, &rows), 17 * ALL);
     let lengths = |set, cases: [(usize, u64); 6]| {
         cases.map(|(count, column)| {
             check_in_entries(set, 3, &[(&digits("Nonce = ", count), column)])
         })
     };
-    let set_1 = [(2, 11), (24, 33), (30, 39), (31, 40), (33, 41), (34, 41)];
-    let set_2 = [(2, 11), (22, 31), (23, 32), (25, 33), (26, 33), (32, 33)];
-    assert_eq!(lengths(1, set_1), [15; 6]);
-    assert_eq!(lengths(2, set_2), [15; 6]);
+    let long = [(2, 11), (24, 33), (30, 39), (31, 40), (33, 41), (34, 41)];
+    let short = [(2, 11), (22, 31), (23, 32), (25, 33), (26, 33), (32, 33)];
+    assert_eq!(LONG.map(|set| lengths(set, long)), [[15; 6]; 3]);
+    assert_eq!(lengths(2, short), [15; 6]);
 }
 
 /// Says where the lines of text and of associated data break.
@@ -374,8 +391,8 @@ fn the_lines_of_text_and_data() {
         (b"ADX = ", 3),
         (b"AAD = ", 2),
     ];
-    assert_eq!(check_in_both_sets(4, &text_rows), 8 * 5 * 6);
-    assert_eq!(check_in_both_sets(5, &data_rows), 8 * 5 * 6);
+    assert_eq!(check_in_all_sets(4, &text_rows), 8 * ALL);
+    assert_eq!(check_in_all_sets(5, &data_rows), 8 * ALL);
     let endings: [Row; 20] = [
         (b"", 3),
         (b"=", 3),
@@ -402,7 +419,7 @@ fn the_lines_of_text_and_data() {
     for (line, name) in [(4, "PT"), (5, "AD")] {
         for (ending, column) in endings {
             let bad = [name.as_bytes(), ending].concat();
-            ran += check_in_both_sets(line, &[(&bad, column)]);
+            ran += check_in_all_sets(line, &[(&bad, column)]);
         }
         let label = format!("{name} = ");
         for (count, column) in [
@@ -413,12 +430,12 @@ fn the_lines_of_text_and_data() {
             (514, 518),
             (600, 518),
         ] {
-            ran += check_in_both_sets(line, &[(&digits(&label, count), column)]);
+            ran += check_in_all_sets(line, &[(&digits(&label, count), column)]);
         }
         let full = [digits(&label, 512), b"\r".to_vec()].concat();
-        ran += check_in_both_sets(line, &[(&full, 518)]);
+        ran += check_in_all_sets(line, &[(&full, 518)]);
     }
-    assert_eq!(ran, 2 * 27 * 5 * 6);
+    assert_eq!(ran, 2 * 27 * ALL);
 }
 
 /// Says where the line of cipher and tag breaks.
@@ -442,11 +459,11 @@ fn the_line_of_cipher_and_tag() {
         (b"CT = Cc", 7),
         (b"CT = C0c1", 8),
     ];
-    assert_eq!(check_in_both_sets(6, &rows), 16 * 5 * 6);
+    assert_eq!(check_in_all_sets(6, &rows), 16 * ALL);
     let lengths = |set, cases: [(usize, u64); 8]| {
         cases.map(|(count, column)| check_in_entries(set, 6, &[(&digits("CT = ", count), column)]))
     };
-    let set_1 = [
+    let long = [
         (24, 30),
         (30, 36),
         (31, 37),
@@ -456,7 +473,7 @@ fn the_line_of_cipher_and_tag() {
         (546, 550),
         (600, 550),
     ];
-    let set_2 = [
+    let short = [
         (2, 8),
         (22, 28),
         (23, 29),
@@ -466,10 +483,10 @@ fn the_line_of_cipher_and_tag() {
         (538, 542),
         (544, 542),
     ];
-    assert_eq!(lengths(1, set_1), [15; 8]);
-    assert_eq!(lengths(2, set_2), [15; 8]);
+    assert_eq!(LONG.map(|set| lengths(set, long)), [[15; 8]; 3]);
+    assert_eq!(lengths(2, short), [15; 8]);
     let full = [digits("CT = ", 32), b"\r".to_vec()].concat();
-    assert_eq!(check_in_entries(1, 6, &[(&full, 38)]), 15);
+    assert_eq!(check_long_keys(6, &[(&full, 38)]), 15);
     let full = [digits("CT = ", 24), b" ".to_vec()].concat();
     assert_eq!(check_in_entries(2, 6, &[(&full, 30)]), 15);
 }
@@ -486,9 +503,9 @@ fn the_empty_line() {
         (b"x", 1),
         (b"Count = 2", 1),
     ];
-    assert_eq!(check_in_both_sets(7, &rows), 7 * 5 * 6);
+    assert_eq!(check_in_all_sets(7, &rows), 7 * ALL);
     let mut ran = 0;
-    for set in [1, 2] {
+    for set in set_numbers() {
         for count in [1, 2, 12] {
             let text = entries(set, count);
             let without = &text.as_bytes()[..text.len() - 1];
@@ -508,7 +525,7 @@ fn the_empty_line() {
         );
         check_at(set, ("\n".to_string() + &entry(set, 1)).as_bytes(), 1, 1, 1);
     }
-    assert_eq!(ran, 6);
+    assert_eq!(ran, SETS.len() * 3);
 }
 
 /// Says where each line breaks when all lines end in a carriage return too.
@@ -518,6 +535,8 @@ fn carriage_returns() {
     for (set, columns) in [
         (1, [10, 39, 41, 12, 10, 44, 1]),
         (2, [10, 31, 33, 6, 6, 30, 1]),
+        (3, [10, 39, 41, 12, 10, 44, 1]),
+        (4, [10, 39, 41, 38, 24, 40, 1]),
     ] {
         check_at(
             set,
@@ -547,17 +566,39 @@ fn carriage_returns() {
             ran += 1;
         }
     }
-    assert_eq!(ran, 14);
+    assert_eq!(ran, SETS.len() * 7);
 }
 
-/// Says that an entry of one set breaks as one of the other at its key.
+/// Says that an entry of set 2 breaks as one of another set at its key, and the other way round.
 #[test]
-fn entries_of_the_other_set() {
-    // The key of set 1 is too long at its 25th digit; that of set 2 ends before its 25th.
-    check_at(2, entry(1, 1).as_bytes(), 1, 2, 31);
-    check_at(1, entry(2, 1).as_bytes(), 1, 2, 31);
-    check_at(2, (entry(2, 1) + &entry(1, 2)).as_bytes(), 2, 2, 31);
-    check_at(1, (entry(1, 1) + &entry(2, 2)).as_bytes(), 2, 2, 31);
+fn entries_of_a_set_with_other_keys() {
+    // A key of 16 bytes is too long at its 25th digit; that of set 2 ends before its 25th.
+    let mut ran = 0;
+    for long in LONG {
+        check_at(2, entry(long, 1).as_bytes(), 1, 2, 31);
+        check_at(long, entry(2, 1).as_bytes(), 1, 2, 31);
+        check_at(2, (entry(2, 1) + &entry(long, 2)).as_bytes(), 2, 2, 31);
+        check_at(long, (entry(long, 1) + &entry(2, 2)).as_bytes(), 2, 2, 31);
+        ran += 1;
+    }
+    assert_eq!(ran, SETS.len() - 1);
+}
+
+/// Says that an entry of a set with keys of 16 bytes is one of each such set, with the rounds of that set.
+#[test]
+fn entries_of_a_set_with_keys_as_long() {
+    let mut ran = 0;
+    let text = entry(4, 1);
+    // Nine bytes of data and 16 of text are two and three blocks of 8, or one and two of 16.
+    for (set, rounds) in [(1, 48), (3, 48), (4, 40)] {
+        let mut out = vec![0; 300];
+        let done = import(set, text.as_bytes(), &mut out).expect("a right entry");
+        let wanted = record(4).replace("set=4", &format!("set={set}"));
+        let wanted = wanted.replace("rounds=40", &format!("rounds={rounds}"));
+        assert_eq!(out[..done.written], *wanted.as_bytes());
+        ran += 1;
+    }
+    assert_eq!(ran, LONG.len());
 }
 
 /// Says that the first of two faults is told, by its line, by its column and by its entry.
@@ -595,7 +636,7 @@ fn end_of(text: &str, length: usize) -> (u64, u64, u64) {
 #[test]
 fn every_cut() {
     let (mut done, mut refused) = (0, 0);
-    for set in [1, 2] {
+    for set in set_numbers() {
         let text = entries(set, 3);
         let length = entry(set, 1).len();
         assert_eq!(text.len(), 3 * length);
@@ -613,14 +654,18 @@ fn every_cut() {
             }
         }
     }
-    assert_eq!((done, refused), (2 * 4, 3 * (157 + 117) - 6));
+    let lengths = 157 + 117 + 157 + 193;
+    assert_eq!(
+        (done, refused),
+        (SETS.len() * 4, 3 * lengths - SETS.len() * 3)
+    );
 }
 
 /// Gives how many bytes key, nonce and tag of the set have.
 fn own(set: u64) -> usize {
     match set {
-        1 => 16,
-        _ => 12,
+        2 => 12,
+        _ => 16,
     }
 }
 
@@ -700,7 +745,7 @@ fn check_by_definition(set: u64, text: &[u8]) -> bool {
 #[test]
 fn every_change_of_one_byte() {
     let (mut ran, mut right) = (0, 0);
-    for set in [1, 2] {
+    for set in set_numbers() {
         let text = entries(set, 2).into_bytes();
         for place in 0..text.len() {
             let mut check = |other: &[u8]| {
@@ -722,12 +767,13 @@ fn every_change_of_one_byte() {
             check(&other);
         }
     }
-    assert_eq!(ran, 2 * (157 + 117) * (256 + 15 + 1));
+    let lengths = [157, 117, 157, 193];
+    let length: usize = lengths.iter().sum();
+    assert_eq!(ran, 2 * length * (256 + 15 + 1));
     // Each digit in one entry of each set has sixteen right values, and every other byte has its own.
-    let values = [32 + 32 + 6 + 4 + 38, 24 + 24 + 24];
-    let others = [157 - 112, 117 - 72];
-    let changed = 2 * (16 * (values[0] + values[1]) + others[0] + others[1]);
-    assert_eq!(right, changed);
+    let in_1 = 32 + 32 + 6 + 4 + 38;
+    let digits = in_1 + (24 + 24 + 24) + in_1 + (32 + 32 + 32 + 18 + 34);
+    assert_eq!(right, 2 * (16 * digits + length - digits));
 }
 
 /// Says that the definition agrees for entries of random lengths with bytes changed, lost and put in.
@@ -736,7 +782,7 @@ fn damaged_entries() {
     let mut random = Random::new(81);
     let (mut ran, mut refused) = (0, 0);
     for index in 0..3_000 {
-        let set = 1 + index % 2;
+        let set = SETS[index % SETS.len()].number;
         let own = own(set);
         let mut text = String::new();
         for count in 1..=1 + random.below(3) {

@@ -3,6 +3,7 @@
 mod published;
 
 use published::{broken, entries, entry, record, tried, Given, RECORD_1, RECORD_2};
+use second::cipher::{set_numbers, set_of, SETS};
 use second::exchange::{export, export_all, import, import_all, Done, Refused};
 use second::make::lines_of;
 use second::moving::Moved;
@@ -91,7 +92,7 @@ fn import_written_down() {
     assert_eq!(imported(1, text), Ok((2, wanted.to_string())));
 }
 
-/// Says what three records of both sets become, letter for letter, whatever their rounds.
+/// Says what three records of two sets become, letter for letter, whatever their rounds.
 #[test]
 fn export_written_down() {
     let text = "set=2\n\
@@ -146,7 +147,7 @@ fn export_written_down() {
 #[test]
 fn the_right_pairs() {
     let mut ran = 0;
-    for set in [1, 2] {
+    for set in set_numbers() {
         for count in [1, 2, 3, 9, 10, 11, 99, 100, 101, 999, 1_000] {
             let (one, other) = (entries(set, count), record(set).repeat(count));
             assert_eq!(imported(set, &one), Ok((count as u64, other.clone())));
@@ -154,7 +155,7 @@ fn the_right_pairs() {
             ran += 1;
         }
     }
-    assert_eq!(ran, 22);
+    assert_eq!(ran, SETS.len() * 11);
 }
 
 /// Says that no entries are no records and the other way round, in any room.
@@ -166,14 +167,14 @@ fn nothing_becomes_nothing() {
     };
     let mut ran = 0;
     for room in [0, 1, 200] {
-        for set in [1, 2] {
+        for set in set_numbers() {
             assert_eq!(tried(room, |out| import(set, b"", out)).0, Ok(nothing));
             ran += 1;
         }
         assert_eq!(tried(room, |out| export(b"", out)).0, Ok(nothing));
         ran += 1;
     }
-    assert_eq!(ran, 9);
+    assert_eq!(ran, 3 * (SETS.len() + 1));
     assert_eq!(imported(1, ""), Ok((0, String::new())));
     assert_eq!(exported(""), Ok((0, String::new())));
 }
@@ -201,15 +202,18 @@ fn unknown_sets() {
     ];
     let sets = [
         0,
-        3,
-        4,
+        5,
         16,
         255,
         256,
         257,
         258,
+        259,
+        260,
         (1 << 32) + 1,
         (1 << 32) + 2,
+        (1 << 32) + 3,
+        (1 << 32) + 4,
         (1 << 63) + 1,
         u64::MAX,
     ];
@@ -224,7 +228,7 @@ fn unknown_sets() {
             assert_eq!(imported(set, text), Err(Refused::Set));
         }
     }
-    assert_eq!(ran, 12 * 7 * 3);
+    assert_eq!(ran, 15 * 7 * 3);
 }
 
 /// Checks that a text becomes what is wanted in every room that suffices and is refused with 6 in every other.
@@ -249,7 +253,7 @@ fn check_rooms(way: Way, text: &str, records: u64, wanted: &str) -> usize {
 fn every_room() {
     let mut ran = 0;
     let mut rooms = 0;
-    for set in [1, 2] {
+    for set in set_numbers() {
         for count in [1, 2, 3] {
             let (one, other) = (entries(set, count), record(set).repeat(count));
             let way = |text: &[u8], out: &mut [u8]| import(set, text, out);
@@ -260,14 +264,18 @@ fn every_room() {
     }
     assert_eq!(ran, rooms);
     // Six entries and six records of each set, and the rooms beyond.
-    assert_eq!(rooms, 6 * (157 + 163 + 117 + 123) + 6 * 40);
+    let lengths = [157 + 163, 117 + 123, 157 + 163, 193 + 199];
+    assert_eq!(
+        rooms,
+        6 * lengths.iter().sum::<usize>() + SETS.len() * 3 * 40
+    );
 }
 
 /// Says that a broken entry or record is refused with 10 in every room, and wherever it stands.
 #[test]
 fn broken_before_short_rooms() {
     let mut ran = 0;
-    for set in [1, 2] {
+    for set in set_numbers() {
         let bad_entry = |text: &str| text.replace("AD = ", "AD = a");
         let bad_record = |text: &str| text.replace("\nad=", "\nad=A");
         let [one, two, three] = [1, 2, 3].map(|count| entry(set, count));
@@ -292,17 +300,17 @@ fn broken_before_short_rooms() {
             }
         }
     }
-    assert_eq!(ran, 2 * 3 * 601);
+    assert_eq!(ran, SETS.len() * 3 * 601);
 }
 
 /// Gives an entry, its set's record and the count of rounds, from a key, nonce and tag of one repeated byte.
 fn pair_of(set: u64, count: u64, parts: [&[u8]; 3]) -> (String, String) {
-    let own = if set == 1 { 16 } else { 12 };
+    let own = set_of(set).expect("a known set").key;
     let hex = |bytes: &[u8]| -> String { bytes.iter().map(|b| format!("{b:02x}")).collect() };
     let [key, nonce, tag] = ["5a", "c3", "e7"].map(|byte| byte.repeat(own));
     let [ad, text, cipher] = parts.map(hex);
     let [ad_length, text_length] = [parts[0].len(), parts[1].len()];
-    let (block, middle) = if set == 1 { (8, 6) } else { (16, 8) };
+    let (block, middle) = [(8, 6), (16, 8), (8, 6), (16, 8)][set as usize - 1];
     let data_blocks = if ad_length > 0 {
         ad_length / block + 1
     } else {
@@ -342,6 +350,17 @@ fn rounds_written_down() {
         (2, 0, 256, 152),
         (2, 256, 0, 160),
         (2, 256, 256, 288),
+        (3, 0, 0, 24),
+        (3, 7, 7, 30),
+        (3, 8, 8, 42),
+        (3, 256, 256, 414),
+        (4, 0, 0, 24),
+        (4, 8, 8, 32),
+        (4, 15, 15, 32),
+        (4, 16, 15, 40),
+        (4, 15, 16, 40),
+        (4, 16, 16, 48),
+        (4, 256, 256, 288),
     ];
     let bytes = [0xab; 256];
     let mut ran = 0;
@@ -354,7 +373,7 @@ fn rounds_written_down() {
             ran += 1;
         }
     }
-    assert_eq!(ran, 17 * 7);
+    assert_eq!(ran, 28 * 7);
 }
 
 /// Says that fields of 255 and 256 bytes are right and one byte more isn't, in each line.
@@ -362,7 +381,7 @@ fn rounds_written_down() {
 fn the_most_bytes() {
     let bytes = [0xcd; 257];
     let mut ran = 0;
-    for (set, column_of_ct) in [(1, 550), (2, 542)] {
+    for (set, column_of_ct) in set_numbers().zip([550, 542, 550, 550]) {
         let cases = [
             ([255, 0, 0], None),
             ([256, 0, 0], None),
@@ -393,7 +412,7 @@ fn the_most_bytes() {
             ran += 1;
         }
     }
-    assert_eq!(ran, 20);
+    assert_eq!(ran, SETS.len() * 10);
 }
 
 /// Says that entries of any right lengths become what they tell, and come back the same.
@@ -401,7 +420,7 @@ fn the_most_bytes() {
 fn entries_there_and_back() {
     let mut random = Random::new(91);
     let mut ran = 0;
-    for set in [1, 2] {
+    for set in set_numbers() {
         let (mut one, mut other) = (String::new(), String::new());
         for count in 1..=400 {
             let most = if count % 8 == 0 { 256 } else { 40 };
@@ -419,13 +438,13 @@ fn entries_there_and_back() {
             ran += 1;
         }
     }
-    assert_eq!(ran, 800);
+    assert_eq!(ran, SETS.len() * 400);
 }
 
 /// Gives the texts of so many right records of random messages, those of each set apart.
-fn right_records(seed: u64, count: u64) -> [String; 2] {
+fn right_records(seed: u64, count: u64) -> [String; SETS.len()] {
     let mut random = Random::new(seed);
-    let mut texts = [String::new(), String::new()];
+    let mut texts = [(); SETS.len()].map(|()| String::new());
     for index in 0..count {
         let record = vectors::record(&mut random, index);
         let lines = lines_of(Form::One, &record).expect("a right record");
@@ -438,10 +457,10 @@ fn right_records(seed: u64, count: u64) -> [String; 2] {
 #[test]
 fn records_there_and_back() {
     let mut ran = 0;
-    for (set, text) in (1..).zip(right_records(92, 1_000)) {
+    for (set, text) in set_numbers().zip(right_records(92, 1_000)) {
         let (count, file) = exported(&text).expect("right records");
-        assert_eq!(count, 500);
-        assert_eq!(imported(set, &file), Ok((500, text.clone())));
+        assert_eq!(count, 250);
+        assert_eq!(imported(set, &file), Ok((250, text.clone())));
         for record in text.split_inclusive('\n').collect::<Vec<_>>().chunks(8) {
             let record = record.concat();
             let (count, file) = exported(&record).expect("a right record");
@@ -457,7 +476,7 @@ fn records_there_and_back() {
 #[test]
 fn wrong_rounds_are_dropped() {
     let mut ran = 0;
-    for set in [1, 2] {
+    for set in set_numbers() {
         let right = record(set);
         let (before, _) = right.split_once("rounds=").expect("the last line");
         for rounds in [0, 1, 23, 24, 25, 30, 31, 9_999_999] {
@@ -469,13 +488,13 @@ fn wrong_rounds_are_dropped() {
             ran += 1;
         }
     }
-    assert_eq!(ran, 16);
+    assert_eq!(ran, SETS.len() * 8);
 }
 
-/// Says that records of both sets in one text are counted through.
+/// Says that records of all sets in one text are counted through.
 #[test]
-fn records_of_both_sets() {
-    let sets = [1, 2, 2, 1, 2, 1, 1, 1, 2, 2, 1];
+fn records_of_all_sets() {
+    let sets = [1, 2, 4, 1, 3, 1, 1, 3, 4, 2, 1];
     let text: String = sets.iter().map(|set| record(*set)).collect();
     let wanted: String = (1..)
         .zip(sets)
@@ -484,8 +503,10 @@ fn records_of_both_sets() {
     assert_eq!(exported(&text), Ok((11, wanted.clone())));
     // The second entry's key ends before its 25th digit; the first's goes on with it.
     let why = |given: Given| Err(given.expect_err("a refusal"));
-    assert_eq!(imported(1, &wanted), why(broken(2, 2, 31)));
-    assert_eq!(imported(2, &wanted), why(broken(1, 2, 31)));
+    for set in set_numbers() {
+        let entry = if set == 2 { 1 } else { 2 };
+        assert_eq!(imported(set, &wanted), why(broken(entry, 2, 31)));
+    }
 }
 
 /// Says where broken records are refused when they are to become entries.
@@ -505,7 +526,8 @@ fn broken_records() {
         (one.to_string() + &entry(1, 2), 2, 1, 1),
         (one.to_string() + "\n", 2, 1, 1),
         ("\n".to_string() + one, 1, 1, 1),
-        (one.replace("set=1", "set=3"), 1, 1, 5),
+        (one.replace("set=1", "set=5"), 1, 1, 5),
+        (two.replace("set=2", "set=4"), 1, 2, 29),
         (one.replace("set=1", "set=2"), 1, 2, 29),
         (two.replace("set=2", "set=1"), 1, 2, 29),
         (one.replace("set=1\n", "set=1\nchip=0\n"), 1, 2, 1),
@@ -528,14 +550,14 @@ fn broken_records() {
         assert_eq!(exported(&text), Err(why), "{text}");
         ran += 1;
     }
-    assert_eq!(ran, 24);
+    assert_eq!(ran, 25);
 }
 
 /// Says what is told of three records that end at any byte when they are to become entries.
 #[test]
 fn every_cut_of_records() {
     let (mut done, mut refused) = (0, 0);
-    for set in [1, 2] {
+    for set in set_numbers() {
         let length = record(set).len();
         let text = record(set).repeat(3);
         for end in 0..=text.len() {
@@ -553,14 +575,18 @@ fn every_cut_of_records() {
             assert_eq!(exported(&text[..end]), wanted);
         }
     }
-    assert_eq!((done, refused), (8, 3 * (163 + 123) - 6));
+    let lengths = 163 + 123 + 163 + 199;
+    assert_eq!(
+        (done, refused),
+        (SETS.len() * 4, 3 * lengths - SETS.len() * 3)
+    );
 }
 
-/// Says that made entries of either set are right and short, that some are empty, and that they are counted.
+/// Says that made entries of each set are right and short, that some are empty, and that they are counted.
 #[test]
 fn made_entries() {
     let mut ran = 0;
-    for set in &second::cipher::SETS {
+    for set in &SETS {
         let mut random = Random::new(93);
         let (mut without_data, mut without_text, mut longest) = (0, 0, 0);
         for _ in 0..2_000 {
@@ -576,5 +602,5 @@ fn made_entries() {
         assert!(without_text > 400 && without_text < 700, "{without_text}");
         assert_eq!(longest, 40);
     }
-    assert_eq!(ran, 4_000);
+    assert_eq!(ran, SETS.len() * 2_000);
 }

@@ -1,5 +1,6 @@
 //! Verdicts and whole outputs of the program.
 
+use second::cipher::{set_numbers, set_of, SETS};
 use second::hex;
 use second::judge::{fault_line, judge_all, report, verdict, Verdict};
 use second::make::{lines_of, right_record};
@@ -7,7 +8,7 @@ use second::random::Random;
 use second::record::{Broken, Field, Form, Record};
 use second::vectors;
 
-/// Gives right records of both sets in turn.
+/// Gives right records of all sets in turn.
 fn samples(count: u64) -> Vec<Record> {
     let mut random = Random::new(51);
     (0..count)
@@ -80,7 +81,7 @@ fn the_first_differing_field() {
 /// Gives a right record of the given set with data and text of the given lengths.
 fn sized(set: u64, ad: usize, text: usize) -> Record {
     let mut random = Random::new(set * 1_000_000 + ad as u64 * 1_000 + text as u64);
-    let key = random.bytes(if set == 1 { 16 } else { 12 });
+    let key = random.bytes(set_of(set).expect("a known set").key);
     let (ad, text) = (random.bytes(ad), random.bytes(text));
     right_record(set, &key, &key, &ad, &text).expect("a fitting message")
 }
@@ -89,7 +90,7 @@ fn sized(set: u64, ad: usize, text: usize) -> Record {
 #[test]
 fn changed_inputs_show() {
     let mut ran = 0;
-    for set in [1, 2] {
+    for set in set_numbers() {
         for text in 17..=56 {
             for part in 0..4 {
                 let mut record = sized(set, 10, text);
@@ -104,7 +105,7 @@ fn changed_inputs_show() {
             }
         }
     }
-    assert_eq!(ran, 2 * 40 * 4);
+    assert_eq!(ran, SETS.len() * 40 * 4);
 }
 
 /// Gives 49 text lengths, 1,907 in sum: all up to 40, and some up to the most that a record holds.
@@ -124,7 +125,7 @@ fn with_cipher(right: &Record, cipher: &[u8]) -> Record {
 #[test]
 fn cut_off_ciphers() {
     let mut ran = 0;
-    for set in [1, 2] {
+    for set in set_numbers() {
         for text in lengths() {
             let right = sized(set, 3, text);
             assert_eq!(verdict(Form::One, &right), Verdict::Equal);
@@ -135,14 +136,14 @@ fn cut_off_ciphers() {
             }
         }
     }
-    assert_eq!(ran, 2 * 1_907);
+    assert_eq!(ran, SETS.len() * 1_907);
 }
 
 /// Says that a cipher that goes on by any number of bytes differs.
 #[test]
 fn lengthened_ciphers() {
     let mut ran = 0;
-    for set in [1, 2] {
+    for set in set_numbers() {
         for text in lengths() {
             let right = sized(set, 3, text);
             for more in [[0; 256], [0x5a; 256]] {
@@ -155,14 +156,14 @@ fn lengthened_ciphers() {
             }
         }
     }
-    assert_eq!(ran, 2 * 2 * (49 * 256 - 1_907));
+    assert_eq!(ran, SETS.len() * 2 * (49 * 256 - 1_907));
 }
 
 /// Says that an empty cipher is right beside an empty text and beside no other.
 #[test]
 fn empty_ciphers_and_empty_texts() {
     let mut ran = 0;
-    for set in [1, 2] {
+    for set in set_numbers() {
         let empty = sized(set, 3, 0);
         assert_eq!(verdict(Form::One, &empty), Verdict::Equal);
         for length in 1..=256 {
@@ -174,7 +175,7 @@ fn empty_ciphers_and_empty_texts() {
             }
         }
     }
-    assert_eq!(ran, 2 * 256 * 2);
+    assert_eq!(ran, SETS.len() * 256 * 2);
 }
 
 /// Gives a right record with a cipher of zeros, made by changing its text byte by byte.
@@ -193,7 +194,7 @@ fn with_zero_cipher(set: u64, text: usize) -> Record {
 #[test]
 fn ciphers_of_zeros() {
     let (mut equal, mut other) = (0, 0);
-    for set in [1, 2] {
+    for set in set_numbers() {
         for text in 0..=40 {
             let right = with_zero_cipher(set, text);
             for length in 0..=256 {
@@ -208,14 +209,14 @@ fn ciphers_of_zeros() {
             }
         }
     }
-    assert_eq!((equal, other), (2 * 41, 2 * 41 * 256));
+    assert_eq!((equal, other), (SETS.len() * 41, SETS.len() * 41 * 256));
 }
 
 /// Says that every byte of cipher and tag counts.
 #[test]
 fn each_byte_of_cipher_and_tag() {
     let (mut ciphers, mut tags) = (0, 0);
-    for set in [1, 2] {
+    for set in set_numbers() {
         for text in lengths() {
             let right = sized(set, 3, text);
             for place in 0..right.cipher.len {
@@ -232,15 +233,15 @@ fn each_byte_of_cipher_and_tag() {
             }
         }
     }
-    assert_eq!(ciphers, 2 * 1_907);
-    assert_eq!(tags, 49 * (16 + 12));
+    assert_eq!(ciphers, SETS.len() * 1_907);
+    assert_eq!(tags, 49 * (16 + 12 + 16 + 16));
 }
 
 /// Says that a cipher of a wrong length stands after wrong rounds and before a wrong tag.
 #[test]
 fn wrong_lengths_beside_other_faults() {
     let mut ran = 0;
-    for set in [1, 2] {
+    for set in set_numbers() {
         for text in 1..=40 {
             let right = sized(set, 3, text);
             let cipher = right.cipher.held();
@@ -262,14 +263,14 @@ fn wrong_lengths_beside_other_faults() {
             }
         }
     }
-    assert_eq!(ran, 2 * 40 * 4);
+    assert_eq!(ran, SETS.len() * 40 * 4);
 }
 
 /// Says that a tag of another length than the set's makes a record unread, whatever else is wrong.
 #[test]
 fn tags_of_another_length() {
     let mut ran = 0;
-    for (set, own) in [(1, 16), (2, 12)] {
+    for (set, own) in set_numbers().zip([16, 12, 16, 16]) {
         let right = sized(set, 3, 20);
         let cut = with_cipher(&right, &right.cipher.held()[..3]);
         let mut miscounted = right.clone();
@@ -285,14 +286,14 @@ fn tags_of_another_length() {
             }
         }
     }
-    assert_eq!(ran, 2 * 3 * 17);
+    assert_eq!(ran, SETS.len() * 3 * 17);
 }
 
 /// Says that a tag line of another length than the set's is reported as broken.
 #[test]
 fn tag_lines_of_another_length() {
     let mut ran = 0;
-    for (set, own) in [(1, 16), (2, 12)] {
+    for (set, own) in set_numbers().zip([16, 12, 16, 16]) {
         let right = sized(set, 3, 20);
         let whole = String::from_utf8(lines(&right)).expect("plain text");
         let tag = [right.tag.held(), &[0; 8]].concat();
@@ -315,7 +316,7 @@ fn tag_lines_of_another_length() {
             ran += 1;
         }
     }
-    assert_eq!(ran, 2 * 21);
+    assert_eq!(ran, SETS.len() * 21);
 }
 
 /// Says that a record of no right form is unread, with its first such line and column 0.
@@ -328,7 +329,7 @@ fn records_of_no_right_form() {
         assert_eq!(verdict(Form::One, &record), unread(8, 0));
         record.text.len = 257;
         assert_eq!(verdict(Form::One, &record), unread(5, 0));
-        record.set = 3;
+        record.set = 5;
         assert_eq!(verdict(Form::One, &record), unread(1, 0));
         ran += 1;
     }

@@ -1,4 +1,4 @@
-//! Answers that were published elsewhere: for one round, for twelve, and for the later edition's shorter runs, which v1 must not give.
+//! Answers that were published elsewhere: for one round, for twelve, and for the later edition's shorter runs, which v1.2 must give and v1 must not.
 
 use second::permutation::*;
 
@@ -47,11 +47,13 @@ fn twelve_rounds() {
         0x3fe53f36f2c1178c,
         0x045d648e4def12c9,
     ];
-    assert_eq!(run(FROM, constants_of_run(12)), of_pattern);
-    assert_eq!(run([0; 5], constants_of_run(12)), of_zeros);
+    for edition in [Edition::V1, Edition::V1Dot2] {
+        assert_eq!(run(FROM, constants_of_run(edition, 12)), of_pattern);
+        assert_eq!(run([0; 5], constants_of_run(edition, 12)), of_zeros);
+    }
 }
 
-/// Says that the last eight and six constants give the later edition's runs, and that ours are others.
+/// Says that the last eight and six constants give the later edition's runs, and that those of v1 are others.
 #[test]
 fn the_later_edition_is_another() {
     let last_eight = [
@@ -70,6 +72,8 @@ fn the_later_edition_is_another() {
     ];
     assert_eq!(run(FROM, &CONSTANTS[4..]), last_eight);
     assert_eq!(run(FROM, &CONSTANTS[6..]), last_six);
-    assert_ne!(run(FROM, constants_of_run(8)), last_eight);
-    assert_ne!(run(FROM, constants_of_run(6)), last_six);
+    let runs = |edition| [8, 6].map(|n| run(FROM, constants_of_run(edition, n)));
+    assert_eq!(runs(Edition::V1Dot2), [last_eight, last_six]);
+    assert_ne!(runs(Edition::V1)[0], last_eight);
+    assert_ne!(runs(Edition::V1)[1], last_six);
 }

@@ -53,14 +53,14 @@ static FAR: [u8; 1_048_577] = [1; 1_048_577];
 #[test]
 fn starts_that_are_taken() {
     let mut ran = 0;
-    for (set, direction) in KINDS {
+    for (set, direction) in kinds() {
         for limit in TAKEN {
             let s = done(counting_start(set, direction, limit), 12);
             expect_started(s, set, direction, limit);
             ran += 1;
         }
     }
-    assert_eq!(ran, 4 * 7);
+    assert_eq!(ran, KINDS * 7);
 }
 
 /// Says that a start with a larger limit is refused with 5 and gives the ended state.
@@ -68,20 +68,20 @@ fn starts_that_are_taken() {
 fn starts_that_are_refused() {
     assert_eq!(ENDED.limit, 0);
     let mut ran = 0;
-    for (set, direction) in KINDS {
+    for (set, direction) in kinds() {
         for limit in REFUSED {
             assert_eq!(counting_start(set, direction, limit), (5, 0, ENDED));
             ran += 1;
         }
     }
-    assert_eq!(ran, 4 * 7);
+    assert_eq!(ran, KINDS * 7);
 }
 
 /// Says that a start tests the set, the key, the nonce and then the limit.
 #[test]
 fn every_mixture_of_faults_of_a_start() {
     let limits = [TAKEN, REFUSED].concat();
-    assert_eq!(expect_starts(&limits), 2 * 2 * 5 * 6 * 6 * 14);
+    assert_eq!(expect_starts(&limits), KINDS * 5 * 6 * 6 * 14);
 }
 
 /// Gives the text call of the state's direction.
@@ -127,7 +127,7 @@ fn expect_refusals(m: &Message, s: Stream) -> usize {
 fn the_limit_stays_up_to_the_end() {
     let mut random = Random::new(SEED);
     let mut ran = 0;
-    for (number, direction) in KINDS {
+    for (number, direction) in kinds() {
         for limit in TAKEN {
             let m = message(&mut random, number, 20, limit.min(21) as usize);
             let kind = (direction, limit);
@@ -156,7 +156,7 @@ fn the_limit_stays_up_to_the_end() {
         }
     }
     // Five states, each with 3 pieces past the limit and 9 other refusals.
-    assert_eq!(ran, 4 * 7 * 5 * (3 + 9));
+    assert_eq!(ran, KINDS * 7 * 5 * (3 + 9));
 }
 
 /// Fills a stream, whose limit is the text's length, by the pieces, with longer ones refused before each.
@@ -195,7 +195,7 @@ fn expect_filled(m: &Message, direction: Direction, pieces: &[Vec<u8>]) {
 fn small_limits() {
     let mut random = Random::new(SEED + 1);
     let mut ran = 0;
-    for (number, direction) in KINDS {
+    for (number, direction) in kinds() {
         for limit in [0, 1, 199, 200, 201] {
             let m = message(&mut random, number, [0, 13][ran % 2], limit);
             let whole = body(&m, direction);
@@ -211,7 +211,7 @@ fn small_limits() {
         }
     }
     // Each kind has 6 cuts at each limit, and 1, 2, 200, 201 and 202 cuts in two.
-    assert_eq!(ran, 4 * (5 * 6 + 606));
+    assert_eq!(ran, KINDS * (5 * 6 + 606));
 }
 
 /// Says that the two largest limits are reached and not passed, in one piece and in two.
@@ -242,13 +242,25 @@ fn large_limits_in_set_2() {
     expect_large(SEED + 3, 2);
 }
 
+/// Says that the two largest limits hold in set 3.
+#[test]
+fn large_limits_in_set_3() {
+    expect_large(SEED + 9, 3);
+}
+
+/// Says that the two largest limits hold in set 4.
+#[test]
+fn large_limits_in_set_4() {
+    expect_large(SEED + 10, 4);
+}
+
 /// Says that pieces whose length or sum would be small in 32 bits are refused with 5.
 #[test]
 fn pieces_past_32_bits() {
     // Zeros that nobody reads or writes take no memory.
     let long = vec![0; (1 << 32) + 200];
     let mut ran = 0;
-    for (number, direction) in KINDS {
+    for (number, direction) in kinds() {
         for (limit, count) in [
             (0, 0),
             (200, 0),
@@ -266,7 +278,7 @@ fn pieces_past_32_bits() {
             }
         }
     }
-    assert_eq!(ran, 4 * 5 * 3);
+    assert_eq!(ran, KINDS * 5 * 3);
 }
 
 /// Makes a call on two streams and says that both do the same; only the limits of their states differ.
@@ -291,7 +303,7 @@ fn same_step(call: Call, [small, large]: [Stream; 2], piece: &[u8], tag: &[u8]) 
 fn no_other_difference() {
     let mut random = Random::new(SEED + 4);
     let mut ran = 0;
-    for (number, direction) in KINDS {
+    for (number, direction) in kinds() {
         let [text, finish] = calls_of(direction);
         for limit in [0, 1, 7, 8, 9, 15, 16, 17, 199, 200, 201] {
             for length in [0, limit / 2, limit - limit.min(1), limit] {
@@ -317,7 +329,7 @@ fn no_other_difference() {
             }
         }
     }
-    assert_eq!(ran, 4 * 11 * 4 * 36);
+    assert_eq!(ran, KINDS * 11 * 4 * 36);
 }
 
 /// Says that associated data has its old limit, whatever the stream's limit of text.
@@ -325,7 +337,7 @@ fn no_other_difference() {
 fn data_keeps_its_own_limit() {
     let mut random = Random::new(SEED + 5);
     let mut ran = 0;
-    for (number, direction) in KINDS {
+    for (number, direction) in kinds() {
         for limit in [0, 1, 200, 65_535, 65_536, 65_537, 1_048_576] {
             let m = message(&mut random, number, 65_536, limit.min(3) as usize);
             let at_start = fresh(&m, direction, limit);
@@ -349,7 +361,7 @@ fn data_keeps_its_own_limit() {
             ran += 1;
         }
     }
-    assert_eq!(ran, 4 * 7);
+    assert_eq!(ran, KINDS * 7);
 }
 
 /// Gives an open state of any words, with 3 bytes of data and so many of text, right but for the limit.
@@ -381,7 +393,7 @@ fn expect_open(s: Stream, left: u64) -> usize {
     let to_data = called(Call::Ad, s, &[1], &mut [], &mut []);
     let answer = if s.phase == Phase::Data { 0 } else { 7 };
     assert_eq!((to_data.0, to_data.2.limit), (answer, s.limit));
-    let tag = &mut [0; 16][..if s.set == 1 { 16 } else { 12 }];
+    let tag = &mut [0; 16][..usize::from(length_in(s.set))];
     let end = called(calls_of(s.direction)[1], s, &[], &mut [], tag);
     let answer = if s.direction == Sealing { 0 } else { 9 };
     assert_eq!((end.0, end.2), (answer, ENDED));
@@ -392,7 +404,7 @@ fn expect_open(s: Stream, left: u64) -> usize {
 #[test]
 fn broken_by_the_limit_or_the_text_count() {
     let mut ran = [0, 0];
-    for (set, direction) in KINDS {
+    for (set, direction) in kinds() {
         for limit in EDGES {
             for count in EDGES {
                 let s = made(set, direction, Phase::Text, limit, count);
@@ -405,14 +417,14 @@ fn broken_by_the_limit_or_the_text_count() {
         }
     }
     // Of nine limits the first allows one of the counts, the second two, and so on.
-    assert_eq!(ran, [4 * 45, 4 * (225 - 45)]);
+    assert_eq!(ran, [KINDS * 45, KINDS * (225 - 45)]);
 }
 
 /// Says that the data phase is sound with any limit in range, and with no other.
 #[test]
 fn broken_by_the_limit_in_the_data_phase() {
     let mut ran = [0, 0];
-    for (set, direction) in KINDS {
+    for (set, direction) in kinds() {
         for limit in EDGES {
             let s = made(set, direction, Phase::Data, limit, 0);
             for ad_count in [0, 3, 65_535] {
@@ -429,14 +441,14 @@ fn broken_by_the_limit_in_the_data_phase() {
             ran[1] += expect_broken(with_counts(s, 65_537, 0));
         }
     }
-    assert_eq!(ran, [4 * 9 * 3, 4 * (6 * 3 + 15 * 3)]);
+    assert_eq!(ran, [KINDS * 9 * 3, KINDS * (6 * 3 + 15 * 3)]);
 }
 
 /// Says of every limit up to some past the largest whether states with it are broken.
 #[test]
 fn every_limit() {
     let mut ran = 0;
-    for (set, direction) in KINDS {
+    for (set, direction) in kinds() {
         let data = made(set, direction, Phase::Data, 0, 0);
         let text = made(set, direction, Phase::Text, 0, 200);
         for limit in 0..1_048_577 + 1_000 {
@@ -446,7 +458,7 @@ fn every_limit() {
             ran += 1;
         }
     }
-    assert_eq!(ran, 4 * 1_049_577);
+    assert_eq!(ran, KINDS * 1_049_577);
 }
 
 /// Says that states which calls gave are broken by another limit only when it is too large or passed.
@@ -510,7 +522,7 @@ fn damaged(s: Stream, way: usize) -> Stream {
 #[test]
 fn every_mixture_of_faults_of_a_text_call() {
     let mut ran = 0;
-    for (set, direction) in KINDS {
+    for (set, direction) in kinds() {
         let text = calls_of(direction)[0];
         for limit in TAKEN {
             for (phase, way) in [Phase::Data, Phase::Text]
@@ -558,7 +570,7 @@ fn every_mixture_of_faults_of_a_text_call() {
     }
     // Sealing with limit 0 leaves out short room for no piece.
     let sealing = 7 * 2 * 3 * 32 - 2 * 3 * 8;
-    assert_eq!(ran, 2 * (sealing + 7 * 2 * 3 * 16));
+    assert_eq!(ran, KINDS / 2 * (sealing + 7 * 2 * 3 * 16));
 }
 
 /// Says that a refused piece doesn't close the data of a stream with a small limit.
@@ -566,7 +578,7 @@ fn every_mixture_of_faults_of_a_text_call() {
 fn a_refused_piece_closes_nothing() {
     let mut random = Random::new(SEED + 7);
     let mut ran = 0;
-    for (number, direction) in KINDS {
+    for (number, direction) in kinds() {
         let m = message(&mut random, number, 40, 5);
         let mut s = done(ad(fresh(&m, direction, 5), &m.ad[..9]), filling(&m, 0, 9));
         for length in [6, 7, 200, 1_048_577] {
@@ -580,7 +592,7 @@ fn a_refused_piece_closes_nothing() {
         expect_end(done(given, closing(&m) + filling(&m, 0, 5)), &m.tag, 12);
         ran += 1;
     }
-    assert_eq!(ran, 4);
+    assert_eq!(ran, KINDS);
 }
 
 /// Gives the right entries of a message that is sealed in pieces of 256 bytes, told from the whole.
@@ -609,6 +621,9 @@ fn entries_of(m: &Message) -> Vec<Entry> {
     entries
 }
 
+/// The sets of which logs have a start.
+const LOGGED: [u64; 2] = [1, 2];
+
 /// Gives the start of the set in a log.
 fn start_of(set: u64) -> log::Call {
     match set {
@@ -622,7 +637,7 @@ fn start_of(set: u64) -> log::Call {
 fn logs_with_more_than_200_bytes() {
     let mut random = Random::new(SEED + 8);
     let mut ran = 0;
-    for set in [1, 2] {
+    for set in LOGGED {
         for length in [1, 200, 201, 600, 65_537] {
             let m = message(&mut random, set, 10, length);
             let right = entries_of(&m);
@@ -647,8 +662,8 @@ fn logs_with_more_than_200_bytes() {
 #[test]
 fn the_limit_of_a_logged_start() {
     let mut ran = 0;
-    for set in [1, 2] {
-        let length = if set == 1 { 16 } else { 12 };
+    for set in LOGGED {
+        let length = length_in(set);
         let data = [counting(0, length), counting(16, length)].concat();
         let before = made(set, Sealing, Phase::Text, 200, 200);
         for before in [ENDED, before, made(set, Checking, Phase::Data, 0, 0)] {

@@ -1,12 +1,13 @@
 //! Inputs of the program in which records of both forms stand together.
 
+use second::cipher::{set_numbers, set_of, SETS};
 use second::judge::{fault_line, judge_all, verdict, Verdict};
 use second::make::{lines_of, right_record};
 use second::record::{form_of, Broken, Form, Record};
 
 /// Gives a right record of the set with some data and text.
 fn right(set: u64) -> Record {
-    let key = vec![0x5a; if set == 1 { 16 } else { 12 }];
+    let key = vec![0x5a; set_of(set).expect("a known set").key];
     right_record(set, &key, &key, b"data", b"some text").expect("a fitting message")
 }
 
@@ -106,7 +107,7 @@ fn the_printed_case_in_form_2() {
 #[test]
 fn verdicts_in_form_2() {
     let mut ran = 0;
-    for set in [1, 2] {
+    for set in set_numbers() {
         let mut rounds = right(set);
         rounds.rounds += 1;
         let mut cipher = right(set);
@@ -138,16 +139,18 @@ fn verdicts_in_form_2() {
         record.rounds = 10_000_000;
         let unread = |line| Verdict::Unread(Broken { line, column: 0 });
         assert_eq!(verdict(Form::Two, &record), unread(10));
-        record.set = 3;
+        record.set = 5;
         assert_eq!(verdict(Form::Two, &record), unread(2));
     }
-    assert_eq!(ran, 2 * 4 * 5);
+    assert_eq!(ran, SETS.len() * 4 * 5);
 }
 
 /// Says that records of both forms in any order are judged one after another.
 #[test]
 fn any_order_of_forms() {
-    let texts = [old(1), old(2), new(1, "0"), new(2, "65535"), new(2, "7")];
+    let olds = set_numbers().map(old);
+    let news = set_numbers().map(|set| new(set, ["0", "65535", "7"][set as usize % 3]));
+    let texts: Vec<String> = olds.chain(news).collect();
     let mut ran = 0;
     for first in &texts {
         for second in &texts {
@@ -158,7 +161,7 @@ fn any_order_of_forms() {
             }
         }
     }
-    assert_eq!(ran, 125);
+    assert_eq!(ran, (2 * SETS.len()).pow(3));
 }
 
 /// Says that a differing field is named in either form, and judging goes on.
@@ -223,7 +226,7 @@ fn broken_records_behind_both_forms() {
         (new(1, "99999"), "3", "line 3, column 10"),
         (new(1, "100000"), "3", "line 3, column 11"),
         (
-            new(2, "1").replace("set=2", "set=3"),
+            new(2, "1").replace("set=2", "set=5"),
             "2",
             "line 2, column 5",
         ),

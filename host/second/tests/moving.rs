@@ -1,12 +1,13 @@
 //! Moving records from form 1 to form 2 and back: one record, and whole inputs.
 
+use second::cipher::{set_numbers, SETS};
 use second::make::lines_of;
 use second::moving::{back, forward, move_all, Direction, Lengths, Moved};
 use second::random::Random;
 use second::record::{Broken, Form, Refused};
 use second::vectors;
 
-/// The lines of a record of set 1 behind those of set and chip.
+/// The lines of a record of any set but the second behind those of set and chip.
 const REST_1: &str = "key=000102030405060708090a0b0c0d0e0f\n\
     nonce=101112131415161718191a1b1c1d1e1f\n\
     ad=a0a1\n\
@@ -33,16 +34,16 @@ type Way = fn(&[u8], &mut [u8]) -> Given;
 /// Gives the text of form 1 of the record of the set.
 fn old(set: u64) -> String {
     match set {
-        1 => format!("set=1\n{REST_1}"),
-        _ => format!("set=2\n{REST_2}"),
+        2 => format!("set=2\n{REST_2}"),
+        _ => format!("set={set}\n{REST_1}"),
     }
 }
 
 /// Gives the text of form 2 of the record of the set, with those characters as its chip.
 fn new(set: u64, chip: &str) -> String {
     match set {
-        1 => format!("form=2\nset=1\nchip={chip}\n{REST_1}"),
-        _ => format!("form=2\nset=2\nchip={chip}\n{REST_2}"),
+        2 => format!("form=2\nset=2\nchip={chip}\n{REST_2}"),
+        _ => format!("form=2\nset={set}\nchip={chip}\n{REST_1}"),
     }
 }
 
@@ -59,8 +60,9 @@ fn longest() -> (String, String) {
 }
 
 /// Gives pairs of texts of form 1 and of form 2 with chip 0 that hold the same.
-fn pairs() -> [(String, String); 3] {
-    [(old(1), new(1, "0")), (old(2), new(2, "0")), longest()]
+fn pairs() -> Vec<(String, String)> {
+    let of_sets = set_numbers().map(|set| (old(set), new(set, "0")));
+    of_sets.chain([longest()]).collect()
 }
 
 /// Gives the answer of a record that breaks there.
@@ -165,7 +167,7 @@ fn every_room() {
 #[test]
 fn chips_before_short_rooms() {
     let mut ran = 0;
-    for set in [1, 2] {
+    for set in set_numbers() {
         for chip in [
             "1", "7", "9", "10", "256", "9999", "10000", "32768", "65535",
         ] {
@@ -173,7 +175,7 @@ fn chips_before_short_rooms() {
             ran += check_refused(back, text.as_bytes(), 200, Err(Refused::Chip));
         }
     }
-    assert_eq!(ran, 2 * 9 * 201);
+    assert_eq!(ran, SETS.len() * 9 * 201);
 }
 
 /// Says that of all chips only 0 goes back.
@@ -218,13 +220,13 @@ fn chips_of_no_right_form() {
         ("65535 ", 11),
     ];
     let mut ran = 0;
-    for set in [1, 2] {
+    for set in set_numbers() {
         for (chip, column) in cases {
             let text = new(set, chip);
             ran += check_refused(back, text.as_bytes(), 200, broken(3, column));
         }
     }
-    assert_eq!(ran, 2 * 18 * 201);
+    assert_eq!(ran, SETS.len() * 18 * 201);
 }
 
 /// Says that a broken line is refused with 10 in every room, whatever the chip in front of it or behind.
@@ -237,7 +239,7 @@ fn broken_lines_before_chips_and_short_rooms() {
         ("form=2", "form=22", 1, 7),
         ("form=2", "form=2 ", 1, 7),
         ("form=2", "Form=2", 1, 1),
-        ("set=1", "set=3", 2, 5),
+        ("set=1", "set=5", 2, 5),
         ("key=00", "key=0g", 4, 6),
         ("nonce=10", "nonce=1", 5, 38),
         ("ad=a0a1", "ad=a0a", 6, 7),
@@ -262,7 +264,7 @@ fn broken_lines_before_chips_and_short_rooms() {
 #[test]
 fn broken_lines_of_form_1() {
     let cases = [
-        ("set=1", "set=3", 1, 5),
+        ("set=1", "set=5", 1, 5),
         ("set=1", "form=2\nset=1", 1, 1),
         ("set=1", "form=1\nset=1", 1, 1),
         ("set=1", "set=1\nchip=0", 2, 1),
@@ -288,14 +290,14 @@ fn broken_lines_of_form_1() {
 #[test]
 fn records_of_the_other_form() {
     let mut ran = 0;
-    for set in [1, 2] {
+    for set in set_numbers() {
         for chip in ["0", "1", "65535", "65536"] {
             let text = new(set, chip);
             ran += check_refused(forward, text.as_bytes(), 200, broken(1, 1));
         }
         ran += check_refused(back, old(set).as_bytes(), 200, broken(1, 1));
     }
-    assert_eq!(ran, 2 * 5 * 201);
+    assert_eq!(ran, SETS.len() * 5 * 201);
 }
 
 /// Gives the line and column one past the end of a text that is the beginning of a record.
@@ -310,7 +312,7 @@ fn end_of(text: &str) -> (u64, u64) {
 fn every_cut() {
     let mut ran = 0;
     let mut cuts = 0;
-    for set in [1, 2] {
+    for set in set_numbers() {
         let texts = [
             (forward as Way, old(set)),
             (back, new(set, "0")),
@@ -331,7 +333,7 @@ fn every_cut() {
     }
     assert_eq!(ran, cuts * 3);
     // The lengths of the record of each set, in form 1 and in form 2 with either chip.
-    assert_eq!(cuts, 163 + 177 + 181 + 122 + 136 + 140);
+    assert_eq!(cuts, 3 * (163 + 177 + 181) + 122 + 136 + 140);
 }
 
 /// Says that what stands behind the one record isn't looked at.
@@ -342,7 +344,7 @@ fn bytes_behind_the_record() {
         b"x",
         b"\n",
         b"\0\xff",
-        b"set=3\n",
+        b"set=5\n",
         b"form=2\n",
         b"form=1\n",
         b"rounds=30\n",
@@ -367,7 +369,7 @@ fn bytes_behind_the_record() {
             assert_eq!(tried(back, &refused, 300).0, Err(Refused::Chip));
         }
     }
-    assert_eq!(ran, 3 * 9 * 2);
+    assert_eq!(ran, (SETS.len() + 1) * 9 * 2);
 }
 
 /// Gives what the one record of a text becomes, or why it isn't moved.

@@ -153,38 +153,54 @@ fn a_round_agrees_with_the_word_program() {
     assert_eq!(ran, 2_400);
 }
 
-/// Says that a run of n rounds takes the first n printed constants, in their order.
+/// The constants as the v1 document prints them.
+const PRINTED: [u64; 12] = [
+    0xf0, 0xe1, 0xd2, 0xc3, 0xb4, 0xa5, 0x96, 0x87, 0x78, 0x69, 0x5a, 0x4b,
+];
+
+/// Says that in v1 a run of n rounds takes the first n printed constants, in their order.
 #[test]
-fn runs_start_with_round_0() {
-    assert_eq!(constants_of_run(6), [0xf0, 0xe1, 0xd2, 0xc3, 0xb4, 0xa5]);
-    assert_eq!(
-        constants_of_run(8),
-        [0xf0, 0xe1, 0xd2, 0xc3, 0xb4, 0xa5, 0x96, 0x87]
-    );
-    let printed = [
-        0xf0, 0xe1, 0xd2, 0xc3, 0xb4, 0xa5, 0x96, 0x87, 0x78, 0x69, 0x5a, 0x4b,
-    ];
+fn runs_start_with_round_0_in_v1() {
+    let of_run = |n| constants_of_run(Edition::V1, n);
+    assert_eq!(of_run(6), [0xf0, 0xe1, 0xd2, 0xc3, 0xb4, 0xa5]);
+    assert_eq!(of_run(8), [0xf0, 0xe1, 0xd2, 0xc3, 0xb4, 0xa5, 0x96, 0x87]);
     let mut ran = 0;
     for n in 0..=12 {
-        assert_eq!(constants_of_run(n), &printed[..n]);
+        assert_eq!(of_run(n), &PRINTED[..n]);
         ran += 1;
     }
     assert_eq!(ran, 13);
 }
 
-/// Says that a run is its rounds one after another.
+/// Says that in v1.2 a run of n rounds takes the last n printed constants, in their order.
+#[test]
+fn runs_end_with_round_11_in_v1_2() {
+    let of_run = |n| constants_of_run(Edition::V1Dot2, n);
+    assert_eq!(of_run(6), [0x96, 0x87, 0x78, 0x69, 0x5a, 0x4b]);
+    assert_eq!(of_run(8), [0xb4, 0xa5, 0x96, 0x87, 0x78, 0x69, 0x5a, 0x4b]);
+    let mut ran = 0;
+    for n in 0..=12 {
+        assert_eq!(of_run(n), &PRINTED[12 - n..]);
+        ran += 1;
+    }
+    assert_eq!(ran, 13);
+}
+
+/// Says that a run is its rounds one after another, in either edition.
 #[test]
 fn a_run_is_its_rounds_in_order() {
     let mut random = Random::new(14);
     let mut ran = 0;
     for n in 0..=12 {
-        let words = any_words(&mut random);
-        let mut wanted = words;
-        for constant in CONSTANTS.iter().take(n) {
-            wanted = round(wanted, *constant);
+        for (edition, skipped) in [(Edition::V1, 0), (Edition::V1Dot2, 12 - n)] {
+            let words = any_words(&mut random);
+            let mut wanted = words;
+            for constant in CONSTANTS.iter().skip(skipped).take(n) {
+                wanted = round(wanted, *constant);
+            }
+            assert_eq!(run(words, constants_of_run(edition, n)), wanted);
+            ran += 1;
         }
-        assert_eq!(run(words, constants_of_run(n)), wanted);
-        ran += 1;
     }
-    assert_eq!(ran, 13);
+    assert_eq!(ran, 13 * 2);
 }

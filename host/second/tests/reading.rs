@@ -1,5 +1,6 @@
 //! Reading records of form 1: right ones, every cut, every line broken in many ways.
 
+use second::cipher::SETS;
 use second::make::{lines_of, right_record};
 use second::random::Random;
 use second::record::{read, Broken, Form, Record, LONGEST_1};
@@ -10,16 +11,21 @@ const LABELS: [&[u8]; 8] = [
     b"set=", b"key=", b"nonce=", b"ad=", b"text=", b"cipher=", b"tag=", b"rounds=",
 ];
 
-/// Gives records of both sets: empty, middling and longest.
+/// How many records of each set are tried.
+const EACH: usize = 5;
+
+/// Gives records of all sets: empty, middling and longest.
 fn samples() -> Vec<Record> {
     let mut all = Vec::new();
-    for (set, length) in [(1, 16), (2, 12)] {
+    for set in &SETS {
+        let length = set.key as u8;
         for (ad, text) in [(0, 0), (1, 3), (9, 0), (0, 17), (256, 256)] {
             let key: Vec<u8> = (0..length).map(|i| 0xa0 + i).collect();
             let nonce: Vec<u8> = (0..length).map(|i| 0x3b + i).collect();
             let ad: Vec<u8> = (0..ad).map(|i: u32| (i * 5) as u8).collect();
             let text: Vec<u8> = (0..text).map(|i: u32| (i * 3 + 1) as u8).collect();
-            all.push(right_record(set, &key, &nonce, &ad, &text).expect("a fitting message"));
+            let record = right_record(set.number, &key, &nonce, &ad, &text);
+            all.push(record.expect("a fitting message"));
         }
     }
     all
@@ -79,7 +85,7 @@ fn right_records_come_back() {
         }
         ran += 1;
     }
-    assert_eq!(ran, 410);
+    assert_eq!(ran, SETS.len() * EACH + 400);
     assert!(longest > 1_600 && longest <= LONGEST_1);
 }
 
@@ -102,10 +108,10 @@ fn every_cut_is_broken() {
             ran += 1;
         }
     }
-    // The lengths of the ten samples, worked out from the record form.
-    let set_1 = 147 + 161 + 165 + 215 + 1_684;
-    let set_2 = 123 + 137 + 141 + 191 + 1_660;
-    assert_eq!(ran, set_1 + set_2);
+    // The lengths of the samples, worked out from the record form; sets 1, 3 and 4 have keys of 16 bytes.
+    let long = 147 + 161 + 165 + 215 + 1_684;
+    let short = 123 + 137 + 141 + 191 + 1_660;
+    assert_eq!(ran, 3 * long + short);
 }
 
 /// Gives a line changed in the given one of the ways that break any line.
@@ -160,7 +166,7 @@ fn each_line_broken_in_the_same_ways() {
             }
         }
     }
-    assert_eq!(ran, 10 * 8 * 20);
+    assert_eq!(ran, SETS.len() * EACH * 8 * 20);
 }
 
 /// Says that lost, doubled, joined and exchanged lines are named where the order first breaks.
@@ -203,7 +209,7 @@ fn lines_out_of_order() {
             ran += 1;
         }
     }
-    assert_eq!(ran, 80);
+    assert_eq!(ran, SETS.len() * EACH * 8);
 }
 
 /// Says that of two broken lines the first is named.
@@ -224,7 +230,7 @@ fn two_broken_lines() {
             }
         }
     }
-    assert_eq!(ran, 10 * 28 * 4);
+    assert_eq!(ran, SETS.len() * EACH * 28 * 4);
 }
 
 /// Says which values the set line takes.
@@ -233,19 +239,28 @@ fn values_of_the_set_line() {
     let mut ran = 0;
     for record in samples() {
         let lines = split(&record);
-        let bad: [&[u8]; 13] = [
-            b"", b"0", b"3", b"9", b"01", b"12", b"1 ", b"+1", b"-1", b"a", b"1.", b"11", b"\x01",
+        let bad: [&[u8]; 16] = [
+            b"", b"0", b"5", b"9", b"01", b"12", b"1 ", b"+1", b"-1", b"a", b"1.", b"11", b"\x01",
+            b"34", b"03", b"3\r",
         ];
         for value in bad {
             assert_eq!(read_by_line(&with_value(&lines, 1, value)), Err(1));
             ran += 1;
         }
-        // The other set is a right first line, but the key then has a wrong length.
-        let other = if record.set == 1 { b"2" } else { b"1" };
-        assert_eq!(read_by_line(&with_value(&lines, 1, other)), Err(2));
-        ran += 1;
+        // Another set is a right first line; the key then has its length, or a wrong one.
+        for other in &SETS {
+            let number = other.number.to_string();
+            let text = with_value(&lines, 1, number.as_bytes());
+            let found = read_by_line(&text).map(|(record, taken)| (record.set, taken));
+            if other.key == record.key.len {
+                assert_eq!(found, Ok((other.number, text.len())));
+            } else {
+                assert_eq!(found, Err(2));
+            }
+            ran += 1;
+        }
     }
-    assert_eq!(ran, 10 * 14);
+    assert_eq!(ran, SETS.len() * EACH * (16 + SETS.len()));
 }
 
 /// Says which values the lines of key, nonce and tag take.
@@ -277,7 +292,7 @@ fn values_of_key_nonce_and_tag() {
             }
         }
     }
-    assert_eq!(ran, 10 * 3 * (71 + 30));
+    assert_eq!(ran, SETS.len() * EACH * 3 * (71 + 30));
 }
 
 /// Says which values the lines of ad, text and cipher take.
@@ -314,7 +329,7 @@ fn values_of_ad_text_and_cipher() {
             }
         }
     }
-    assert_eq!(ran, 10 * 3 * (21 + 26 + 2 + 9));
+    assert_eq!(ran, SETS.len() * EACH * 3 * (21 + 26 + 2 + 9));
 }
 
 /// Says which values the rounds line takes.
@@ -354,7 +369,7 @@ fn values_of_the_rounds_line() {
             ran += 1;
         }
     }
-    assert_eq!(ran, 10 * 26);
+    assert_eq!(ran, SETS.len() * EACH * 26);
 }
 
 /// Gives what reading must say of right bytes in which the byte at `place` became `new`.
@@ -383,8 +398,11 @@ fn after_change(bytes: &[u8], place: usize, new: u8) -> Result<(), Broken> {
     }
     let offset = place - start - LABELS[line].len();
     match number {
-        // The key has the digits of one set, and breaks after 24 of them in the other.
-        1 if new == b'1' || new == b'2' => broken(2, 29),
+        // The key has 32 digits in all sets but the second; with another number it breaks at the 25th.
+        1 if (bytes[place] == b'2') != (new == b'2') && (b'1'..=b'4').contains(&new) => {
+            broken(2, 29)
+        }
+        1 if (b'1'..=b'4').contains(&new) => Ok(()),
         2..=7 if is_hex => Ok(()),
         // A line feed after whole bytes ends the line well; the rest is a broken next line.
         5 if new == b'\n' && offset % 2 != 1 && bytes[place + 1] == b'c' => broken(6, 2),
@@ -420,9 +438,9 @@ fn every_change_of_one_byte() {
             }
         }
     }
-    // The lengths of the eight shorter samples, worked out from the record form.
-    let lengths = 147 + 161 + 165 + 215 + 123 + 137 + 141 + 191;
-    assert_eq!(ran, lengths * 256);
+    // The lengths of the shorter samples, worked out from the record form.
+    let (long, short) = (147 + 161 + 165 + 215, 123 + 137 + 141 + 191);
+    assert_eq!(ran, (3 * long + short) * 256);
 }
 
 /// Says that any bytes are read or refused, and what is read writes back as it stood.

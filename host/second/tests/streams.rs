@@ -4,8 +4,8 @@ mod common;
 mod streaming;
 
 use common::{flipped, message, Message};
-use second::cases::named_cases;
-use second::cipher::set_of;
+use second::cases::{named_cases, named_cases_in};
+use second::cipher::{set_numbers, set_of, SETS};
 use second::permutation::run;
 use second::random::Random;
 use second::stream::{ad, check, finish_checking, is_broken, Direction, Phase, Stream, ENDED};
@@ -20,7 +20,7 @@ const BOTH: [Direction; 2] = [Sealing, Checking];
 fn cuts_of_many_kinds() {
     let mut random = Random::new(SEED);
     let mut ran = 0;
-    for (number, direction) in KINDS {
+    for (number, direction) in kinds() {
         let b = set_of(number).expect("a known set").block;
         let edges = [0, 1, b - 1, b, b + 1, 2 * b, 3 * b - 1, 6 * b + 5];
         for pair in 0..64 {
@@ -34,7 +34,7 @@ fn cuts_of_many_kinds() {
             }
         }
     }
-    assert_eq!(ran, 2 * 64 * 2 * 36);
+    assert_eq!(ran, KINDS * 64 * 36);
 }
 
 /// Says that no cut into two pieces makes a difference, nor any into three.
@@ -42,7 +42,7 @@ fn cuts_of_many_kinds() {
 fn every_cut_in_two_and_three() {
     let mut random = Random::new(SEED + 1);
     let mut ran = 0;
-    for (number, direction) in KINDS {
+    for (number, direction) in kinds() {
         let b = set_of(number).expect("a known set").block;
         let length = 2 * b + 1;
         let m = message(&mut random, number, length, length);
@@ -58,8 +58,8 @@ fn every_cut_in_two_and_three() {
             }
         }
     }
-    // With n bytes there are (n + 1)(n + 2) / 2 pairs of places; n is 17 and 33.
-    assert_eq!(ran, 2 * 2 * (18 * 19 / 2 + 34 * 35 / 2));
+    // With n bytes there are (n + 1)(n + 2) / 2 pairs of places; n is 17 in sets 1 and 3, 33 in 2 and 4.
+    assert_eq!(ran, 2 * 2 * 2 * (18 * 19 / 2 + 34 * 35 / 2));
 }
 
 /// Says that the state depends on the bytes taken and not on the pieces.
@@ -67,7 +67,7 @@ fn every_cut_in_two_and_three() {
 fn states_do_not_remember_the_pieces() {
     let mut random = Random::new(SEED + 2);
     let mut ran = 0;
-    for (number, direction) in KINDS {
+    for (number, direction) in kinds() {
         let m = message(&mut random, number, 53, 53);
         let at_start = fresh(&m, direction, LARGEST);
         let mut bytewise = at_start;
@@ -84,30 +84,32 @@ fn states_do_not_remember_the_pieces() {
             ran += 1;
         }
     }
-    assert_eq!(ran, 2 * 2 * 106);
+    assert_eq!(ran, KINDS * 106);
 }
 
-/// Says that the words in set 1 are those worked out here, within blocks too.
+/// Says that the words in sets 1 and 3 are those worked out here, within blocks too.
 #[test]
-fn words_by_hand_in_set_1() {
+fn words_by_hand_in_blocks_of_8() {
     let (k0, k1) = (0x0001020304050607, 0x08090a0b0c0d0e0f);
+    let sets = [(1, &TWELVE[..6]), (3, &TWELVE[6..])];
+    let cases = sets.map(|set| BOTH.map(|direction| (set, direction)));
     let mut ran = 0;
-    for direction in BOTH {
-        let mut x = words_at_start(1);
-        let s = done(counting_start(1, direction, LARGEST), 12);
-        expect_started(s, 1, direction, LARGEST);
+    for ((set, middle), direction) in cases.concat() {
+        let mut x = words_at_start(set);
+        let s = done(counting_start(set, direction, LARGEST), 12);
+        expect_started(s, set, direction, LARGEST);
 
         x[0] ^= 0x2021220000000000;
         let s = done(ad(s, &[0x20, 0x21, 0x22]), 0);
         assert_eq!((s.words, s.ad_count, s.place), (x, 3, 3));
         x[0] ^= 0x0000002324252627;
-        x = run(x, &TWELVE[..6]);
+        x = run(x, middle);
         x[0] ^= 0x2800000000000000;
         let s = done(ad(s, &counting(0x23, 6)), 6);
         assert_eq!((s.words, s.ad_count, s.place), (x, 9, 1));
 
         x[0] ^= 0x0080000000000000;
-        x = run(x, &TWELVE[..6]);
+        x = run(x, middle);
         x[4] ^= 1;
         let stream_bytes = x[0].to_be_bytes();
         x[0] ^= 0x3031000000000000;
@@ -126,6 +128,60 @@ fn words_by_hand_in_set_1() {
         x[0] ^= 0x0000800000000000;
         x[1] ^= k0;
         x[2] ^= k1;
+        x = run(x, &TWELVE);
+        let tag = [(x[3] ^ k0).to_be_bytes(), (x[4] ^ k1).to_be_bytes()].concat();
+        expect_end(s, &tag, 12);
+        ran += 1;
+    }
+    assert_eq!(ran, 4);
+}
+
+/// Says that the words in set 4 are those worked out here, within blocks too.
+#[test]
+fn words_by_hand_in_set_4() {
+    let (k0, k1) = (0x0001020304050607, 0x08090a0b0c0d0e0f);
+    let middle = &TWELVE[4..];
+    let mut ran = 0;
+    for direction in BOTH {
+        let mut x = words_at_start(4);
+        let s = done(counting_start(4, direction, LARGEST), 12);
+        expect_started(s, 4, direction, LARGEST);
+
+        // Half a block, the byte behind it, and the rest of it with two bytes of the next.
+        x[0] ^= 0x2021222324252627;
+        let s = done(ad(s, &counting(0x20, 8)), 0);
+        assert_eq!((s.words, s.ad_count, s.place), (x, 8, 8));
+        x[1] ^= 0x2800000000000000;
+        let s = done(ad(s, &[0x28]), 0);
+        assert_eq!((s.words, s.ad_count, s.place), (x, 9, 9));
+        x[1] ^= 0x00292a2b2c2d2e2f;
+        x = run(x, middle);
+        x[0] ^= 0x3031000000000000;
+        let s = done(ad(s, &counting(0x29, 9)), 8);
+        assert_eq!((s.words, s.ad_count, s.place), (x, 18, 2));
+
+        x[0] ^= 0x0000800000000000;
+        x = run(x, middle);
+        x[4] ^= 1;
+        let stream_bytes = [x[0].to_be_bytes(), x[1].to_be_bytes()].concat();
+        x[0] ^= 0x4041424344454647;
+        x[1] ^= 0x4849000000000000;
+        // Sealing takes text, checking the ciphertext of the same text.
+        let text = counting(0x40, 10);
+        let cipher: Vec<u8> = text.iter().zip(&stream_bytes).map(|(a, b)| a ^ b).collect();
+        let piece = match direction {
+            Sealing => &text,
+            Checking => &cipher,
+        };
+        let (given, out) = text_call(s, piece);
+        let s = done(given, 8);
+        assert_eq!(out, cipher);
+        assert_eq!((s.words, s.text_count, s.place), (x, 10, 10));
+        assert_eq!((s.ad_count, s.phase), (18, Phase::Text));
+
+        x[1] ^= 0x0000800000000000;
+        x[2] ^= k0;
+        x[3] ^= k1;
         x = run(x, &TWELVE);
         let tag = [(x[3] ^ k0).to_be_bytes(), (x[4] ^ k1).to_be_bytes()].concat();
         expect_end(s, &tag, 12);
@@ -173,7 +229,7 @@ fn words_by_hand_in_set_2() {
     assert_eq!(ran, 2);
 }
 
-/// Says that the named cases have their names, their order and the answers of the rules.
+/// Says that the named cases have their names, their order and, in each set, the answers of the rules.
 #[test]
 fn the_named_cases() {
     let wanted = [
@@ -190,6 +246,8 @@ fn the_named_cases() {
     ];
     let wanted: Vec<(String, u64)> = wanted.map(|(name, n)| (name.to_string(), n)).into();
     assert_eq!(named_cases(), wanted);
+    let ran = SETS.iter().filter(|set| named_cases_in(set) == wanted);
+    assert_eq!(ran.count(), SETS.len());
 }
 
 /// Takes a stream to both limits, with so many blocks filled before the last byte of each.
@@ -229,6 +287,13 @@ fn both_limits_in_set_2() {
     expect_limits(SEED + 19, (2, Checking), 8, [4_095, 65_535], 557_088);
 }
 
+/// Says the same of a checking stream in set 3 and a sealing one in set 4, with the numbers of sets 1 and 2.
+#[test]
+fn both_limits_in_sets_3_and_4() {
+    expect_limits(SEED + 20, (3, Checking), 6, [8_191, 131_071], 835_614);
+    expect_limits(SEED + 21, (4, Sealing), 8, [4_095, 65_535], 557_088);
+}
+
 /// Gives the state with one bit of its key changed.
 fn with_key_bit(mut s: Stream, bit: usize) -> Stream {
     s.key[bit / 8] ^= 1 << (bit % 8);
@@ -265,7 +330,8 @@ fn broken_by_another_ended_state() {
         s[2].place = 1 << bit;
         ran += all_broken(s);
     }
-    ran += expect_broken(Stream { set: 2, ..one });
+    let others = set_numbers().filter(|set| *set != 1);
+    ran += all_broken(others.map(|set| Stream { set, ..one }));
     ran += expect_broken(Stream {
         direction: Checking,
         ..one
@@ -273,7 +339,7 @@ fn broken_by_another_ended_state() {
     // An open state with nothing changed but its phase.
     let phase = Phase::Ended;
     ran += over_open(SEED + 4, |s| expect_broken(Stream { phase, ..s }));
-    assert_eq!(ran, 1 + 320 + 128 + 3 * 64 + 2 + OPEN);
+    assert_eq!(ran, 1 + 320 + 128 + 3 * 64 + 3 + 1 + OPEN);
 }
 
 /// Says that every place but the present count modulo the block is broken.
@@ -308,8 +374,8 @@ fn broken_by_the_place_of_the_other_phase() {
             });
         }
     }
-    // Set 1 has 19 such text states and 3 data states in each direction, set 2 has 22 and 4.
-    assert_eq!(ran, 2 * (19 + 3 + 22 + 4));
+    // Sets 1 and 3 have 19 such text states and 3 data states in each direction, sets 2 and 4 have 22 and 4.
+    assert_eq!(ran, 2 * 2 * (19 + 3 + 22 + 4));
 }
 
 /// Says that a text count before the text phase is broken, at a fitting place too.
@@ -350,7 +416,7 @@ fn broken_by_a_count() {
 #[test]
 fn broken_by_its_set() {
     let ran = over_open(SEED + 9, |s| {
-        let sets = [0, 3, 16, 1 << 32 | 1, 1 << 32 | 2, u64::MAX];
+        let sets = [0, 5, 16, 1 << 32 | 1, 1 << 32 | 4, u64::MAX];
         all_broken(sets.map(|set| Stream { set, ..s }))
     });
     assert_eq!(ran, OPEN * 6);
@@ -482,7 +548,7 @@ fn expect_first(random: &mut Random, number: u64, call: Call, way: usize, faults
 fn every_mixture_of_faults() {
     let mut random = Random::new(SEED + 13);
     let mut ran = 0;
-    for number in [1, 2] {
+    for number in set_numbers() {
         for call in CALLS {
             let all = faults_of(call);
             for mixture in 0..1 << all.len() {
@@ -495,13 +561,13 @@ fn every_mixture_of_faults() {
             }
         }
     }
-    assert_eq!(ran, 2 * 4 * (8 + 32 + 16 + 16 + 32));
+    assert_eq!(ran, SETS.len() * 4 * (8 + 32 + 16 + 16 + 32));
 }
 
 /// Says that every mixture of a start's faults is answered with the earliest, and has ended.
 #[test]
 fn every_mixture_of_faults_of_a_start() {
-    assert_eq!(expect_starts(&[LARGEST]), 2 * 2 * 5 * 6 * 6);
+    assert_eq!(expect_starts(&[LARGEST]), KINDS * 5 * 6 * 6);
 }
 
 /// Says that text and finish calls of the other direction are 7 in both open phases.
@@ -541,7 +607,7 @@ fn nothing_after_the_end() {
 fn a_wrong_tag_ends_the_stream() {
     let mut random = Random::new(SEED + 15);
     let mut ran = 0;
-    for number in [1, 2] {
+    for number in set_numbers() {
         for text_length in [0, 21] {
             let m = message(&mut random, number, 5, text_length);
             let mut s = after_data(&m, Checking, LARGEST);
@@ -561,7 +627,7 @@ fn a_wrong_tag_ends_the_stream() {
             assert_eq!(finish_checking(s, &m.tag), (0, rounds, ENDED));
         }
     }
-    assert_eq!(ran, 2 * (128 + 96));
+    assert_eq!(ran, 2 * (128 + 96 + 128 + 128));
 }
 
 /// Says that damaged or missing pieces are 9 at the end.
@@ -569,7 +635,7 @@ fn a_wrong_tag_ends_the_stream() {
 fn damage_is_noticed() {
     let mut random = Random::new(SEED + 16);
     let mut ran = 0;
-    for number in [1, 2] {
+    for number in set_numbers() {
         let m = message(&mut random, number, 19, 37);
         let judged = |data: &[u8], cipher: &[u8]| {
             let s = ad(fresh(&m, Checking, LARGEST), data).2;
@@ -588,7 +654,7 @@ fn damage_is_noticed() {
         assert_eq!(judged(&m.ad, &m.cipher[..36]), 9);
         ran += 2;
     }
-    assert_eq!(ran, 2 * (56 * 8 + 2));
+    assert_eq!(ran, SETS.len() * (56 * 8 + 2));
 }
 
 /// Says that empty pieces do nothing, but that the first text call closes the data.
@@ -600,7 +666,7 @@ fn empty_pieces() {
         let (given, _) = text_call(s, &[]);
         if s.phase == Phase::Data {
             assert_eq!(ad(s, &[]), (0, 0, s));
-            let middle = if s.set == 1 { 6 } else { 8 };
+            let middle = [6, 8, 6, 8][s.set as usize - 1];
             let closed = done(given, if s.ad_count == 0 { 0 } else { middle });
             assert_eq!((closed.phase, closed.place), (Phase::Text, 0));
             assert_eq!((closed.ad_count, closed.text_count), (s.ad_count, 0));
@@ -627,7 +693,7 @@ fn empty_pieces() {
 fn refusals_change_nothing() {
     let mut random = Random::new(SEED + 18);
     let mut ran = 0;
-    for (number, direction) in KINDS {
+    for (number, direction) in kinds() {
         let m = message(&mut random, number, 20, 20);
         let (front, back) = (m.ad[..7].to_vec(), m.ad[7..].to_vec());
         let mut s = ad(fresh(&m, direction, LARGEST), &front).2;
@@ -652,5 +718,5 @@ fn refusals_change_nothing() {
         expect_end(given.2, &m.tag, 12);
         ran += 1;
     }
-    assert_eq!(ran, 4);
+    assert_eq!(ran, KINDS);
 }

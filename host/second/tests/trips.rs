@@ -4,7 +4,7 @@ mod common;
 
 use common::{flipped, message, Message};
 use second::calls::{open, Answer};
-use second::cipher::{set_of, Set};
+use second::cipher::{set_numbers, set_of, Set, SETS};
 use second::formula::rounds_by_formula;
 use second::random::Random;
 
@@ -70,7 +70,7 @@ fn refused(random: &mut Random, m: &Message, ad: &[u8], cipher: &[u8], tag: &[u8
 fn trips_with_damage() {
     let mut random = Random::new(SEED);
     let (mut trips, mut damages) = (0, 0);
-    for number in [1, 2] {
+    for number in set_numbers() {
         let set = set_of(number).expect("a known set");
         for ad_length in edges(set) {
             for text_length in edges(set) {
@@ -94,7 +94,7 @@ fn trips_with_damage() {
             }
         }
     }
-    assert_eq!((trips, damages), (2_400, 7_200));
+    assert_eq!((trips, damages), (SETS.len() * 1_200, SETS.len() * 3_600));
 }
 
 /// Says that every single bit of a tag counts.
@@ -102,14 +102,14 @@ fn trips_with_damage() {
 fn every_tag_bit_counts() {
     let mut random = Random::new(SEED + 1);
     let mut ran = 0;
-    for number in [1, 2] {
+    for number in set_numbers() {
         let m = message(&mut random, number, 5, 21);
         for bit in 0..m.set.key * 8 {
             refused(&mut random, &m, &m.ad, &m.cipher, &flipped(&m.tag, bit));
             ran += 1;
         }
     }
-    assert_eq!(ran, 128 + 96);
+    assert_eq!(ran, 128 + 96 + 128 + 128);
 }
 
 /// Says that a ciphertext cut or lengthened at a block edge is refused.
@@ -117,7 +117,7 @@ fn every_tag_bit_counts() {
 fn other_lengths_are_refused() {
     let mut random = Random::new(SEED + 2);
     let mut ran = 0;
-    for number in [1, 2] {
+    for number in set_numbers() {
         for text_length in 1..=40 {
             let m = message(&mut random, number, 3, text_length);
             let shorter = m.cipher[..text_length - 1].to_vec();
@@ -128,5 +128,5 @@ fn other_lengths_are_refused() {
             ran += 2;
         }
     }
-    assert_eq!(ran, 160);
+    assert_eq!(ran, SETS.len() * 80);
 }

@@ -1,7 +1,7 @@
 //! The cases P1 to P12 of the rules and those of its run-only cases that are whole messages.
 
 use second::calls::{open, seal, Answer};
-use second::cipher::{first_block, set_of, Set};
+use second::cipher::{first_bytes, set_numbers, set_of, Set, SETS};
 use second::formula::rounds_by_formula;
 use second::permutation::{sigma, substitute};
 
@@ -22,10 +22,10 @@ fn sealed(number: u64, ad: usize, text: usize) -> Answer {
 /// Says that P1 to P6 hold: first blocks, substitution, diffusion.
 #[test]
 fn p1_to_p6() {
-    assert_eq!(first_block(set(1)), [0x80, 0x0c, 0x06, 0, 0, 0, 0, 0]);
+    assert_eq!(first_bytes(set(1)), [0x80, 0x0c, 0x06, 0, 0, 0, 0, 0]);
     let mut second_set = vec![0x60, 0x0c, 0x08];
     second_set.extend([0; 13]);
-    assert_eq!(first_block(set(2)), second_set);
+    assert_eq!(first_bytes(set(2)), second_set);
     assert_eq!([0, 16, 31].map(substitute), [4, 30, 23]);
     assert_eq!(sigma(0, 1), 0x0000_2010_0000_0001);
     assert_eq!(sigma(2, 1), 0x8400_0000_0000_0001);
@@ -53,27 +53,34 @@ fn p7_to_p12() {
     assert_eq!(ran, 6);
 }
 
-/// Says that a set 2 message at both limits is done and opens again.
+/// Says that a message of each set at both limits is done and opens again.
 #[test]
-fn set_2_at_both_limits() {
-    let key = [7; 12];
+fn both_limits_in_each_set() {
     let ad = vec![1; 65_536];
     let text: Vec<u8> = (0..1_048_576u32).map(|i| (i % 251) as u8).collect();
-    let mut cipher = vec![0; text.len()];
-    let mut tag = [0; 12];
-    let answer = seal(2, &key, &key, &ad, &text, &mut cipher, &mut tag);
-    let rounds = 24 + 8 * (4_097 + 65_537 - 1);
-    assert_eq!(answer, Answer { number: 0, rounds });
-    let mut back = vec![0; text.len()];
-    assert_eq!(open(2, &key, &key, &ad, &cipher, &tag, &mut back), answer);
-    assert!(back == text);
+    let eight = 24 + 6 * (8_193 + 131_073 - 1);
+    let sixteen = 24 + 8 * (4_097 + 65_537 - 1);
+    let mut ran = 0;
+    for (number, rounds) in set_numbers().zip([eight, sixteen, eight, sixteen]) {
+        let key = vec![7; set(number).key];
+        let mut cipher = vec![0; text.len()];
+        let mut tag = key.clone();
+        let answer = seal(number, &key, &key, &ad, &text, &mut cipher, &mut tag);
+        assert_eq!(answer, Answer { number: 0, rounds });
+        let mut back = vec![0; text.len()];
+        let opened = open(number, &key, &key, &ad, &cipher, &tag, &mut back);
+        assert_eq!(opened, answer);
+        assert!(back == text);
+        ran += 1;
+    }
+    assert_eq!(ran, SETS.len());
 }
 
 /// Says that the counted rounds are those of the formula for all small lengths.
 #[test]
 fn counted_rounds_are_those_of_the_formula() {
     let mut ran = 0;
-    for number in [1, 2] {
+    for number in set_numbers() {
         for ad in 0..=40 {
             for text in 0..=40 {
                 let rounds = rounds_by_formula(set(number), ad, text);
@@ -83,14 +90,14 @@ fn counted_rounds_are_those_of_the_formula() {
             }
         }
     }
-    assert_eq!(ran, 2 * 41 * 41);
+    assert_eq!(ran, SETS.len() * 41 * 41);
 }
 
 /// Says that one byte past a limit is refused with 5, alone and together.
 #[test]
 fn past_the_limits() {
     let mut ran = 0;
-    for number in [1, 2] {
+    for number in set_numbers() {
         for (ad, text) in [(65_537, 0), (0, 1_048_577), (65_537, 1_048_577)] {
             let refusal = Answer {
                 number: 5,
@@ -108,7 +115,7 @@ fn past_the_limits() {
             ran += 1;
         }
     }
-    assert_eq!(ran, 6);
+    assert_eq!(ran, SETS.len() * 3);
 }
 
 /// Says that an output one byte short is refused with 6, and a wrong key with 2 before a wrong nonce.

@@ -12,7 +12,7 @@ type Answer = Result<Rounds, Refusal>;
 type Seal = fn(Set, &[u8], &[u8], &[u8], &[u8], &mut [u8], &mut [u8]) -> Answer;
 type Open = fn(Set, &[u8], &[u8], &[u8], &[u8], &[u8], &mut [u8]) -> Answer;
 
-/// Times every text in both sets, with 16 bytes of data.
+/// Times every text in each set, with 16 bytes of data.
 pub fn time() {
     for set in Set::ALL {
         for (name, length) in TEXTS {

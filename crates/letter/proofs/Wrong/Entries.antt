@@ -1,11 +1,10 @@
 -- The contracts rule out the wrong answers of the calls of entries: each is computed in the checker, but for one that is a law.
 use mathlib.Core.Path.{_≡_, refl, sym, ap, _∙_}
-use mathlib.Core.Bool.{false}
 use mathlib.Core.List.{List}
 use Prim.Native.Nat.{ℕ}
 use native.Mathlib.Omega.{arith}
 use lib.ListN.{getD}
-use Rattle.answers.specs.declared.Answer.the-variants.{Done, UnknownSet, NoRoom, BrokenRecord, ChipLost}
+use Rattle.answers.specs.declared.Answer.the-variants.{Done, NoRoom, BrokenRecord, ChipLost}
 use Rattle.permutation.specs.Runs.{roundsOf, constantsOf, constants}
 use Rattle.ascon.specs.Sets.{table, isSet, rowOf}
 use Rattle.ascon.specs.Rounds.{adBlocks, textBlocks, messageRounds}
@@ -23,7 +22,7 @@ use Rattle.entry.specs.Calls.{withLine, begun, rounded, given, readEntry, write
 use Rattle.entry.specs.Laws.{WrongAt}
 use Rattle.entry.proofs.Laws.{entries}
 use Rattle.letter.specs.Wrong.Entries.{Wrong}
-use Rattle.letter.proofs.Calls.{off}
+use Rattle.letter.proofs.Calls.{off, no-set}
 
 -- a text that is refused is wrong at a line and column
 place : (text : List ℕ) (r : Reading) → r .answer ≡ BrokenRecord → r ≡ readEntry 1 1 text → WrongAt 1 1 text (r .line) (r .column)
@@ -31,12 +30,6 @@ unfolding isSet table
 place text r refused p =
     entries .reads 1 1 refl (omega arith) .refused text (r .line) (r .column) .0
     (sym (ap (λ (q : Reading). q .answer) p) ∙ refused, sym (ap (λ (q : Reading). q .line) p), sym (ap (λ (q : Reading). q .column) p))
-
--- of an unknown set nothing is read
-no-set : (set number : ℕ) (text : List ℕ) (r : Reading) → isSet set ≡ false → r .answer ≡ Done → r ≡ readEntry set number text → ⊥
-no-set set number text r none done p =
-    let answer : Done ≡ UnknownSet = sym done ∙ ap (λ (q : Reading). q .answer) (p ∙ entries .unknown-set set number text none) in
-    off (cc answer)
 
 pub wrong : Wrong
 unfolding readEntry writeEntry refusedWith refusedAt readAs readOf stepOf nameStep feedStep valueStep kindAt named entry.name entry.valueKind withLine begun rounded given bytesAt lineText entryText lineOf blank fieldOf isField withNumber withField valueKind keeps broken rowOf table isSet digitIn hexDigitIn places numeral messageRounds adBlocks textBlocks roundsOf constantsOf constants
@@ -48,7 +41,7 @@ wrong = record {
   read-count-zero = λ early κ e p. let column : _≡_ {A = ℕ} 10 9 = ap (λ (x : Reading). x .column) p in absurd (omega arith);
   read-inside = λ κ e p. off (cc (ap (λ (x : Reading). x .early) p));
   read-rounds = λ taken rounds other κ e p. other (ap (λ (x : Reading). x .content .rounds) p);
-  read-set = λ set number text r none done κ e p. no-set set number text r none done p;
+  read-set = λ set number text r none differs κ e p. differs (ap (λ (x : Reading). x .answer) p ∙ rw (no-set set none));
   write-broken = λ line column κ e p. let answer : NoRoom ≡ BrokenRecord = ap (λ (x : WriteLeaves). x .outcome .answer) p in off (cc answer);
   write-line = λ κ e p. let line : _≡_ {A = ℕ} 4 5 = ap (λ (x : WriteLeaves). x .outcome .line) p in absurd (omega arith);
   write-chip = λ line column written κ e p. let answer : Done ≡ ChipLost = ap (λ (x : WriteLeaves). x .outcome .answer) p in off (cc answer);

@@ -7,7 +7,7 @@ use Rattle.permutation.specs.Round.{_⋙_, addConstant, sBox, bit, fromBits, co
 use Rattle.permutation.specs.Runs.{constants, constantsOf, roundsOf, rounds, permute}
 use Rattle.permutation.specs.Strings.{bytesOf, valueOf, stringOf, stateOf}
 use Rattle.ascon.specs.Sets.{table, isSet, rowOf}
-use Rattle.ascon.specs.Mode.{p, firstBlock, initialise, separate, count, pad, beforeText, encrypted, finalise, sealed}
+use Rattle.ascon.specs.Mode.{p, beforeKey, initialise, separate, count, pad, beforeText, encrypted, finalise, sealed}
 use Rattle.ascon.specs.Rounds.{adBlocks, textBlocks, messageRounds}
 use Rattle.digits.specs.Numbers.{places, numeral}
 use Rattle.digits.specs.Room.{lineOf}
@@ -27,10 +27,10 @@ use Rattle.judge.specs.Verdicts as verdicts
 use Rattle.judge.specs.Steps.{verdictRead, StepLeaves, stepCall, stepBy}
 use Rattle.judge.proofs.Laws.{judges}
 use Rattle.letter.specs.Wrong.Judging.{Wrong}
-use Rattle.letter.proofs.Calls.{off}
+use Rattle.letter.proofs.Calls.{off, no-set}
 
 pub wrong : Wrong
-unfolding finalise adBlocks textBlocks messageRounds ourSealing verdictOn verdicts.ourRounds verdictRead stepBy stepCall readAny formOf insideMark readCall readOf stepOf nameStep feedStep valueStep kindOf named valueKind withValue given refusedAt name names keeps broken isField fieldOf withNumber withField blank digitIn sealed encrypted pad count beforeText isSet rowOf table roundsOf constantsOf constants separate initialise firstBlock p permute rounds round diffuse Σ₀ Σ₁ Σ₂ Σ₃ Σ₄ _⋙_ substitute substituted column fromBits bit sBox addConstant stringOf stateOf bytesOf valueOf places numeral lineOf recordLine verdictLine fieldLine reportText reportCall
+unfolding finalise adBlocks textBlocks messageRounds ourSealing verdictOn verdicts.ourRounds verdictRead stepBy stepCall readAny formOf insideMark readCall readOf stepOf nameStep feedStep valueStep kindOf named valueKind withValue given refusedAt name names keeps broken isField fieldOf withNumber withField blank digitIn sealed encrypted pad count beforeText isSet rowOf table roundsOf constantsOf constants separate initialise beforeKey p permute rounds round diffuse Σ₀ Σ₁ Σ₂ Σ₃ Σ₄ _⋙_ substitute substituted column fromBits bit sBox addConstant stringOf stateOf bytesOf valueOf places numeral lineOf recordLine verdictLine fieldLine reportText reportCall
 wrong = record {
   difference-cut = λ κ e p. let told : Same ≡ At 1 = p in off (cc told);
   difference-longer = λ κ e p. let told : Same ≡ At 1 = p in off (cc told);
@@ -54,6 +54,9 @@ wrong = record {
   judge-cut-off = λ κ e p. let verdict : Tag ≡ Cipher = p in off (cc verdict);
   judge-rounds = λ κ e p. let verdict : Tag ≡ Rounds = p in off (cc verdict);
   judge-tag = λ r other κ e p. other (judges .equal r .0 (sym p) .tag);
+  judge-three = λ other differs κ e p. differs p;
+  judge-four = λ other differs κ e p. differs p;
+  judge-set = λ set none other differs κ e p. differs (p ∙ rw (no-set set none));
   judge-chip = λ κ e p. let verdict : Unread 3 0 ≡ Rounds = p in off (cc verdict);
   judge-column = λ line column κ e p. let verdict : Unread line (suc column) ≡ Unread 1 0 = p in let none : suc column ≡ 0 = cc in absurd (omega arith);
   judge-line = λ κ e p. let verdict : Unread 0 0 ≡ Unread 1 0 = p in off (cc verdict);

@@ -4,7 +4,7 @@ use mathlib.Core.List.{List, [], _∷_}
 use Prim.Native.Nat.{ℕ}
 use native.Mathlib.Omega.{arith}
 use lib.ListN.{getD}
-use Rattle.answers.specs.declared.Answer.the-variants.{Done, UnknownSet, NoRoom, BrokenRecord, ChipLost}
+use Rattle.answers.specs.declared.Answer.the-variants.{Done, NoRoom, BrokenRecord, ChipLost}
 use Rattle.permutation.specs.Runs.{roundsOf, constantsOf, constants}
 use Rattle.ascon.specs.Sets.{table, isSet, rowOf}
 use Rattle.ascon.specs.Rounds.{adBlocks, textBlocks, messageRounds}
@@ -25,7 +25,7 @@ use Rattle.moving.specs.Moves.{MoveLeaves, refusedMove, movedAs, moveCall, move
 use Rattle.moving.specs.Known.{longRecord}
 use Rattle.moving.proofs.Laws.{moves}
 use Rattle.letter.specs.Wrong.Moving.{Wrong}
-use Rattle.letter.proofs.Calls.{off}
+use Rattle.letter.proofs.Calls.{off, no-set}
 
 -- no route is another
 forward-kept : Forward ≡ Back → ⊥
@@ -64,9 +64,10 @@ wrong = record {
   import-part = λ κ p. let byte : _≡_ {A = ℕ} 0x73 0 = ap (λ (x : AllLeaves). getD (x .out) 0 0) p in absurd (omega arith);
   import-room = λ number line column κ e p. let answer : NoRoom ≡ BrokenRecord = ap (λ (x : AllLeaves). x .outcome .answer) p in off (cc answer);
   import-end = λ records written κ e p. let answer : Done ≡ BrokenRecord = ap (λ (x : AllLeaves). x .outcome .answer) p in off (cc answer);
-  import-set = λ records written κ e p. let answer : Done ≡ UnknownSet = ap (λ (x : AllLeaves). x .outcome .answer) p in off (cc answer);
-  import-set-wide = λ records written κ e p. let answer : Done ≡ UnknownSet = ap (λ (x : AllLeaves). x .outcome .answer) p in off (cc answer);
-  import-set-late = λ number line column κ e p. let answer : BrokenRecord ≡ UnknownSet = ap (λ (x : AllLeaves). x .outcome .answer) p in off (cc answer);
+  import-set = λ set text out r none differs κ e p. differs (ap (λ (x : AllLeaves). x .outcome .answer) p ∙ rw (no-set set none));
+  import-set-one = λ set number text out r none differs κ e p. differs (ap (λ (x : MoveLeaves). x .outcome .answer) p ∙ rw (no-set set none));
+  import-three = λ r differs κ e p. differs (ap (λ (x : AllLeaves). x .outcome .answer) p);
+  import-four = λ r differs κ e p. differs (ap (λ (x : AllLeaves). x .outcome .answer) p);
   import-other-key = λ records written κ e p. let answer : Done ≡ BrokenRecord = ap (λ (x : AllLeaves). x .outcome .answer) p in off (cc answer);
   export-nought = λ κ p. let byte : _≡_ {A = ℕ} 0x30 0x31 = ap (λ (x : AllLeaves). getD (x .out) 8 0) p in absurd (omega arith);
   export-lower = λ κ p. let byte : _≡_ {A = ℕ} 0x61 0x41 = ap (λ (x : AllLeaves). getD (x .out) 37 0) p in absurd (omega arith);

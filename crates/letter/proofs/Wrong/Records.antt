@@ -5,7 +5,7 @@ use Prim.Native.Nat.{ℕ, suc, _<_}
 use native.Mathlib.Omega.{arith}
 use lib.ListN.{getD}
 use Rattle.answers.specs.declared.Answer.the-variants.{Done, NoRoom, BrokenRecord, ChipLost}
-use Rattle.ascon.specs.Sets.{table, rowOf}
+use Rattle.ascon.specs.Sets.{table, isSet, rowOf}
 use Rattle.digits.specs.declared.hex.Case.the-variants.{Lower}
 use Rattle.digits.specs.declared.hex.Digit.the-variants.{Value, NoDigit}
 use Rattle.digits.specs.Hex.{digitIn, digitOf, hexDigitIn}
@@ -25,7 +25,7 @@ use Rattle.record.specs.Calls.{withValue, given, refusedAt, readAs, readCall, f
 use Rattle.record.specs.Laws.{WrongAt}
 use Rattle.record.proofs.Laws.{reads-and-writes}
 use Rattle.letter.specs.Wrong.Records.{Wrong}
-use Rattle.letter.proofs.Calls.{off}
+use Rattle.letter.proofs.Calls.{off, no-set}
 
 -- a character that is read as a value is its digit
 other : (c v : ℕ) → (v < 16 → hexDigitIn Lower v ≡ c → ⊥) → Value v ≡ digitOf c → ⊥
@@ -42,7 +42,7 @@ place form text r refused p =
     (sym (ap (λ (q : Reading). q .answer) p) ∙ refused, sym (ap (λ (q : Reading). q .line) p), sym (ap (λ (q : Reading). q .column) p))
 
 pub wrong : Wrong
-unfolding writeCall refusedWith readAs readAny formOf insideMark blank withField readCall readOf stepOf nameStep feedStep valueStep kindOf named valueKind withValue given refusedAt name names withNumber keeps broken isField fieldOf rowOf table digitIn hexDigitIn places numeral lineOf put
+unfolding writeCall refusedWith readAs readAny formOf insideMark blank withField readCall readOf stepOf nameStep feedStep valueStep kindOf named valueKind withValue given refusedAt name names withNumber keeps broken isField fieldOf rowOf table isSet digitIn hexDigitIn places numeral lineOf put
 wrong = record {
   read-digit-other = λ c v none κ e p. other c v none p;
   read-digit-none = λ v h κ e p. digit v h p;
@@ -100,6 +100,8 @@ wrong = record {
   read-feed = λ column early κ e p. let line : _≡_ {A = ℕ} 2 1 = ap (λ (x : Reading). x .line) p in absurd (omega arith);
   read-decided = λ κ e p. off (cc (ap (λ (x : Reading). x .early) p));
   read-mended = λ κ e p. off (cc (ap (λ (x : Reading). x .early) p));
+  read-three = λ column early κ e p. let line : _≡_ {A = ℕ} 1 2 = ap (λ (x : Reading). x .line) p in absurd (omega arith);
+  read-four = λ column early κ e p. let line : _≡_ {A = ℕ} 2 3 = ap (λ (x : Reading). x .line) p in absurd (omega arith);
   read-name = λ column early κ e p. let line : _≡_ {A = ℕ} 4 3 = ap (λ (x : Reading). x .line) p in absurd (omega arith);
   read-end = λ early κ e p. let column : _≡_ {A = ℕ} 39 4 = ap (λ (x : Reading). x .column) p in absurd (omega arith);
   read-key-end = λ early κ e p. let column : _≡_ {A = ℕ} 37 29 = ap (λ (x : Reading). x .column) p in absurd (omega arith);
@@ -113,6 +115,10 @@ wrong = record {
   first-broken-text = λ κ e p. let line : _≡_ {A = ℕ} 6 5 = p in absurd (omega arith);
   first-broken-long = λ κ e p. let line : _≡_ {A = ℕ} 0 5 = p in absurd (omega arith);
   first-broken-key = λ κ e p. let line : _≡_ {A = ℕ} 0 2 = p in absurd (omega arith);
+  first-broken-three = λ other differs κ e p. differs p;
+  first-broken-four = λ other differs κ e p. differs p;
+  first-broken-set = λ set none other differs κ e p. differs (p ∙ rw (no-set set none));
+  two-set = λ set none other differs κ e p. differs (p ∙ rw (no-set set none));
   first-broken-rounds = λ κ e p. let line : _≡_ {A = ℕ} 0 8 = p in absurd (omega arith);
   first-broken-past = λ κ e p. off (cc p);
   two-chip-past = λ column early κ e p. let line : _≡_ {A = ℕ} 4 3 = ap (λ (x : Reading). x .line) p in absurd (omega arith);

@@ -8,7 +8,7 @@ use Rattle.permutation.specs.Round.{_⋙_, addConstant, sBox, bit, fromBits, co
 use Rattle.permutation.specs.Runs.{constants, constantsOf, roundsOf, rounds, permute}
 use Rattle.permutation.specs.Strings.{bytesOf, valueOf, stringOf, stateOf}
 use Rattle.ascon.specs.Sets.{table, isSet, rowOf}
-use Rattle.ascon.specs.Mode.{p, firstBlock, initialise, separate, finalise}
+use Rattle.ascon.specs.Mode.{p, beforeKey, initialise, separate, finalise}
 use Rattle.digits.specs.Hex.{digitIn}
 use Rattle.lines.specs.Right.{named}
 use Rattle.lines.specs.Steps as steps
@@ -42,7 +42,7 @@ place text r refused p =
     (sym (ap (λ (q : Reading). q .answer) p) ∙ refused, sym (ap (λ (q : Reading). q .line) p), sym (ap (λ (q : Reading). q .column) p))
 
 pub wrong : Wrong
-unfolding readEntry refusedAt readAs readCall readLine fieldIn given kindAt callKind blank readOf steps.stepOf nameStep feedStep valueStep named fieldOf digitIn replayOf stretchOf stepBy stepOn compared started sealedPiece finished limitedStartTest startCall adCall textCall tookText finishCall textWords pieceTest textTest finishTest filledRounds closingRounds isSound isSoundOpen isSoundEnded absorbed sponge.given adClosed tagOf rowOf table isSet roundsOf constantsOf constants finalise separate initialise firstBlock p permute rounds round diffuse Σ₀ Σ₁ Σ₂ Σ₃ Σ₄ _⋙_ substitute substituted column fromBits bit sBox addConstant stringOf stateOf bytesOf valueOf
+unfolding readEntry refusedAt readAs readCall readLine fieldIn given kindAt callKind blank readOf steps.stepOf nameStep feedStep valueStep named fieldOf digitIn replayOf stretchOf stepBy stepOn compared started sealedPiece finished limitedStartTest startCall adCall textCall tookText finishCall textWords pieceTest textTest finishTest filledRounds closingRounds isSound isSoundOpen isSoundEnded absorbed sponge.given adClosed tagOf rowOf table isSet roundsOf constantsOf constants finalise separate initialise beforeKey p permute rounds round diffuse Σ₀ Σ₁ Σ₂ Σ₃ Σ₄ _⋙_ substitute substituted column fromBits bit sBox addConstant stringOf stateOf bytesOf valueOf
 wrong = record {
   log-call = λ r other κ e p. other p;
   log-finish = λ r other κ e p. other p;

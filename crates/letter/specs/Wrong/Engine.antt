@@ -1,13 +1,14 @@
 -- Wrong answers of the calls below the families.
 use mathlib.Core.Bool.{true, false}
 use mathlib.Core.List.{[], _∷_, _++_}
-use Prim.Native.Nat.{ℕ}
-use lib.ListN.{replicate, drop}
+use Prim.Native.Nat.{ℕ, _≤_}
+use lib.ListN.{replicate}
 use Rattle.answers.specs.declared.Answer.the-variants.{Done, TagDiffers}
-use Rattle.permutation.specs.declared.Run.the-variants.{Twelve, FirstEight, FirstSix}
-use Rattle.permutation.specs.Runs.{constants, rounds, permute, ofWords, toWords, permuteWords}
-use Rattle.permutation.specs.Strings.{zeros}
-use Rattle.ascon.specs.Sets.{firstWord}
+use Rattle.permutation.specs.declared.Run.the-variants.{Twelve, FirstEight, FirstSix, LastEight, LastSix}
+use Rattle.permutation.specs.Runs.{rounds, permute, ofWords, toWords, permuteWords}
+use Rattle.permutation.specs.Strings.{bytesOf, zeros}
+use Rattle.ascon.specs.Sets.{firstWordV1}
+use Rattle.ascon.specs.Known.{counting}
 use Rattle.sponge.specs.declared.Way.the-variants.{Seal, Open}
 use Rattle.sponge.specs.Sponge.{started, finished}
 use Rattle.answers.proofs as answers
@@ -16,7 +17,7 @@ use Rattle.timing.proofs as timing
 use Rattle.sets.proofs as sets
 use Rattle.sponge.proofs as sponge
 use Rattle.tags.proofs as tags
-use Rattle.letter.specs.Calls.{lent, Never, NeverLeaves}
+use Rattle.letter.specs.Calls.{lent, Never, Only, NeverLeaves, NoSet}
 
 pub record Wrong : Type 0 where
   -- done is not 1
@@ -37,8 +38,11 @@ pub record Wrong : Type 0 where
   pub rounded-turn-x3 : (x0 x1 x2 x4 : ℕ) → Never permutation.rounded.Reads.Learnt (ofWords (zeros 4 ++ (1 ∷ [])), (0, tt)) (record { x0 = x0; x1 = x1; x2 = x2; x3 = 0x0020800000000001; x4 = x4 })
   -- x4 is turned by 7, and not by 8
   pub rounded-turn-x4 : (x0 x1 x2 x3 : ℕ) → Never permutation.rounded.Reads.Learnt (ofWords (zeros 4 ++ (1 ∷ [])), (0, tt)) (record { x0 = x0; x1 = x1; x2 = x2; x3 = x3; x4 = 0x0100000000800001 })
-  -- eight rounds do not take the last eight constants
-  pub permuted-last-eight : Never permutation.permuted.Reads.Learnt (ofWords (zeros 5), (FirstEight, tt)) (rounds (drop 4 constants) (ofWords (zeros 5)))
+  -- v1's runs do not take the last constants, nor the later edition's the first
+  pub permuted-last-eight : Never permutation.permuted.Reads.Learnt (ofWords (zeros 5), (FirstEight, tt)) (permute LastEight (ofWords (zeros 5)))
+  pub permuted-last-six : Never permutation.permuted.Reads.Learnt (ofWords (zeros 5), (FirstSix, tt)) (permute LastSix (ofWords (zeros 5)))
+  pub permuted-first-eight : Never permutation.permuted.Reads.Learnt (ofWords (zeros 5), (LastEight, tt)) (permute FirstEight (ofWords (zeros 5)))
+  pub permuted-first-six : Never permutation.permuted.Reads.Learnt (ofWords (zeros 5), (LastSix, tt)) (permute FirstSix (ofWords (zeros 5)))
   -- x0 and x1 do not change places
   pub permute-words-swapped : let s = permute FirstSix (ofWords (zeros 5)) in
       NeverLeaves permutation.permute_words.Reads.Learnt (lent (zeros 5), (FirstSix, tt)) tt (lent (s .x1 ∷ s .x0 ∷ s .x2 ∷ s .x3 ∷ s .x4 ∷ []), (FirstSix, tt))
@@ -51,28 +55,31 @@ pub record Wrong : Type 0 where
   pub read-digits-past : Never timing.kvistmaur_read_digits.Reads.Learnt (lent (0x30 ∷ 0x67 ∷ 0x31 ∷ []), tt) 3
   -- a digit's place does not keep the character
   pub read-digits-kept : NeverLeaves timing.kvistmaur_read_digits.Reads.Learnt (lent (0x31 ∷ []), tt) 1 (lent (0x31 ∷ []), tt)
-  -- 3 is no set
-  pub is-set-three : Never sets.is_set.Reads.Learnt (3, tt) true
-  -- 2 is a set
-  pub is-set-two : Never sets.is_set.Reads.Learnt (2, tt) false
-  -- set 2 has no key of 16
-  pub key-length-two : Never sets.key_length.Reads.Learnt (2, tt) 16
-  -- set 1 has no key of 12
-  pub key-length-one : Never sets.key_length.Reads.Learnt (1, tt) 12
-  -- set 2 has no block of 8
-  pub block-length-two : Never sets.block_length.Reads.Learnt (2, tt) 8
-  -- set 1 has no block of 16
-  pub block-length-one : Never sets.block_length.Reads.Learnt (1, tt) 16
-  -- set 1 does not run eight rounds between
-  pub between-one : Never sets.between.Reads.Learnt (1, tt) FirstEight
-  -- set 2 does not run twelve rounds between
-  pub between-two : Never sets.between.Reads.Learnt (2, tt) Twelve
-  -- the rounds between are not 8 in set 1
-  pub rounds-between-one : Never sets.rounds_between.Reads.Learnt (1, tt) 8
-  -- the first word of set 1 is not that of the later edition, which has the block's size in it
-  pub first-word-later : Never sets.first_word.Reads.Learnt (1, tt) 0x80400c0600000000
-  -- the rounds between are not 12 in set 2
-  pub rounds-between-two : Never sets.rounds_between.Reads.Learnt (2, tt) 12
+  -- 0 is no set, nor is any number over 4: not 5, and not one whose low bits are a set's
+  pub is-set-none : (set : ℕ) → NoSet set → Never sets.is_set.Reads.Learnt (set, tt) true
+  -- and 1 to 4 are sets
+  pub is-set-each : (set : ℕ) → 1 ≤ set → set ≤ 4 → Never sets.is_set.Reads.Learnt (set, tt) false
+  -- a set has no other key, block, run between, number of rounds, or first word than its row: set 4 no block of 8, set 3 not the first constants, and set 1 not the last
+  pub key-length-one : Only sets.key_length.Reads.Learnt (1, tt) 16
+  pub key-length-two : Only sets.key_length.Reads.Learnt (2, tt) 12
+  pub key-length-three : Only sets.key_length.Reads.Learnt (3, tt) 16
+  pub key-length-four : Only sets.key_length.Reads.Learnt (4, tt) 16
+  pub block-length-one : Only sets.block_length.Reads.Learnt (1, tt) 8
+  pub block-length-two : Only sets.block_length.Reads.Learnt (2, tt) 16
+  pub block-length-three : Only sets.block_length.Reads.Learnt (3, tt) 8
+  pub block-length-four : Only sets.block_length.Reads.Learnt (4, tt) 16
+  pub between-one : Only sets.between.Reads.Learnt (1, tt) FirstSix
+  pub between-two : Only sets.between.Reads.Learnt (2, tt) FirstEight
+  pub between-three : Only sets.between.Reads.Learnt (3, tt) LastSix
+  pub between-four : Only sets.between.Reads.Learnt (4, tt) LastEight
+  pub rounds-between-one : Only sets.rounds_between.Reads.Learnt (1, tt) 6
+  pub rounds-between-two : Only sets.rounds_between.Reads.Learnt (2, tt) 8
+  pub rounds-between-three : Only sets.rounds_between.Reads.Learnt (3, tt) 6
+  pub rounds-between-four : Only sets.rounds_between.Reads.Learnt (4, tt) 8
+  pub first-word-one : Only sets.first_word.Reads.Learnt (1, tt) 0x800c060000000000
+  pub first-word-two : Only sets.first_word.Reads.Learnt (2, tt) 0x600c080000000000
+  pub first-word-three : Only sets.first_word.Reads.Learnt (3, tt) 0x80400c0600000000
+  pub first-word-four : Only sets.first_word.Reads.Learnt (4, tt) 0x80800c0800000000
   -- a message of nothing has its rounds at the start and at the end
   pub message-rounds-none : Never sets.message_rounds.Reads.Learnt (1, (0, (0, tt))) 0
   -- data of a whole block has a block more, and so has text, which runs only between
@@ -80,14 +87,31 @@ pub record Wrong : Type 0 where
   pub message-rounds-text : Never sets.message_rounds.Reads.Learnt (1, (1, (8, tt))) 30
   -- set 2 has eight rounds between
   pub message-rounds-two : Never sets.message_rounds.Reads.Learnt (2, (16, (15, tt))) 36
+  -- set 3 has six, and blocks of 8; set 4 has eight, and blocks of 16
+  pub message-rounds-three : Only sets.message_rounds.Reads.Learnt (3, (7, (8, tt))) 36
+  pub message-rounds-four : Only sets.message_rounds.Reads.Learnt (4, (15, (16, tt))) 40
   -- a start under zeros does not leave zeros
   pub start-zeros : Never sponge.start.Reads.Learnt (1, (zeros 16, (zeros 16, tt))) (zeros 5)
-  -- the first block of set 2 does not say six rounds between
-  pub start-other-block : Never sponge.start.Reads.Learnt (2, (zeros 16, (zeros 16, tt)))
-      (started (record { key = 12; block = 16; ends = Twelve; between = FirstSix; word = firstWord 12 Twelve FirstSix }) (zeros 16) (zeros 16))
+  -- the first word of set 2 does not say six rounds between
+  pub start-other-word : Never sponge.start.Reads.Learnt (2, (zeros 16, (zeros 16, tt)))
+      (started (record { key = 12; block = 16; ends = Twelve; between = FirstSix; word = firstWordV1 12 Twelve FirstSix; keyAt = 16 }) (zeros 16) (zeros 16))
+  -- a start of sets 3 and 4 makes no other state than the second program's: the key stands behind the first word, also where the block is longer, and the nonce behind the key
+  pub start-three : Only sponge.start.Reads.Learnt (3, (counting, (bytesOf 16 0x101112131415161718191a1b1c1d1e1f, tt)))
+      (0xcba43b0a331b0ae5 ∷ 0xd0b1251e0aae45b2 ∷ 0x38a513833140c3d8 ∷ 0x9a7e53e8fcfb3832 ∷ 0x51df9d8eccf77b4f ∷ [])
+  pub start-four : Only sponge.start.Reads.Learnt (4, (counting, (bytesOf 16 0x101112131415161718191a1b1c1d1e1f, tt)))
+      (0x89d098be2b2b225c ∷ 0x1cb8a65e22eb3671 ∷ 0x5c34ab7444d1ef2e ∷ 0xac2ec59cd1a131f3 ∷ 0x66423ade9c6503da ∷ [])
   -- the ninth byte goes into the first word, and not on into the second
   pub absorb-next-block : Never sponge.absorb.Reads.Learnt (1, (Seal, (zeros 5, (0, (lent (zeros 8 ++ (1 ∷ [])), tt)))))
       (0x202caaa308f6e2b0 ∷ 0xfee8b912453958f1 ∷ 0x36d35fb0ba000b3e ∷ 0xe52a057258368019 ∷ 0xecff298d481ed95d ∷ [])
+  -- a block is run when it is full, with its set's constants, and the next byte goes into the first word: the words are the second program's. Sets 1 and 3 have run behind their eighth byte,
+  -- set 4 behind its sixteenth, and not before
+  pub absorb-one : Only sponge.absorb.Reads.Learnt (1, (Seal, (zeros 5, (0, (lent (replicate 9 1), tt)))))
+      (0x705ccbffbfee79d2 ∷ 0x0ee40746a7b7f520 ∷ 0x3cc4f8432d464a1b ∷ 0xd80491d82511771b ∷ 0x66e53d0098d8bf50 ∷ [])
+  pub absorb-three : Only sponge.absorb.Reads.Learnt (3, (Seal, (zeros 5, (0, (lent (replicate 9 1), tt)))))
+      (0xdc7ac9f7f1127c03 ∷ 0xd0af5be19ec9f900 ∷ 0x5eef1b6c714c5dff ∷ 0xdabd3362ffc066da ∷ 0x986d5d5ccf8693e1 ∷ [])
+  pub absorb-four : Only sponge.absorb.Reads.Learnt (4, (Seal, (zeros 5, (0, (lent (replicate 15 1), tt))))) (0x0101010101010101 ∷ 0x0101010101010100 ∷ zeros 3)
+  pub absorb-four-full : Only sponge.absorb.Reads.Learnt (4, (Seal, (zeros 5, (0, (lent (replicate 16 1), tt)))))
+      (0x38c6c01cc449bd51 ∷ 0x4c1340dc5a76151e ∷ 0x3ee0b92c26e0456d ∷ 0xa3af97b4a40892cc ∷ 0x5143de7a4cf45d5a ∷ [])
   -- opening, no bit of the old byte stays
   pub absorb-old-bit : Never sponge.absorb.Reads.Learnt (1, (Open, (0x8000000000000000 ∷ zeros 4, (0, (lent (0 ∷ []), tt))))) (0x8000000000000000 ∷ zeros 4)
   -- what goes out at the ninth byte is the first word's, and not the second's
@@ -102,7 +126,10 @@ pub record Wrong : Type 0 where
   pub close-other-end : Never sponge.close_ad.Reads.Learnt (1, (zeros 5, (0, tt))) (1 ∷ zeros 4)
   -- the key of set 2 goes behind a block of 16 bytes, and not of 8
   pub finish-key-at-eight : Never sponge.finish.Reads.Learnt (2, (zeros 5, (0, (replicate 12 1 ++ zeros 4, tt))))
-      (finished (record { key = 12; block = 8; ends = Twelve; between = FirstEight; word = firstWord 12 Twelve FirstEight }) (zeros 5) 0 (replicate 12 1 ++ zeros 4))
+      (finished (record { key = 12; block = 8; ends = Twelve; between = FirstEight; word = firstWordV1 12 Twelve FirstEight; keyAt = 16 }) (zeros 5) 0 (replicate 12 1 ++ zeros 4))
+  -- that of set 3 behind 8 bytes, and that of set 4 behind 16: the tags are the second program's, and no others
+  pub finish-three : Only sponge.finish.Reads.Learnt (3, (zeros 5, (9, (counting, tt)))) (bytesOf 16 0x6577460c2d4fbc2187967d497f709898)
+  pub finish-four : Only sponge.finish.Reads.Learnt (4, (zeros 5, (9, (counting, tt)))) (bytesOf 16 0x48cfd7da1bb3a71401d0b91348a21129)
   -- a short string is not dropped
   pub sixteen-short : Never tags.sixteen.Reads.Learnt (lent (1 ∷ []), tt) (zeros 16)
   -- a string of 17 bytes is not cut to 16

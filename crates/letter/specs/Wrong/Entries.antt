@@ -3,16 +3,15 @@ use mathlib.Core.Path.{_≡_}
 use mathlib.Core.Bool.{Bool, false}
 use mathlib.Core.List.{List, [], _∷_}
 use Prim.Native.Nat.{ℕ}
-use Rattle.answers.specs.declared.Answer.the-variants.{Done, NoRoom, BrokenRecord}
+use Rattle.answers.specs.declared.Answer.the-variants.{Done, UnknownSet, NoRoom, BrokenRecord}
 use Rattle.permutation.specs.Strings.{zeros}
 use Rattle.digits.specs.Ascii.{ascii}
 use Rattle.record.specs.declared.reading.Reading.{Reading}
-use Rattle.ascon.specs.Sets.{isSet}
 use Rattle.record.specs.Form.{withNumber, withField, blank}
 use Rattle.record.specs.Calls.{refusedAt, readAs, refusedWith}
 use Rattle.moving.specs.Known.{firstEntry}
 use Rattle.entry.proofs as entry-crate
-use Rattle.letter.specs.Calls.{lent, Never, NeverLeaves}
+use Rattle.letter.specs.Calls.{lent, Never, NeverLeaves, NoSet}
 use Rattle.letter.specs.Wrong.Records.{caseOf}
 
 pub record Wrong : Type 0 where
@@ -29,8 +28,8 @@ pub record Wrong : Type 0 where
   pub read-inside : Never entry-crate.read.Reads.Learnt (1, (1, (lent (ascii "Count = "), tt))) (refusedAt 1 9 false)
   -- a record that is read has the rounds of the formula, and no others
   pub read-rounds : (taken rounds : ℕ) → (rounds ≡ 24 → ⊥) → Never entry-crate.read.Reads.Learnt (1, (1, (lent firstEntry, tt))) (readAs taken (caseOf rounds))
-  -- of an unknown set nothing is read, whatever the text
-  pub read-set : (set number : ℕ) (text : List ℕ) (r : Reading) → isSet set ≡ false → r .answer ≡ Done → Never entry-crate.read.Reads.Learnt (set, (number, (lent text, tt))) r
+  -- a number that no set has is answered 1, whatever the text
+  pub read-set : (set number : ℕ) (text : List ℕ) (r : Reading) → NoSet set → (r .answer ≡ UnknownSet → ⊥) → Never entry-crate.read.Reads.Learnt (set, (number, (lent text, tt))) r
   -- a record out of form is not written, and that is said before the room is looked at
   pub write-broken : (line column : ℕ) → Never entry-crate.write.Reads.Learnt (1, (blank, (lent [], tt))) (record { answer = NoRoom; line = line; column = column; written = 0 })
   -- the line named is the record's own: the text is line 5 of it, and line 4 of an entry

@@ -1,10 +1,11 @@
 -- Wrong answers of the calls of first differences, verdicts, reports and steps.
 use mathlib.Core.Path.{_≡_}
 use mathlib.Core.Bool.{true, false}
-use mathlib.Core.List.{[], _∷_}
+use mathlib.Core.List.{List, [], _∷_}
 use Prim.Native.Nat.{ℕ, suc}
 use Rattle.answers.specs.declared.Answer.the-variants.{Done}
-use Rattle.permutation.specs.Strings.{zeros}
+use Rattle.permutation.specs.Strings.{bytesOf, zeros}
+use Rattle.ascon.specs.Known.{counting}
 use Rattle.digits.specs.Ascii.{ascii}
 use Rattle.record.specs.declared.form.Record.{Record}
 use Rattle.record.specs.Form.{fieldOf, held, withNumber, withField, blank}
@@ -15,13 +16,19 @@ use Rattle.judge.specs.declared.stepping.Step.the-variants.{Stopped, Wait}
 use Rattle.judge.specs.Verdicts.{ourSealing}
 use Rattle.report.proofs as report
 use Rattle.judge.proofs as judge
-use Rattle.letter.specs.Calls.{Lent, lent, Never, NeverLeaves}
+use Rattle.letter.specs.Calls.{Lent, lent, Never, Only, NeverLeaves, NoSet}
 use Rattle.letter.specs.Judging.{compareLearnt}
 use Rattle.letter.specs.Wrong.Records.{caseOf}
 
 -- the rules' whole case with the right rounds and a text of one byte; its cipher is empty
 abbrev pub cutOff : Record
 cutOff = withField 7 (fieldOf (0 ∷ [])) (caseOf 24)
+
+-- a published answer as a record: its set, text, ciphertext and tag, under the published key and nonce, without data
+abbrev pub publishedIn : ℕ → List ℕ → List ℕ → List ℕ → Record
+publishedIn set text cipher tag =
+    let key = fieldOf counting in
+    record { set = set; chip = 0; key = key; nonce = key; ad = fieldOf []; text = fieldOf text; cipher = fieldOf cipher; tag = fieldOf tag; rounds = 24 }
 
 pub record Wrong : Type 0 where
   -- a text that is cut off is not the same
@@ -67,6 +74,11 @@ pub record Wrong : Type 0 where
   pub judge-rounds : Never judge.judge.Reads.Learnt (caseOf 25, tt) Tag
   -- a record whose tag is not our own sealing's is not equal
   pub judge-tag : (r : Record) → (held (r .tag) ≡ ourSealing r .tag → ⊥) → Never judge.judge.Reads.Learnt (r, tt) Equal
+  -- a published answer of set 3, and one of set 4, is equal, and nothing else
+  pub judge-three : Only judge.judge.Reads.Learnt (publishedIn 3 (0 ∷ []) (0xbc ∷ []) (bytesOf 16 0x18c3f4e39eca7222490d967c79bffc92), tt) Equal
+  pub judge-four : Only judge.judge.Reads.Learnt (publishedIn 4 [] [] (bytesOf 16 0x7a834e6f09210957067b10fd831f0078), tt) Equal
+  -- a record of a number that no set has is unread, by its first line
+  pub judge-set : (set : ℕ) → NoSet set → Only judge.judge.Reads.Learnt (withNumber 2 set (caseOf 24), tt) (Unread 1 0)
   -- a chip is not judged: one over 65,535 does not make a record unread
   pub judge-chip : Never judge.judge.Reads.Learnt (withNumber 3 65_536 (caseOf 25), tt) (Unread 3 0)
   -- a record that is handed over has no column

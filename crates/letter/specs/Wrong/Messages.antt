@@ -1,21 +1,49 @@
 -- Wrong answers of the calls of whole messages.
-use mathlib.Core.List.{[], _∷_}
-use Rattle.answers.specs.declared.Answer.the-variants.{Done, UnknownSet, KeyLength, NonceLength, PastLimit, NoRoom, TagDiffers}
+use mathlib.Core.List.{List, [], _∷_}
+use mathlib.Core.Path.{_≡_}
+use Prim.Native.Nat.{ℕ}
+use lib.ListN.{length}
+use Rattle.answers.specs.declared.Answer.the-variants.{Done, UnknownSet, NonceLength, PastLimit, NoRoom, TagDiffers}
 use Rattle.permutation.specs.Strings.{bytesOf, zeros}
+use Rattle.ascon.specs.Known.{counting}
 use Rattle.sets.proofs as sets
+use Rattle.message.specs.declared.Outcome.{Outcome}
 use Rattle.message.proofs as message
 use Rattle.gateway.proofs as gateway
-use Rattle.letter.specs.Calls.{lent, Never, NeverLeaves}
+use Rattle.letter.specs.Calls.{Lent, lent, Never, Only, NeverLeaves, NoSet}
+
+-- a set, key, nonce, data, text or ciphertext, and the two places that follow, as a whole message hands them over
+abbrev pub whole : ℕ → List ℕ → List ℕ → List ℕ → List ℕ → List ℕ → List ℕ → ℕ × (Lent × (Lent × (Lent × (Lent × (Lent × (Lent × Unit {0}))))))
+whole set K N A P out tag = (set, (lent K, (lent N, (lent A, (lent P, (lent out, (lent tag, tt)))))))
+
+-- in places of zeros a sealing leaves nothing but this ciphertext and this tag
+abbrev pub SealsOnly : ℕ → List ℕ → List ℕ → List ℕ → List ℕ → List ℕ → List ℕ → Type 0
+SealsOnly set K N A P cipher tag =
+    (o : Outcome) (out left : List ℕ) → ((out ≡ cipher) × (left ≡ tag) → ⊥)
+    → NeverLeaves message.seal.Reads.Learnt (whole set K N A P (zeros (length cipher)) (zeros (length tag))) o (whole set K N A P out left)
 
 pub record Wrong : Type 0 where
-  -- answer 1 comes before answer 2
-  pub start-test-set : Never sets.start_test.Reads.Learnt (3, (15, (16, tt))) KeyLength
+  -- answer 1 comes before all others, for every number that no set has, whatever else is handed over
+  pub start-test-set : (set key nonce : ℕ) → NoSet set → Only sets.start_test.Reads.Learnt (set, (key, (nonce, tt))) UnknownSet
+  pub seal-set : (set : ℕ) (K N A P out tag : List ℕ) → NoSet set → (o : Outcome) → (o .answer ≡ UnknownSet → ⊥) → Never message.seal.Reads.Learnt (whole set K N A P out tag) o
+  pub open-set : (set : ℕ) (K N A C tag out : List ℕ) → NoSet set → (o : Outcome) → (o .answer ≡ UnknownSet → ⊥) → Never message.«open».Reads.Learnt (whole set K N A C tag out) o
   -- answer 2 comes before answer 3
   pub start-test-key : Never sets.start_test.Reads.Learnt (1, (15, (15, tt))) NonceLength
+  -- the last constants are not those of set 1: the tag of a byte of data is the second program's
+  pub seal-one : SealsOnly 1 counting counting (0 ∷ []) [] [] (bytesOf 16 0x5dd84f90ccea687574726a84d48eced0)
+  -- nor the first ones those of set 3: the tag of a byte of data is the published one
+  pub seal-three : SealsOnly 3 counting counting (0 ∷ []) [] [] (bytesOf 16 0x944df887cd4901614c5dedbc42fc0da0)
+  -- in set 4 key, nonce, blocks and constants are where they belong: ciphertext and tag of 17 bytes of data and of text are the second program's
+  pub seal-four : SealsOnly 4 counting (bytesOf 16 0x101112131415161718191a1b1c1d1e1f) (bytesOf 17 0x202122232425262728292a2b2c2d2e2f30) (bytesOf 17 0x3132333435363738393a3b3c3d3e3f4041)
+      (bytesOf 17 0x46a24fb7efb3a52b6384866ae61890eeeb) (bytesOf 16 0x057bb88f5abff9d133bf895b3f89193d)
+  -- opening says done to the published ciphertext of a byte in set 3, and to the second program's of 17 bytes in set 4
+  pub open-three : (o : Outcome) → (o .answer ≡ Done → ⊥)
+      → Never message.«open».Reads.Learnt (whole 3 counting counting [] (0xbc ∷ []) (bytesOf 16 0x18c3f4e39eca7222490d967c79bffc92) (0 ∷ [])) o
+  pub open-four : (o : Outcome) → (o .answer ≡ Done → ⊥)
+      → Never message.«open».Reads.Learnt (whole 4 counting (bytesOf 16 0x101112131415161718191a1b1c1d1e1f) (bytesOf 17 0x202122232425262728292a2b2c2d2e2f30)
+      (bytesOf 17 0x46a24fb7efb3a52b6384866ae61890eeeb) (bytesOf 16 0x057bb88f5abff9d133bf895b3f89193d) (zeros 17)) o
   -- a refused sealing does not touch the place of the ciphertext
-  pub seal-refused : NeverLeaves message.seal.Reads.Learnt (3, (lent [], (lent [], (lent [], (lent [], (lent (0 ∷ []), (lent [], tt)))))))
-      (record { answer = UnknownSet; rounds = 0 })
-      (3, (lent [], (lent [], (lent [], (lent [], (lent (1 ∷ []), (lent [], tt)))))))
+  pub seal-refused : (set : ℕ) → NoSet set → (o : Outcome) → NeverLeaves message.seal.Reads.Learnt (whole set [] [] [] [] (0 ∷ []) []) o (whole set [] [] [] [] (1 ∷ []) [])
   -- a done sealing does not touch what lies beyond the text
   pub seal-beyond : NeverLeaves message.seal.Reads.Learnt (1, (lent (zeros 16), (lent (zeros 16), (lent [], (lent [], (lent (0 ∷ []), (lent (zeros 16), tt)))))))
       (record { answer = Done; rounds = 24 })
@@ -41,10 +69,13 @@ pub record Wrong : Type 0 where
       (record { answer = TagDiffers; rounds = 24 })
       (1, (lent (zeros 16), (lent (zeros 16), (lent [], (lent (0 ∷ []), (lent (zeros 16), (lent (0x27 ∷ []), tt)))))))
   -- a refused opening does not touch the place of the plaintext
-  pub open-refused : NeverLeaves message.«open».Reads.Learnt (3, (lent [], (lent [], (lent [], (lent [], (lent [], (lent (0 ∷ []), tt)))))))
-      (record { answer = UnknownSet; rounds = 0 })
-      (3, (lent [], (lent [], (lent [], (lent [], (lent [], (lent (1 ∷ []), tt)))))))
-  -- an unknown set is the word 1, and not 2
-  pub kvistmaur-seal-set : Never gateway.kvistmaur_seal.Reads.Learnt (3, (lent [], (lent [], (lent [], (lent [], (lent [], (lent [], tt))))))) 2
+  pub open-refused : (set : ℕ) → NoSet set → (o : Outcome) → NeverLeaves message.«open».Reads.Learnt (whole set [] [] [] [] [] (0 ∷ [])) o (whole set [] [] [] [] [] (1 ∷ []))
+  -- an unknown set is the word 1, and no other
+  pub kvistmaur-seal-set : (set : ℕ) (K N A P out tag : List ℕ) → NoSet set → Only gateway.kvistmaur_seal.Reads.Learnt (whole set K N A P out tag) 1
+  pub kvistmaur-open-set : (set : ℕ) (K N A C tag out : List ℕ) → NoSet set → Only gateway.kvistmaur_open.Reads.Learnt (whole set K N A C tag out) 1
+  -- the message of nothing in sets 3 and 4, with its published tag, is the word of 24 rounds and done
+  pub kvistmaur-seal-four : Only gateway.kvistmaur_seal.Reads.Learnt (whole 4 counting counting [] [] [] (zeros 16)) 384
+  pub kvistmaur-open-three : Only gateway.kvistmaur_open.Reads.Learnt (whole 3 counting counting [] [] (bytesOf 16 0xe355159f292911f794cb1432a0103a8a) []) 384
+  pub kvistmaur-open-four : Only gateway.kvistmaur_open.Reads.Learnt (whole 4 counting counting [] [] (bytesOf 16 0x7a834e6f09210957067b10fd831f0078) []) 384
   -- a key of 15 with a wrong nonce is the word 2, and not 3
   pub kvistmaur-open-key : Never gateway.kvistmaur_open.Reads.Learnt (1, (lent (zeros 15), (lent [], (lent [], (lent [], (lent [], (lent [], tt))))))) 3

@@ -3,16 +3,17 @@ use mathlib.Core.Path.{_≡_}
 use mathlib.Core.List.{List, [], _∷_, _++_}
 use Prim.Native.Nat.{ℕ}
 use lib.ListN.{getD}
-use Rattle.answers.specs.declared.Answer.the-variants.{NoRoom, BrokenRecord, ChipLost}
+use Rattle.answers.specs.declared.Answer.the-variants.{Done, UnknownSet, NoRoom, BrokenRecord, ChipLost}
 use Rattle.permutation.specs.Strings.{zeros}
 use Rattle.digits.specs.Ascii.{ascii}
 use Rattle.record.specs.Known.{nineLines}
-use Rattle.moving.specs.Known.{oldCase, chipCase, rightCase, entryLines, firstEntry, secondEntry, bytesEntry, bytesRecord, longEntry, longRecord, threeLines, allMoved}
+use Rattle.moving.specs.Known.{oldCase, chipCase, rightCase, entryLines, firstEntry, secondEntry, bytesEntry, bytesRecord, longEntry, longRecord, threeLines, publishedThree, publishedFour, allMoved}
 use Rattle.moving.specs.declared.one.Moving.{Moving}
+use Rattle.moving.specs.declared.all.MovingAll.{MovingAll}
 use Rattle.moving.specs.declared.route.Route.the-variants.{Forward, Back, Import, Export}
 use Rattle.moving.specs.Moves.{refusedMove, movedAs, refusedAll}
 use Rattle.moving.proofs as moving
-use Rattle.letter.specs.Calls.{lent, Never, NeverLeaves}
+use Rattle.letter.specs.Calls.{lent, Never, NeverLeaves, NoSet}
 
 -- the entry with a byte in each field, its digits in lower case; and with no blank behind `PT =`
 abbrev pub lowerEntry : List ℕ
@@ -76,11 +77,14 @@ pub record Wrong : Type 0 where
   pub import-room : (number line column : ℕ) → Never moving.move_all.Reads.Learnt (Import 1, (lent (firstEntry ++ ascii "x"), (lent [], tt))) (refusedAll NoRoom number line column)
   -- a last entry without its empty line is not taken
   pub import-end : (records written : ℕ) → Never moving.move_all.Reads.Learnt (Import 1, (lent (ascii "Count = 1\n" ++ entryLines), (lent (zeros 200), tt))) (allMoved records written)
-  -- an unknown set is refused, also where the text is empty, and before an entry is found broken
-  pub import-set : (records written : ℕ) → Never moving.move_all.Reads.Learnt (Import 0, (lent [], (lent [], tt))) (allMoved records written)
-  pub import-set-wide : (records written : ℕ) → Never moving.move_all.Reads.Learnt (Import 4_294_967_297, (lent [], (lent [], tt))) (allMoved records written)
-  pub import-set-late : (number line column : ℕ) → Never moving.move_all.Reads.Learnt (Import 0, (lent (ascii "x"), (lent [], tt))) (refusedAll BrokenRecord number line column)
-  -- another set's key is not
+  -- a number that no set has is refused with 1, whatever the text and the room: also where the text is empty, and before an entry is found broken
+  pub import-set : (set : ℕ) (text out : List ℕ) (r : MovingAll) → NoSet set → (r .answer ≡ UnknownSet → ⊥) → Never moving.move_all.Reads.Learnt (Import set, (lent text, (lent out, tt))) r
+  pub import-set-one : (set number : ℕ) (text out : List ℕ) (r : Moving) → NoSet set → (r .answer ≡ UnknownSet → ⊥)
+      → Never moving.move_record.Reads.Learnt (Import set, (number, (lent text, (lent out, tt)))) r
+  -- sets 3 and 4 are not refused
+  pub import-three : (r : MovingAll) → (r .answer ≡ Done → ⊥) → Never moving.move_all.Reads.Learnt (Import 3, (lent publishedThree, (lent (zeros 200), tt))) r
+  pub import-four : (r : MovingAll) → (r .answer ≡ Done → ⊥) → Never moving.move_all.Reads.Learnt (Import 4, (lent publishedFour, (lent (zeros 200), tt))) r
+  -- an entry whose key has not the set's length is not taken
   pub import-other-key : (records written : ℕ) → Never moving.move_all.Reads.Learnt (Import 1, (lent bytesEntry, (lent (zeros 200), tt))) (allMoved records written)
   -- entries are counted from 1
   pub export-nought : NeverLeaves moving.move_all.Reads.Learnt (Export, (lent rightCase, (lent (zeros 141), tt))) (allMoved 1 141)

@@ -27,7 +27,7 @@ use Rattle.record.specs.Known.{sevenLines, nineLines, otherKey}
 use Rattle.digits.proofs as digits
 use Rattle.lines.proofs as lines
 use Rattle.record.proofs as record-crate
-use Rattle.letter.specs.Calls.{lent, Never, NeverLeaves}
+use Rattle.letter.specs.Calls.{lent, Never, Only, NeverLeaves, NoSet}
 
 -- the record of the rules' whole case, with any rounds: set 1, key, nonce and tag of zeros, all else empty
 abbrev pub caseOf : ℕ → Record
@@ -143,13 +143,16 @@ pub record Wrong : Type 0 where
   -- and can still get it
   pub read-decided : Never record-crate.read.Reads.Learnt (One, (lent (ascii "set=1"), tt)) (refusedAt 1 6 false)
   -- a wrong character can't be mended by what comes
-  pub read-mended : Never record-crate.read.Reads.Learnt (One, (lent (ascii "set=3"), tt)) (refusedAt 1 5 true)
+  pub read-mended : Never record-crate.read.Reads.Learnt (One, (lent (ascii "set=5"), tt)) (refusedAt 1 5 true)
+  -- sets 3 and 4 are no fault
+  pub read-three : (column : ℕ) (early : Bool) → Never record-crate.read.Reads.Learnt (One, (lent (ascii "set=3\n"), tt)) (refusedAt 1 column early)
+  pub read-four : (column : ℕ) (early : Bool) → Never record-crate.read.Reads.Learnt (Two, (lent (ascii "form=2\nset=4\n"), tt)) (refusedAt 2 column early)
   -- the third line is not called `nonse=`: its fourth character is at fault, and not the line's end
   pub read-name : (column : ℕ) (early : Bool)
       → Never record-crate.read.Reads.Learnt (One, (lent (ascii "set=1\nkey=00000000000000000000000000000000\nnonse=00000000000000000000000000000000\n"), tt)) (refusedAt 4 column early)
   pub read-end : (early : Bool)
       → Never record-crate.read.Reads.Learnt (One, (lent (ascii "set=1\nkey=00000000000000000000000000000000\nnonse=00000000000000000000000000000000\n"), tt)) (refusedAt 3 39 early)
-  -- a key of the other set's length is at fault at its first digit too many: not at its end, and not as counted in the record
+  -- a key of 16 bytes in set 2 is at fault at its first digit too many: not at its end, and not as counted in the record
   pub read-key-end : (early : Bool) → Never record-crate.read.Reads.Learnt (One, (lent otherKey, tt)) (refusedAt 2 37 early)
   pub read-key-in-record : (early : Bool) → Never record-crate.read.Reads.Learnt (One, (lent otherKey, tt)) (refusedAt 2 35 early)
   -- of a wrong pair's digits the second is not blamed for the first
@@ -186,6 +189,12 @@ pub record Wrong : Type 0 where
   pub first-broken-long : Never record-crate.first_broken.Reads.Learnt (One, (withField 7 (record { bytes = zeros 256; size = 257 }) (caseOf 24), tt)) 0
   -- key, nonce and tag of 16 bytes are not in form in set 2
   pub first-broken-key : Never record-crate.first_broken.Reads.Learnt (One, (withNumber 2 2 (caseOf 24), tt)) 0
+  -- in sets 3 and 4 they are
+  pub first-broken-three : Only record-crate.first_broken.Reads.Learnt (One, (withNumber 2 3 (caseOf 24), tt)) 0
+  pub first-broken-four : Only record-crate.first_broken.Reads.Learnt (One, (withNumber 2 4 (caseOf 24), tt)) 0
+  -- a number that no set has breaks line 1, in form 2 line 2
+  pub first-broken-set : (set : ℕ) → NoSet set → Only record-crate.first_broken.Reads.Learnt (One, (withNumber 2 set (caseOf 24), tt)) 1
+  pub two-set : (set : ℕ) → NoSet set → Only record-crate.first_broken.Reads.Learnt (Two, (withNumber 2 set (caseOf 24), tt)) 2
   -- rounds of eight digits are not in form
   pub first-broken-rounds : Never record-crate.first_broken.Reads.Learnt (One, (caseOf 10_000_000, tt)) 0
   -- a record with a byte past a field's length is not in form

@@ -1,12 +1,13 @@
 -- Wrong answers of the calls of streams.
 use mathlib.Core.Bool.{true}
-use mathlib.Core.List.{List, [], _∷_, _++_}
+use mathlib.Core.List.{List, [], _∷_}
 use mathlib.Core.Path.{_≡_}
 use Prim.Native.Nat.{ℕ, _%_, _≤_, _<_}
-use lib.ListN.{length, getD}
+use lib.ListN.{length, getD, replicate}
 use Rattle.answers.specs.declared.Answer.{Answer}
-use Rattle.answers.specs.declared.Answer.the-variants.{Done, NonceLength, TagLength, PastLimit, NoRoom, OutOfPhase, BrokenState}
+use Rattle.answers.specs.declared.Answer.the-variants.{Done, UnknownSet, NonceLength, TagLength, PastLimit, NoRoom, OutOfPhase, BrokenState}
 use Rattle.permutation.specs.Strings.{bytesOf, zeros}
+use Rattle.ascon.specs.Known.{counting}
 use Rattle.stream.specs.declared.Stream.{Stream}
 use Rattle.stream.specs.declared.Outcome.{Outcome}
 use Rattle.stream.specs.declared.Direction.{Direction}
@@ -15,7 +16,28 @@ use Rattle.stream.specs.declared.Phase.{Phase}
 use Rattle.stream.specs.declared.Phase.the-variants.{Ad, Text, Ended}
 use Rattle.stream.specs.State.{isOpen, ended}
 use Rattle.stream.proofs as stream
-use Rattle.letter.specs.Calls.{Lent, lent, Never, NeverLeaves}
+use Rattle.letter.specs.Calls.{Lent, lent, Never, NeverLeaves, NoSet}
+
+-- a stream at the start of its data: its set, direction and key
+abbrev pub begunIn : ℕ → Direction → List ℕ → Stream
+begunIn set direction key = record { words = zeros 5; set = set; direction = direction; phase = Ad; key = key; ad = 0; text = 0; place = 0; limit = 200 }
+
+-- some byte of a key behind the twelfth is not zero
+abbrev pub Tailed : List ℕ → Type 0
+Tailed key = (i : ℕ) × ((12 ≤ i) × (getD key i 0 ≡ 0 → ⊥))
+
+-- a set but 2: its keys have 16 bytes
+abbrev pub LongKeyed : ℕ → Type 0
+LongKeyed set = (1 ≤ set) × ((set ≤ 4) × (set ≡ 2 → ⊥))
+
+-- one under a key of zeros that has taken nine bytes of data: its set, direction and place
+abbrev pub nineIn : ℕ → Direction → ℕ → Stream
+nineIn set direction place = record { words = zeros 5; set = set; direction = direction; phase = Ad; key = zeros 16; ad = 9; text = 0; place = place; limit = 200 }
+
+-- a stream inside its text, with words of zeros, under the key that counts: its set, direction, the bytes of text that it took, and its place
+abbrev pub textIn : ℕ → Direction → ℕ → ℕ → Stream
+textIn set direction text place =
+    record { words = zeros 5; set = set; direction = direction; phase = Text; key = counting; ad = 0; text = text; place = place; limit = 200 }
 
 -- a stream of set 1 under a key of zeros: its words, direction, phase, both counts, place and limit
 abbrev pub streamOf : List ℕ → Direction → Phase → ℕ → ℕ → ℕ → ℕ → Stream
@@ -51,9 +73,19 @@ pub record Wrong : Type 0 where
   -- answer 3 comes before answer 5
   pub start-nonce : (d : Direction) (rounds : ℕ) (next : Stream)
       → Never stream.Stream.start.Reads.Learnt (startArgs d 1_048_577 16 15) (answering PastLimit rounds next)
+  -- answer 1 comes before all others, for every number that no set has, whatever else is handed over
+  pub start-set : (d : Direction) (set limit : ℕ) (key nonce : List ℕ) → NoSet set → (answer : Answer) (rounds : ℕ) (next : Stream) → (answer ≡ UnknownSet → ⊥)
+      → Never stream.Stream.start.Reads.Learnt (d, (set, (limit, (lent key, (lent nonce, tt))))) (answering answer rounds next)
+  -- a start of sets 3 and 4 leaves no other words than the second program's
+  pub start-three : (d : Direction) (answer : Answer) (rounds : ℕ) (next : Stream)
+      → (next .words ≡ 0xcba43b0a331b0ae5 ∷ 0xd0b1251e0aae45b2 ∷ 0x38a513833140c3d8 ∷ 0x9a7e53e8fcfb3832 ∷ 0x51df9d8eccf77b4f ∷ [] → ⊥)
+      → Never stream.Stream.start.Reads.Learnt (d, (3, (200, (lent counting, (lent (bytesOf 16 0x101112131415161718191a1b1c1d1e1f), tt))))) (answering answer rounds next)
+  pub start-four : (d : Direction) (answer : Answer) (rounds : ℕ) (next : Stream)
+      → (next .words ≡ 0x89d098be2b2b225c ∷ 0x1cb8a65e22eb3671 ∷ 0x5c34ab7444d1ef2e ∷ 0xac2ec59cd1a131f3 ∷ 0x66423ade9c6503da ∷ [] → ⊥)
+      → Never stream.Stream.start.Reads.Learnt (d, (4, (200, (lent counting, (lent (bytesOf 16 0x101112131415161718191a1b1c1d1e1f), tt))))) (answering answer rounds next)
   -- a refused start gives the ended state, and no open stream, nor one that has a limit
-  pub start-refused : (d : Direction) (answer : Answer) (rounds : ℕ) (next : Stream) → (next ≡ ended → ⊥)
-      → Never stream.Stream.start.Reads.Learnt (d, (3, (200, (lent [], (lent [], tt))))) (answering answer rounds next)
+  pub start-refused : (d : Direction) (set limit : ℕ) (key nonce : List ℕ) → NoSet set → (answer : Answer) (rounds : ℕ) (next : Stream) → (next ≡ ended → ⊥)
+      → Never stream.Stream.start.Reads.Learnt (d, (set, (limit, (lent key, (lent nonce, tt))))) (answering answer rounds next)
   pub start-refused-limit : (d : Direction) (answer : Answer) (rounds : ℕ) (next : Stream) → (next ≡ ended → ⊥)
       → Never stream.Stream.start.Reads.Learnt (startArgs d 1_048_577 16 16) (answering answer rounds next)
   -- a limit over the largest is not cut down to it, or to its low bits, or taken as none: it is refused with 5, whatever number it is
@@ -67,13 +99,47 @@ pub record Wrong : Type 0 where
   -- a start keeps its limit, whatever number it is
   pub start-limit-kept : (d : Direction) (limit : ℕ) → limit ≤ 1_048_576 → (answer : Answer) (rounds : ℕ) (next : Stream) → (next .limit ≡ limit → ⊥)
       → Never stream.Stream.start.Reads.Learnt (startArgs d limit 16 16) (answering answer rounds next)
+  -- ---- states
+
+  -- a state of a set that there is not is broken, whatever else it is, for every call
+  pub ad-set : (s : Stream) (piece : List ℕ) → NoSet (s .set) → (answer : Answer) (rounds : ℕ) (next : Stream) → (answer ≡ BrokenState → ⊥)
+      → Never stream.Stream.ad.Reads.Learnt (s, (lent piece, tt)) (answering answer rounds next)
+  pub seal-piece-set : (s : Stream) (piece out : List ℕ) → NoSet (s .set) → (answer : Answer) (rounds : ℕ) (next : Stream) → (answer ≡ BrokenState → ⊥)
+      → Never stream.Stream.seal.Reads.Learnt (s, (lent piece, (lent out, tt))) (answering answer rounds next)
+  pub check-set : (s : Stream) (piece : List ℕ) → NoSet (s .set) → (answer : Answer) (rounds : ℕ) (next : Stream) → (answer ≡ BrokenState → ⊥)
+      → Never stream.Stream.check.Reads.Learnt (s, (lent piece, tt)) (answering answer rounds next)
+  pub finish-sealing-set : (s : Stream) (tag : List ℕ) → NoSet (s .set) → (answer : Answer) (rounds : ℕ) (next : Stream) → (answer ≡ BrokenState → ⊥)
+      → Never stream.Stream.finish_sealing.Reads.Learnt (s, (lent tag, tt)) (answering answer rounds next)
+  pub finish-checking-set : (s : Stream) (tag : List ℕ) → NoSet (s .set) → (answer : Answer) (rounds : ℕ) (next : Stream) → (answer ≡ BrokenState → ⊥)
+      → Never stream.Stream.finish_checking.Reads.Learnt (s, (lent tag, tt)) (answering answer rounds next)
+  -- a state of set 2 with any byte behind the twelfth of its key is broken, for every call
+  pub ad-key-tail : (d : Direction) (key piece : List ℕ) → Tailed key → (answer : Answer) (rounds : ℕ) (next : Stream) → (answer ≡ BrokenState → ⊥)
+      → Never stream.Stream.ad.Reads.Learnt (begunIn 2 d key, (lent piece, tt)) (answering answer rounds next)
+  pub seal-piece-key-tail : (d : Direction) (key piece out : List ℕ) → Tailed key → (answer : Answer) (rounds : ℕ) (next : Stream) → (answer ≡ BrokenState → ⊥)
+      → Never stream.Stream.seal.Reads.Learnt (begunIn 2 d key, (lent piece, (lent out, tt))) (answering answer rounds next)
+  pub check-key-tail : (d : Direction) (key piece : List ℕ) → Tailed key → (answer : Answer) (rounds : ℕ) (next : Stream) → (answer ≡ BrokenState → ⊥)
+      → Never stream.Stream.check.Reads.Learnt (begunIn 2 d key, (lent piece, tt)) (answering answer rounds next)
+  pub finish-sealing-key-tail : (d : Direction) (key tag : List ℕ) → Tailed key → (answer : Answer) (rounds : ℕ) (next : Stream) → (answer ≡ BrokenState → ⊥)
+      → Never stream.Stream.finish_sealing.Reads.Learnt (begunIn 2 d key, (lent tag, tt)) (answering answer rounds next)
+  pub finish-checking-key-tail : (d : Direction) (key tag : List ℕ) → Tailed key → (answer : Answer) (rounds : ℕ) (next : Stream) → (answer ≡ BrokenState → ⊥)
+      → Never stream.Stream.finish_checking.Reads.Learnt (begunIn 2 d key, (lent tag, tt)) (answering answer rounds next)
+  -- and no other set has such a rule: its keys of 16 bytes may have any bytes. Pieces are done; a finish is refused for its tag of 15 bytes, and not for its state
+  pub ad-key : (set : ℕ) → LongKeyed set → (d : Direction) (key : List ℕ) → length key ≡ 16 → (answer : Answer) (rounds : ℕ) (next : Stream) → (answer ≡ Done → ⊥)
+      → Never stream.Stream.ad.Reads.Learnt (handed (begunIn set d key) 0) (answering answer rounds next)
+  pub seal-piece-key : (set : ℕ) → LongKeyed set → (key : List ℕ) → length key ≡ 16 → (answer : Answer) (rounds : ℕ) (next : Stream) → (answer ≡ Done → ⊥)
+      → Never stream.Stream.seal.Reads.Learnt (roomy (begunIn set Sealing key) 0) (answering answer rounds next)
+  pub check-key : (set : ℕ) → LongKeyed set → (key : List ℕ) → length key ≡ 16 → (answer : Answer) (rounds : ℕ) (next : Stream) → (answer ≡ Done → ⊥)
+      → Never stream.Stream.check.Reads.Learnt (handed (begunIn set Checking key) 0) (answering answer rounds next)
+  pub finish-sealing-key : (set : ℕ) → LongKeyed set → (key : List ℕ) → length key ≡ 16 → (answer : Answer) (rounds : ℕ) (next : Stream) → (answer ≡ TagLength → ⊥)
+      → Never stream.Stream.finish_sealing.Reads.Learnt (handed (begunIn set Sealing key) 15) (answering answer rounds next)
+  pub finish-checking-key : (set : ℕ) → LongKeyed set → (key : List ℕ) → length key ≡ 16 → (answer : Answer) (rounds : ℕ) (next : Stream) → (answer ≡ TagLength → ⊥)
+      → Never stream.Stream.finish_checking.Reads.Learnt (handed (begunIn set Checking key) 15) (answering answer rounds next)
   -- ---- a piece of data
 
-  -- a state of set 2 with a byte behind its key is broken
-  pub ad-key-tail : (answer : Answer) (rounds : ℕ) (next : Stream) → (answer ≡ BrokenState → ⊥)
-      → Never stream.Stream.ad.Reads.Learnt
-      (record { words = zeros 5; set = 2; direction = Sealing; phase = Ad; key = zeros 12 ++ (1 ∷ zeros 3); ad = 0; text = 0; place = 0; limit = 200 }, (lent [], tt))
-      (answering answer rounds next)
+  -- behind nine bytes the place of set 4 is 9, in a block of 16, and not 1; that of set 3 is 1
+  pub ad-place-four : (answer : Answer) (rounds : ℕ) (next : Stream) → (answer ≡ Done → ⊥) → Never stream.Stream.ad.Reads.Learnt (handed (nineIn 4 Sealing 9) 0) (answering answer rounds next)
+  pub ad-place-eight : (answer : Answer) (rounds : ℕ) (next : Stream) → (answer ≡ BrokenState → ⊥) → Never stream.Stream.ad.Reads.Learnt (handed (nineIn 4 Sealing 1) 0) (answering answer rounds next)
+  pub ad-place-three : (answer : Answer) (rounds : ℕ) (next : Stream) → (answer ≡ Done → ⊥) → Never stream.Stream.ad.Reads.Learnt (handed (nineIn 3 Sealing 1) 0) (answering answer rounds next)
   -- a state in the phase ended that has a place is broken: 8 and not 7; and so is one that has a limit
   pub ad-broken-ended : (answer : Answer) (rounds : ℕ) (next : Stream) → (answer ≡ BrokenState → ⊥)
       → Never stream.Stream.ad.Reads.Learnt (handed (streamOf (zeros 5) Sealing Ended 0 0 1 0) 0) (answering answer rounds next)
@@ -146,13 +212,24 @@ pub record Wrong : Type 0 where
   -- an empty piece that closes a byte of data reports the rounds of closing
   pub check-closing : (answer : Answer) (rounds : ℕ) (next : Stream) → (rounds ≡ 6 → ⊥)
       → Never stream.Stream.check.Reads.Learnt (handed (streamOf (zeros 5) Checking Ad 1 0 1 200) 0) (answering answer rounds next)
+  -- those are 6 in set 3, and 8 in set 4
+  pub check-closing-three : (answer : Answer) (rounds : ℕ) (next : Stream) → (rounds ≡ 6 → ⊥)
+      → Never stream.Stream.check.Reads.Learnt (handed (nineIn 3 Checking 1) 0) (answering answer rounds next)
+  pub check-closing-four : (answer : Answer) (rounds : ℕ) (next : Stream) → (rounds ≡ 8 → ⊥)
+      → Never stream.Stream.check.Reads.Learnt (handed (nineIn 4 Checking 9) 0) (answering answer rounds next)
+  -- nine bytes of text go through a full block in set 3, run with the last constants, and not in set 4: the words behind them are the second program's
+  pub seal-piece-three : (answer : Answer) (rounds : ℕ) (next : Stream)
+      → (next .words ≡ 0xdc7ac9f7f1127c03 ∷ 0xd0af5be19ec9f900 ∷ 0x5eef1b6c714c5dff ∷ 0xdabd3362ffc066da ∷ 0x986d5d5ccf8693e1 ∷ [] → ⊥)
+      → Never stream.Stream.seal.Reads.Learnt (textIn 3 Sealing 0 0, (lent (replicate 9 1), (lent (zeros 9), tt))) (answering answer rounds next)
+  pub seal-piece-four : (answer : Answer) (rounds : ℕ) (next : Stream) → (next .words ≡ 0x0101010101010101 ∷ 0x0100000000000000 ∷ zeros 3 → ⊥)
+      → Never stream.Stream.seal.Reads.Learnt (textIn 4 Sealing 0 0, (lent (replicate 9 1), (lent (zeros 9), tt))) (answering answer rounds next)
   -- a refused piece of text does not touch what it is lent
   pub seal-piece-refused : NeverLeaves stream.Stream.seal.Reads.Learnt (ended, (lent [], (lent (0 ∷ []), tt))) (answering OutOfPhase 0 ended) (ended, (lent [], (lent (1 ∷ []), tt)))
   -- ---- the end
 
-  -- the ended state is not open, nor of set 2, nor has it a limit
+  -- the ended state is not open, nor of another set than 1, nor has it a limit
   pub ended-open : (next : Stream) → isOpen (next .phase) ≡ true → Never stream.Stream.ended.Reads.Learnt tt next
-  pub ended-set : (next : Stream) → next .set ≡ 2 → Never stream.Stream.ended.Reads.Learnt tt next
+  pub ended-set : (next : Stream) → (next .set ≡ 1 → ⊥) → Never stream.Stream.ended.Reads.Learnt tt next
   pub ended-limit : (next : Stream) → (next .limit ≡ 0 → ⊥) → Never stream.Stream.ended.Reads.Learnt tt next
   -- no finish leaves the limit, whether the tag is right or differs
   pub finish-sealing-limit : (answer : Answer) (rounds : ℕ) (next : Stream) → (next .limit ≡ 0 → ⊥)
@@ -175,3 +252,8 @@ pub record Wrong : Type 0 where
   -- the tag's last byte is compared: it is b2, and not b3
   pub finish-checking-last : (rounds : ℕ) (next : Stream)
       → Never stream.Stream.finish_checking.Reads.Learnt (insideText Checking 0 200, (lent (bytesOf 16 0x344f68b335d2682c54e0c3ef895c25b3), tt)) (answering Done rounds next)
+  -- behind nine bytes the tag of set 4 is the second program's, and no other; in checking it is the right one
+  pub finish-sealing-four : (o : Outcome) (tag : List ℕ) → (tag ≡ bytesOf 16 0x48cfd7da1bb3a71401d0b91348a21129 → ⊥)
+      → NeverLeaves stream.Stream.finish_sealing.Reads.Learnt (handed (textIn 4 Sealing 9 9) 16) o (textIn 4 Sealing 9 9, (lent tag, tt))
+  pub finish-checking-four : (answer : Answer) (rounds : ℕ) (next : Stream) → (answer ≡ Done → ⊥)
+      → Never stream.Stream.finish_checking.Reads.Learnt (textIn 4 Checking 9 9, (lent (bytesOf 16 0x48cfd7da1bb3a71401d0b91348a21129), tt)) (answering answer rounds next)

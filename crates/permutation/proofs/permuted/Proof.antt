@@ -22,6 +22,18 @@ enum-told-3 c = search needs
 ran-requires-3 : tie.Need-ran-requires-3
 ran-requires-3 c κs = search needs
 
+enum-told-4 : tie.Need-enum-told-4
+enum-told-4 c = search needs
+
+ran-requires-4 : tie.Need-ran-requires-4
+ran-requires-4 c κs = search needs
+
+enum-told-5 : tie.Need-enum-told-5
+enum-told-5 c = search needs
+
+ran-requires-5 : tie.Need-ran-requires-5
+ran-requires-5 c κs = search needs
+
 returns : tie.Need-returns
 unfolding permute constantsOf constants
 returns c = rw (c .before .enum-told .given .1) (c .ran .ensures)
@@ -34,6 +46,14 @@ returns-3 : tie.Need-returns-3
 unfolding permute constantsOf constants
 returns-3 c = rw (c .before .enum-told3 .given .1) (c .ran3 .ensures)
 
+returns-4 : tie.Need-returns-4
+unfolding permute constantsOf constants
+returns-4 c = rw (c .before .enum-told4 .given .1) (c .ran4 .ensures)
+
+returns-5 : tie.Need-returns-5
+unfolding permute constantsOf constants
+returns-5 c = rw (c .before .enum-told5 .given .1) (c .ran5 .ensures)
+
 pub permuted-spec : {M : Type 1} → statement M
 permuted-spec =
     tie.close
@@ -44,6 +64,12 @@ permuted-spec =
     ran-requires-2
     enum-told-3
     ran-requires-3
+    enum-told-4
+    ran-requires-4
+    enum-told-5
+    ran-requires-5
     returns
     returns-2
-    returns-3)
+    returns-3
+    returns-4
+    returns-5)

@@ -17,21 +17,21 @@ pub struct Class {
 /// All classes; the numbers are written down so that a class that shrinks is noticed.
 #[rustfmt::skip]
 pub const CLASSES: [Class; 15] = [
-    Class { name: "data and text around the first block edges", calls: 1_600, run: near_edges },
-    Class { name: "data or text around far block edges", calls: 68, run: far_edges },
-    Class { name: "at a limit", calls: 18, run: at_limits },
-    Class { name: "one past a limit", calls: 12, run: past_limits },
-    Class { name: "one fault", calls: 88, run: one_fault },
-    Class { name: "two faults", calls: 1_848, run: two_faults },
-    Class { name: "unknown sets", calls: 48, run: unknown_sets },
-    Class { name: "each bit of the tag", calls: 224, run: |h| bits(h, |call| &mut call.tag) },
-    Class { name: "each two bytes of the tag", calls: 372, run: two_bytes },
-    Class { name: "each bit of the ciphertext", calls: 240, run: |h| bits(h, |call| &mut call.body) },
-    Class { name: "each bit of the nonce", calls: 224, run: |h| bits(h, |call| &mut call.nonce) },
-    Class { name: "each bit of the key", calls: 224, run: |h| bits(h, |call| &mut call.key) },
-    Class { name: "each bit of the data", calls: 208, run: |h| bits(h, |call| &mut call.data) },
-    Class { name: "more room than text", calls: 480, run: longer_rooms },
-    Class { name: "empty slices behind a pointer to nothing", calls: 256, run: dangling },
+    Class { name: "data and text around the first block edges", calls: 3_200, run: near_edges },
+    Class { name: "data or text around far block edges", calls: 136, run: far_edges },
+    Class { name: "at a limit", calls: 36, run: at_limits },
+    Class { name: "one past a limit", calls: 24, run: past_limits },
+    Class { name: "one fault", calls: 176, run: one_fault },
+    Class { name: "two faults", calls: 3_696, run: two_faults },
+    Class { name: "unknown sets", calls: 96, run: unknown_sets },
+    Class { name: "each bit of the tag", calls: 480, run: |h| bits(h, |call| &mut call.tag) },
+    Class { name: "each two bytes of the tag", calls: 852, run: two_bytes },
+    Class { name: "each bit of the ciphertext", calls: 480, run: |h| bits(h, |call| &mut call.body) },
+    Class { name: "each bit of the nonce", calls: 480, run: |h| bits(h, |call| &mut call.nonce) },
+    Class { name: "each bit of the key", calls: 480, run: |h| bits(h, |call| &mut call.key) },
+    Class { name: "each bit of the data", calls: 416, run: |h| bits(h, |call| &mut call.data) },
+    Class { name: "more room than text", calls: 960, run: longer_rooms },
+    Class { name: "empty slices behind a pointer to nothing", calls: 512, run: dangling },
 ];
 
 /// Seals a message of the given lengths and opens it again.
@@ -149,7 +149,7 @@ fn two_faults(harness: &mut Harness) {
     });
 }
 
-/// Every unknown set number, with the lengths of either set.
+/// Every unknown set number, with the lengths of each set.
 fn unknown_sets(harness: &mut Harness) {
     each_kind(harness, |harness, direction, set| {
         for number in UNKNOWN_SETS {

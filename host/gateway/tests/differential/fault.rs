@@ -3,19 +3,19 @@
 use crate::call::{Call, Direction};
 use gateway::{DATA_LIMIT, TEXT_LIMIT};
 
-/// Set numbers that no set has; some are 1 or 2 when cut to 8, 16 or 32 bits, or without the highest bit.
+/// Set numbers that no set has; most are a set's when cut to 8, 16 or 32 bits, or without the highest bit.
 pub const UNKNOWN_SETS: [u64; 12] = [
     0,
-    3,
+    5,
     256,
     257,
-    258,
-    65_537,
+    260,
     65_538,
+    65_539,
     (1 << 32) + 1,
-    (1 << 32) + 2,
-    (1 << 63) + 1,
+    (1 << 32) + 3,
     (1 << 63) + 2,
+    (1 << 63) + 4,
     u64::MAX,
 ];
 

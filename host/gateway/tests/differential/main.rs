@@ -1,6 +1,6 @@
 //! Every kind of call on the model and on the second program; answers, rounds and every lent byte are compared.
 //!
-//! `KVISTMAUR_CALLS` says how many calls to make at least (20,000 when it isn't there), `KVISTMAUR_SEED` from which seed
+//! `KVISTMAUR_CALLS` says how many calls to make at least (24,000 when it isn't there), `KVISTMAUR_SEED` from which seed
 //! (the clock's when it isn't there). The long run, in `host/`:
 //!
 //!     KVISTMAUR_CALLS=1000000 cargo test -p gateway --test differential
@@ -21,7 +21,7 @@ use mixture::any_call;
 use std::time::{SystemTime, UNIX_EPOCH};
 
 /// The calls that a run makes when nobody says how many, and the fewest of any kind at the end.
-const CALLS: usize = 20_000;
+const CALLS: usize = 24_000;
 const MIXED: usize = 10_000;
 
 #[test]

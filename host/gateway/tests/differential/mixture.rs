@@ -11,7 +11,7 @@ use second::random::Random;
 pub fn any_call(harness: &mut Harness) {
     let random = &mut harness.random;
     let direction = DIRECTIONS[random.below(2)];
-    let set = &SETS[random.below(2)];
+    let set = &SETS[random.below(SETS.len())];
     let (data, text) = (length(random), length(random));
     let mut call = fitting(random, direction, set, data, text);
     call.room += random.below(40);
@@ -28,12 +28,20 @@ fn length(random: &mut Random) -> usize {
     random.below(most)
 }
 
+/// A number of a set or of none, either as often.
+fn other_set(random: &mut Random) -> u64 {
+    match random.below(2) {
+        0 => SETS[random.below(SETS.len())].number,
+        _ => UNKNOWN_SETS[random.below(UNKNOWN_SETS.len())],
+    }
+}
+
 /// Damages a bit of a part, gives a part another length or the output other room, or names another set.
 fn change(random: &mut Random, call: &mut Call) {
     let choice = random.below(12);
     match choice {
         10 => call.room = random.below(call.body.len() + 2),
-        11 => call.set = [1, 2, UNKNOWN_SETS[random.below(UNKNOWN_SETS.len())]][random.below(3)],
+        11 => call.set = other_set(random),
         _ => {
             let part = match choice % 5 {
                 0 => &mut call.key,

@@ -119,7 +119,7 @@ fn whole_cases_1() -> Vec<Input> {
         ),
         case(
             "a broken record is the last",
-            format!("set=3\n{ZEROS}"),
+            format!("set=5\n{ZEROS}"),
             "record=1\nverdict=unread\nfield=1\n",
         ),
         case(
@@ -177,7 +177,7 @@ fn faults_1() -> Vec<Input> {
         ),
         breaks(
             "no such set",
-            ZEROS.replace("set=1", "set=3"),
+            ZEROS.replace("set=1", "set=5"),
             "record 1: line 1, column 5",
         ),
         breaks(
@@ -305,7 +305,7 @@ fn whole_cases_2() -> Vec<Input> {
         case("without its last line feed", CLOSE_2.trim_end(), &unread_in(10)),
         case("form 1 is no value", CLOSE_2.replace("form=2", "form=1"), &unread_in(1)),
         case("form 3", CLOSE_2.replace("form=2", "form=3"), &unread_in(1)),
-        case("no such set", CLOSE_2.replace("set=2", "set=3"), &unread_in(2)),
+        case("no such set", CLOSE_2.replace("set=2", "set=5"), &unread_in(2)),
         case("no chip", CLOSE_2.replace("chip=7\n", ""), &unread_in(3)),
         case("chip 65536", CLOSE_2.replace("chip=7", "chip=65536"), &unread_in(3)),
         case("a needless zero", CLOSE_2.replace("chip=7", "chip=07"), &unread_in(3)),
@@ -362,7 +362,7 @@ fn faults_2() -> Vec<Input> {
         ),
         breaks(
             "no such set",
-            CLOSE_2.replace("set=2", "set=3"),
+            CLOSE_2.replace("set=2", "set=5"),
             "record 1: line 2, column 5",
         ),
         breaks("chip 65536", chip("65536"), "record 1: line 3, column 10"),

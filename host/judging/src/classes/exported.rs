@@ -1,4 +1,4 @@
-//! What only those classes have that become entries: counts, both sets, rounds that are dropped, and what is no record of form 1.
+//! What only those classes have that become entries: counts, sets in every order, rounds that are dropped, and what is no record of form 1.
 
 use super::in_a_row::many_in;
 use super::mixed::every_row;
@@ -13,12 +13,13 @@ use second::record::Line;
 
 /// The classes, with their numbers of inputs.
 #[rustfmt::skip]
-pub const OWN: [Own; 6] = [
+pub const OWN: [Own; 7] = [
     ("right records counted", 13, counted),
-    ("both sets in every order", 62, both_sets),
-    ("rounds that are dropped", 48, wrong_rounds),
+    ("sets 1 and 2 in every order", 62, two_sets),
+    ("all sets in every order", 84, all_sets),
+    ("rounds that are dropped", 96, wrong_rounds),
     ("no record of form 1", 18, no_records),
-    ("a third record broken in each line", 16, third_broken),
+    ("a third record broken in each line", 32, third_broken),
     ("the first refused decides", 84, first_decides),
 ];
 
@@ -43,16 +44,24 @@ fn counted() -> Vec<Input> {
         .into()
 }
 
-/// Gives every row of one to five records of either set.
-fn both_sets() -> Vec<Input> {
+/// Gives every row of one to five records of sets 1 and 2.
+fn two_sets() -> Vec<Input> {
+    rows_of_sets(&[0, 1], 5)
+}
+
+/// Gives every row of one to three records of any set.
+fn all_sets() -> Vec<Input> {
+    rows_of_sets(&[0, 1, 2, 3], 3)
+}
+
+/// Gives every row of up to so many records of the sets at these places.
+fn rows_of_sets(places: &[usize], most: usize) -> Vec<Input> {
     let row = |row: Vec<usize>| {
         let names: Vec<String> = row.iter().map(usize::to_string).collect();
-        let bytes = row
-            .iter()
-            .flat_map(|place| Lines::short(One, *place).bytes());
+        let bytes = row.iter().flat_map(|place| of(&SETS[*place]).bytes());
         done(names.join(" "), bytes.collect(), row.len())
     };
-    every_row(&[0, 1], 5).into_iter().map(row).collect()
+    every_row(places, most).into_iter().map(row).collect()
 }
 
 /// Gives records of each set with rounds that no message takes, or another one, alone and as the second of three.

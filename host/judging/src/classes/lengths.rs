@@ -8,7 +8,9 @@ use second::record::{Form, Line};
 /// Gives keys, nonces and tags of lengths that are not the set's.
 pub fn exact(form: Form) -> Vec<Input> {
     let mut inputs = Vec::new();
-    for (set, other) in [(&SETS[0], &SETS[1]), (&SETS[1], &SETS[0])] {
+    for set in &SETS {
+        let other = SETS.iter().find(|other| other.key != set.key);
+        let other = other.expect("a set with another length");
         let lines = Lines::right(form, set, 3, 5);
         for line in KEYED {
             let number = lines.number(line);
@@ -25,7 +27,7 @@ pub fn exact(form: Form) -> Vec<Input> {
                 inputs.push(Input::unread_at(what, lines, number, column));
             }
         }
-        let what = format!("set {} called the other", set.number);
+        let what = format!("set {} called {}", set.number, other.number);
         let renamed = lines.with_value(Line::Set, other.number.to_string());
         inputs.push(Input::unread(what, renamed, lines.number(Line::Key)));
     }

@@ -28,7 +28,7 @@ pub use moved::HELD;
 use crate::input::Input;
 use crate::program::Task;
 use in_a_row::behind_two;
-use second::cipher::{set_of, Set};
+use second::cipher::{set_of, Set, SETS};
 use second::moving::Direction::{Back, Forward};
 use second::record::Form::{self, One, Two};
 
@@ -39,10 +39,10 @@ pub struct Class {
     pub make: Box<dyn Fn() -> Vec<Input>>,
 }
 
-/// A class that each form or each set has: what it is, how many inputs it has in form 1 and in form 2, or of set 1 and of set 2, and what makes them.
-struct Row<K = Form> {
+/// A class that each form or each set has: what it is, how many inputs it has in each of the N forms or sets, and what makes them.
+struct Row<K = Form, const N: usize = 2> {
     name: &'static str,
-    inputs: [usize; 2],
+    inputs: [usize; N],
     make: fn(K) -> Vec<Input>,
 }
 
@@ -56,14 +56,14 @@ impl Row {
     }
 }
 
-impl Row<&'static Set> {
+impl Row<&'static Set, { SETS.len() }> {
     /// Gives the class of a set.
     fn of(&self, set: &'static Set) -> Class {
         self.at(set.number as usize - 1, set, "")
     }
 }
 
-impl<K: Copy + 'static> Row<K> {
+impl<K: Copy + 'static, const N: usize> Row<K, N> {
     /// Gives the class that has this place among the row's, of this kind, and words before its name.
     fn at(&self, place: usize, kind: K, before: &str) -> Class {
         let make = self.make;
@@ -108,7 +108,7 @@ fn moved(form: Form) -> Vec<Class> {
     rows.map(|row| row.of(form)).collect()
 }
 
-/// Gives the classes of test files of a set, without those that only the other has.
+/// Gives the classes of test files of a set, without those that only others have.
 fn of_set(set: &'static Set) -> Vec<Class> {
     let classes = entries::ROWS.iter().map(|row| row.of(set));
     classes.filter(|class| class.inputs > 0).collect()
@@ -131,58 +131,59 @@ fn own((name, inputs, make): Own) -> Class {
 
 /// The judged classes that each form has; the numbers are written down so that a class that shrinks is noticed.
 #[rustfmt::skip]
-const IN_EACH_FORM: [Row; 37] = [
+const IN_EACH_FORM: [Row; 38] = [
     Row { name: "written by hand", inputs: [17, 22], make: by_hand::whole_cases },
     Row { name: "each line damaged", inputs: [208, 260], make: |form| any_line::damaged(form, 0) },
     Row { name: "lines doubled or moved", inputs: [19, 23], make: |form| any_line::moved(form, 0) },
     Row { name: "wrong digits", inputs: [90, 90], make: digits::wrong },
     Row { name: "each character as a digit", inputs: [512, 512], make: digits::each_character },
     Row { name: "odd digits", inputs: [24, 24], make: |form| digits::odd(form, 0) },
-    Row { name: "lengths of key nonce and tag", inputs: [32, 32], make: lengths::exact },
-    Row { name: "lengths of ad text and cipher", inputs: [26, 26], make: lengths::up_to_256 },
+    Row { name: "lengths of key nonce and tag", inputs: [64, 64], make: lengths::exact },
+    Row { name: "lengths of ad text and cipher", inputs: [36, 36], make: lengths::up_to_256 },
     Row { name: "lines far too long", inputs: [40, 50], make: lengths::far_too_long },
-    Row { name: "set values", inputs: [26, 26], make: |form| numbers::sets(form, 0) },
-    Row { name: "rounds out of form", inputs: [54, 54], make: numbers::rounds_broken },
-    Row { name: "rounds in form", inputs: [20, 20], make: numbers::rounds_in_form },
-    Row { name: "fields that differ", inputs: [56, 56], make: verdicts::differing },
-    Row { name: "ciphers of another length than the text", inputs: [28, 28], make: verdicts::other_lengths },
-    Row { name: "ciphers cut off at every length", inputs: [28, 28], make: verdicts::cut_off },
-    Row { name: "ciphers that go on", inputs: [24, 24], make: verdicts::lengthened },
-    Row { name: "right records around block edges", inputs: [26, 26], make: verdicts::right },
+    Row { name: "set values", inputs: [31, 31], make: |form| numbers::sets(form, 0) },
+    Row { name: "rounds out of form", inputs: [108, 108], make: numbers::rounds_broken },
+    Row { name: "rounds in form", inputs: [40, 40], make: numbers::rounds_in_form },
+    Row { name: "records called another set", inputs: [6, 6], make: verdicts::called_another },
+    Row { name: "fields that differ", inputs: [112, 112], make: verdicts::differing },
+    Row { name: "ciphers of another length than the text", inputs: [56, 56], make: verdicts::other_lengths },
+    Row { name: "ciphers cut off at every length", inputs: [56, 56], make: verdicts::cut_off },
+    Row { name: "ciphers that go on", inputs: [48, 48], make: verdicts::lengthened },
+    Row { name: "right records around block edges", inputs: [52, 52], make: verdicts::right },
     Row { name: "one broken in a row", inputs: [24, 30], make: in_a_row::broken },
     Row { name: "bytes after the last record", inputs: [32, 32], make: in_a_row::trailing },
     Row { name: "many records", inputs: [6, 6], make: in_a_row::long },
-    Row { name: "cut at every byte", inputs: [316, 345], make: |form| cuts::every(form, 0) },
+    Row { name: "cut at every byte", inputs: [316, 348], make: |form| cuts::every(form, 0) },
     Row { name: "around buffer edges", inputs: [72, 72], make: edges::around },
     Row { name: "the largest record", inputs: [12, 13], make: largest::around },
     Row { name: "one byte mutated", inputs: [120, 120], make: |form| mutations::mutated(&[form]) },
     Row { name: "faults written by hand", inputs: [23, 21], make: by_hand::faults },
-    Row { name: "a wrong character at every place", inputs: [314, 350], make: places::wrong_characters },
-    Row { name: "a line feed at every place", inputs: [314, 350], make: places::line_feeds },
+    Row { name: "a wrong character at every place", inputs: [314, 343], make: places::wrong_characters },
+    Row { name: "a line feed at every place", inputs: [314, 343], make: places::line_feeds },
     Row { name: "each character in a number", inputs: [768, 1_536], make: numbers::each_character },
-    Row { name: "wrong digits in the largest record", inputs: [36, 36], make: largest::wrong_digits },
+    Row { name: "wrong digits in the largest record", inputs: [72, 72], make: largest::wrong_digits },
     Row { name: "a third record with each line damaged", inputs: [208, 260], make: |form| behind_two(form, any_line::damaged(form, 1)) },
     Row { name: "a third record with lines doubled or moved", inputs: [19, 23], make: |form| behind_two(form, any_line::moved(form, 1)) },
     Row { name: "a third record with odd digits", inputs: [24, 24], make: |form| behind_two(form, digits::odd(form, 1)) },
-    Row { name: "a third record with other lengths of key nonce and tag", inputs: [32, 32], make: |form| behind_two(form, lengths::exact(form)) },
-    Row { name: "a third record with other lengths of ad text and cipher", inputs: [26, 26], make: |form| behind_two(form, lengths::up_to_256(form)) },
-    Row { name: "a third record with set values", inputs: [26, 26], make: |form| behind_two(form, numbers::sets(form, 1)) },
-    Row { name: "a third record with rounds out of form", inputs: [54, 54], make: |form| behind_two(form, numbers::rounds_broken(form)) },
-    Row { name: "a third record cut at every byte", inputs: [316, 345], make: |form| behind_two(form, cuts::every(form, 1)) },
+    Row { name: "a third record with other lengths of key nonce and tag", inputs: [64, 64], make: |form| behind_two(form, lengths::exact(form)) },
+    Row { name: "a third record with other lengths of ad text and cipher", inputs: [36, 36], make: |form| behind_two(form, lengths::up_to_256(form)) },
+    Row { name: "a third record with set values", inputs: [31, 31], make: |form| behind_two(form, numbers::sets(form, 1)) },
+    Row { name: "a third record with rounds out of form", inputs: [108, 108], make: |form| behind_two(form, numbers::rounds_broken(form)) },
+    Row { name: "a third record cut at every byte", inputs: [316, 348], make: |form| behind_two(form, cuts::every(form, 1)) },
 ];
 
 /// The judged classes of what only form 2 has, and of both forms in one input.
 #[rustfmt::skip]
 const IN_BOTH_FORMS: [Own; 11] = [
     ("form lines", 112, form_2::form_lines),
-    ("chips", 40, form_2::chips),
+    ("chips", 80, form_2::chips),
     ("chips out of form", 90, form_2::no_chips),
     ("both forms in every order", 258, mixed::orders),
     ("both forms and many records", 5, mixed::long),
     ("both forms by chance", 100, mixed::by_chance),
     ("both forms and one byte mutated", 120, || mutations::mutated(&[One, Two])),
     ("behind form 1 a form 2 record damaged", 260, || behind_two(One, any_line::damaged(Two, 1))),
-    ("behind form 1 a form 2 record cut at every byte", 345, || behind_two(One, cuts::every(Two, 1))),
+    ("behind form 1 a form 2 record cut at every byte", 348, || behind_two(One, cuts::every(Two, 1))),
     ("behind form 2 a form 1 record damaged", 208, || behind_two(Two, any_line::damaged(One, 1))),
     ("behind form 2 a form 1 record cut at every byte", 316, || behind_two(Two, cuts::every(One, 1))),
 ];

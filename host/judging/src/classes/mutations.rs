@@ -3,7 +3,7 @@
 use crate::entry::Entry;
 use crate::input::Input;
 use crate::lines::Lines;
-use crate::log::message;
+use crate::log::{message, startable};
 use second::cipher::{Set, SETS};
 use second::random::Random;
 use second::record::Form;
@@ -31,7 +31,11 @@ pub fn mutated_entries(set: &Set) -> Vec<Input> {
 pub fn mutated_logs() -> Vec<Input> {
     rows_of(&|random, _| {
         let [data, text] = [random.below(41), random.below(41)];
-        right_log(&message(&SETS[random.below(2)], &[data, 0], &[text, 9]))
+        right_log(&message(
+            &startable()[random.below(2)],
+            &[data, 0],
+            &[text, 9],
+        ))
     })
 }
 
@@ -82,7 +86,7 @@ fn rows(make: Make, random: &mut Random, first: usize, end: usize) -> Vec<Vec<u8
 
 /// Gives a right record with at most 40 bytes of data and of text.
 fn record(forms: &[Form], random: &mut Random) -> Vec<u8> {
-    let set = &SETS[random.below(2)];
+    let set = &SETS[random.below(SETS.len())];
     let form = match forms {
         [only] => *only,
         _ => forms[random.below(forms.len())],

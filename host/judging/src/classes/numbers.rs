@@ -5,23 +5,26 @@ use crate::lines::{column, Lines};
 use second::cipher::SETS;
 use second::record::{Form, Line};
 
-/// Gives set lines that name neither set, and the two that name one; the sets of the other lines take turns from this one on.
+/// Gives set lines that name no set, and those that name one; sets 1 and 2 take turns, from this one on, in the other lines of those that name none.
 pub fn sets(form: Form, turn: usize) -> Vec<Input> {
-    let values: [(&str, &[u8]); 24] = [
+    let values: [(&str, &[u8]); 27] = [
         ("empty", b""),
         ("0", b"0"),
-        ("3", b"3"),
-        ("4", b"4"),
+        ("5", b"5"),
+        ("6", b"6"),
         ("9", b"9"),
         ("01", b"01"),
         ("02", b"02"),
+        ("03", b"03"),
         ("001", b"001"),
         ("10", b"10"),
         ("11", b"11"),
         ("12", b"12"),
         ("21", b"21"),
+        ("33", b"33"),
         ("257", b"257"),
         ("4294967297", b"4294967297"),
+        ("4294967299", b"4294967299"),
         ("plus 1", b"+1"),
         ("minus 1", b"-1"),
         ("1 and a point", b"1."),
@@ -39,8 +42,10 @@ pub fn sets(form: Form, turn: usize) -> Vec<Input> {
         let number = lines.number(Line::Set);
         inputs.push(Input::unread(what, lines, number));
     }
-    inputs.push(Input::equal("1", Lines::right(form, &SETS[0], 3, 5)));
-    inputs.push(Input::equal("2", Lines::right(form, &SETS[1], 3, 5)));
+    for set in &SETS {
+        let number = set.number.to_string();
+        inputs.push(Input::equal(number, Lines::right(form, set, 3, 5)));
+    }
     inputs
 }
 

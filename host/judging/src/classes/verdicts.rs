@@ -68,6 +68,25 @@ fn differing_in(form: Form, set: &Set, choice: usize) -> Input {
     }
 }
 
+/// Gives right records that are called another set whose keys are as long.
+pub fn called_another(form: Form) -> Vec<Input> {
+    let mut inputs = Vec::new();
+    for set in &SETS {
+        for other in &SETS {
+            if set != other && set.key == other.key {
+                // With 5 bytes of data and of text the rounds show the rounds between, and not the constants.
+                let same_rounds = set.middle == other.middle;
+                let field = if same_rounds { "cipher" } else { "rounds" };
+                let renamed =
+                    Lines::right(form, set, 5, 5).with_value(Line::Set, other.number.to_string());
+                let what = format!("set {} called {}", set.number, other.number);
+                inputs.push(Input::differs(what, renamed, field));
+            }
+        }
+    }
+    inputs
+}
+
 /// Gives right records whose cipher was cut at every length, each row with the whole one at its end.
 pub fn cut_off(form: Form) -> Vec<Input> {
     let mut inputs = Vec::new();

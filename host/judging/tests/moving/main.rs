@@ -13,7 +13,7 @@ use judging::entry::Entry;
 use judging::layout::file_of;
 use judging::program::{run, Task, Tried};
 use judging::right_texts::right_text_of_length;
-use second::cipher::SETS;
+use second::cipher::{set_numbers, SETS};
 use second::moving::Direction::{Back, Forward};
 use second::random::Random;
 use second::vectors::short_record;
@@ -50,12 +50,15 @@ fn the_program_moves_as_the_second_program_moves() {
     }
 }
 
-/// Says that the program makes records of test files of either set as the second program does.
+/// Says that the program makes records of test files of each set as the second program does.
 #[test]
 fn the_program_imports_as_the_second_program_imports() {
-    for set in [1, 2] {
+    let mut ran = 0;
+    for set in set_numbers() {
         all_agree_in(Task::Import(set));
+        ran += 1;
     }
+    assert_eq!(ran, 4);
 }
 
 /// Says that the program makes test files of records as the second program does.
@@ -78,9 +81,13 @@ fn no_such_set() {
         256,
         257,
         258,
+        259,
+        260,
         65_537,
         4_294_967_297,
         4_294_967_298,
+        4_294_967_299,
+        4_294_967_300,
         9_223_372_036_854_775_809,
         18_446_744_073_709_551_615,
     ] {
@@ -91,7 +98,7 @@ fn no_such_set() {
         all_agree_in(task);
         ran += 1;
     }
-    assert_eq!(ran, 14);
+    assert_eq!(ran, 18);
 }
 
 /// Says that an input of a byte more than can be held, or of far more, is an error and no cut: nothing is printed, whatever stands in it.
@@ -151,7 +158,7 @@ fn moved_records_are_judged_alike() {
     assert_eq!(judged.stderr, wanted.words.as_bytes());
 }
 
-/// Says that each record which a right entry becomes, of either set, is judged equal: its rounds are those of the message.
+/// Says that each record which a right entry becomes, of each set, is judged equal: its rounds are those of the message.
 #[test]
 fn records_of_right_entries_are_judged_equal() {
     for set in &SETS {

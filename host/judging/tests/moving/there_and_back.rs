@@ -51,7 +51,7 @@ fn records(set: &Set, ad: usize, other: bool) -> Vec<u8> {
     TEXT.into_iter().flat_map(record).collect()
 }
 
-/// Says that records moved there and back are the same bytes, in both directions, for data and text of many lengths in both sets.
+/// Says that records moved there and back are the same bytes, in both directions, for data and text of many lengths in each set.
 #[test]
 fn forms() {
     let mut ran = 0;
@@ -65,7 +65,7 @@ fn forms() {
             }
         }
     }
-    assert_eq!(ran, 24);
+    assert_eq!(ran, 48);
 }
 
 /// Says that the records of a test file become the same file again, and right records of a set, written as a file and read with the set, the same records.
@@ -82,7 +82,7 @@ fn test_files() {
             }
         }
     }
-    assert_eq!(ran, 48);
+    assert_eq!(ran, 96);
 }
 
 /// Says that what comes back for wrong rounds is the right record.
@@ -106,7 +106,7 @@ fn wrong_rounds() {
             ran += 1;
         }
     }
-    assert_eq!(ran, 8);
+    assert_eq!(ran, 16);
 }
 
 /// Gives the line, or that of these rounds in place of another's.

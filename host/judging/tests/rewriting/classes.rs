@@ -26,27 +26,27 @@ pub struct Class {
 /// All classes; the numbers are written down so that a class that shrinks is noticed.
 #[rustfmt::skip]
 pub const CLASSES: [Class; 18] = [
-    Class { name: "data and text at the edges", inputs: 8, records: 200, form: One, make: right },
-    Class { name: "data, text and cipher of the same bytes", inputs: 8, records: 180, form: One, make: uniform },
+    Class { name: "data and text at the edges", inputs: 16, records: 400, form: One, make: right },
+    Class { name: "data, text and cipher of the same bytes", inputs: 15, records: 360, form: One, make: uniform },
     Class { name: "pseudo-random messages", inputs: 8, records: 200, form: One, make: pseudo_random },
-    Class { name: "rounds of every length", inputs: 2, records: 42, form: One, make: rounds },
-    Class { name: "a cipher of another length than the text", inputs: 1, records: 20, form: One, make: ciphers },
+    Class { name: "rounds of every length", inputs: 4, records: 84, form: One, make: rounds },
+    Class { name: "a cipher of another length than the text", inputs: 2, records: 40, form: One, make: ciphers },
     Class { name: "behind a record one that can't be read", inputs: 8, records: 8, form: One, make: broken },
     Class { name: "no record", inputs: 3, records: 0, form: One, make: none },
     Class { name: "more than the program takes", inputs: 1, records: 38, form: One, make: too_many },
-    Class { name: "form 2, data and text at the edges", inputs: 8, records: 200, form: Two, make: right },
-    Class { name: "form 2, data, text and cipher of the same bytes", inputs: 8, records: 180, form: Two, make: uniform },
+    Class { name: "form 2, data and text at the edges", inputs: 16, records: 400, form: Two, make: right },
+    Class { name: "form 2, data, text and cipher of the same bytes", inputs: 15, records: 360, form: Two, make: uniform },
     Class { name: "form 2, pseudo-random messages", inputs: 8, records: 200, form: Two, make: pseudo_random },
-    Class { name: "form 2, rounds of every length", inputs: 2, records: 42, form: Two, make: rounds },
-    Class { name: "form 2, a cipher of another length than the text", inputs: 1, records: 20, form: Two, make: ciphers },
+    Class { name: "form 2, rounds of every length", inputs: 4, records: 84, form: Two, make: rounds },
+    Class { name: "form 2, a cipher of another length than the text", inputs: 2, records: 40, form: Two, make: ciphers },
     Class { name: "form 2, behind a record one that can't be read", inputs: 10, records: 10, form: Two, make: broken },
     Class { name: "form 2, no record", inputs: 3, records: 0, form: Two, make: none },
     Class { name: "form 2, more than the program takes", inputs: 1, records: 38, form: Two, make: too_many },
-    Class { name: "chips of every length", inputs: 2, records: 34, form: Two, make: chips },
+    Class { name: "chips of every length", inputs: 3, records: 68, form: Two, make: chips },
     Class { name: "both forms in turn", inputs: 4, records: 100, form: Two, make: in_turn },
 ];
 
-/// Gives right records in both sets with data and text of every pair of edges.
+/// Gives right records in each set with data and text of every pair of edges.
 fn right(form: Form) -> Vec<Vec<u8>> {
     let mut records = Vec::new();
     for set in &SETS {
@@ -57,7 +57,7 @@ fn right(form: Form) -> Vec<Vec<u8>> {
     rows(records)
 }
 
-/// Gives records in both sets of one byte only: of zeros, so that a field with one byte less has zeros behind it, and of others.
+/// Gives records in each set of one byte only: of zeros, so that a field with one byte less has zeros behind it, and of others.
 fn uniform(form: Form) -> Vec<Vec<u8>> {
     let mut records = Vec::new();
     for set in &SETS {

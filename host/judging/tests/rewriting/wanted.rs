@@ -1,5 +1,6 @@
 //! What the program has to print, by the second program's reader and writer.
 
+use second::cipher::SETS;
 use second::record::{form_of, read, write, Broken, Field, Form, Line, Record, Refused};
 use second::record::{MOST_CHIP, MOST_ROUNDS};
 
@@ -104,7 +105,7 @@ fn changed_parts() -> Vec<(usize, Line)> {
 fn change_part(record: &mut Record, part: Line, change: Change) {
     match part {
         Line::Form => {}
-        Line::Set => change_number(&mut record.set, 3, change),
+        Line::Set => change_number(&mut record.set, SETS.len() as u64 + 1, change),
         Line::Chip => change_number(&mut record.chip, MOST_CHIP + 1, change),
         Line::Key => change_field(&mut record.key, change),
         Line::Nonce => change_field(&mut record.nonce, change),

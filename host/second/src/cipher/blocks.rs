@@ -1,6 +1,7 @@
 //! Blocks of a message as lists of bytes.
 
 use super::Set;
+use crate::permutation::Edition;
 
 /// Gives the bytes with `80` and zeros added, cut into whole blocks.
 fn padded(set: &Set, bytes: &[u8]) -> Vec<Vec<u8>> {
@@ -36,11 +37,18 @@ pub fn cipher_blocks(set: &Set, cipher: &[u8]) -> Vec<Vec<u8>> {
     blocks
 }
 
-/// Gives the first block of the state: key bits, both round numbers, zeros.
-pub fn first_block(set: &Set) -> Vec<u8> {
-    let mut block = vec![0; set.block];
-    block[0] = (set.key * 8) as u8;
-    block[1] = set.outer as u8;
-    block[2] = set.middle as u8;
-    block
+/// Gives the bytes of the state that stand before key and nonce at the start.
+///
+/// In v1 they are the first block: key bits, both round numbers, zeros to its end. In v1.2 they are
+/// "the first word" (W5), 8 bytes whatever the block, which "now carries the block size too", in bits
+/// behind those of the key as the two printed words have it.
+pub fn first_bytes(set: &Set) -> Vec<u8> {
+    let [key, block] = [set.key, set.block].map(|bytes| (bytes * 8) as u8);
+    let [outer, middle] = [set.outer, set.middle].map(|rounds| rounds as u8);
+    let (mut bytes, length) = match set.edition {
+        Edition::V1 => (vec![key, outer, middle], set.block),
+        Edition::V1Dot2 => (vec![key, block, outer, middle], 8),
+    };
+    bytes.resize(length, 0);
+    bytes
 }

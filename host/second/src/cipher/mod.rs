@@ -4,8 +4,8 @@ mod blocks;
 mod sets;
 mod state;
 
-pub use blocks::{cipher_blocks, first_block, padded_data, padded_text};
-pub use sets::{set_of, Set, SETS};
+pub use blocks::{cipher_blocks, first_bytes, padded_data, padded_text};
+pub use sets::{set_numbers, set_of, Set, SETS};
 pub use state::State;
 
 /// What sealing gives: ciphertext, tag and the number of rounds that ran.
@@ -23,14 +23,16 @@ pub struct Opened {
     pub rounds: u64,
 }
 
-/// Gives the state after the start: first block, key and nonce, a long run, the key at the end.
+/// Gives the state after the start: first bytes, key and nonce, a long run, the key at the end.
 pub(crate) fn started(set: &Set, key: &[u8], nonce: &[u8]) -> State {
-    let mut bytes = first_block(set);
+    let mut bytes = first_bytes(set);
     bytes.extend(key);
     bytes.extend(nonce);
     let mut state = State::new(&bytes);
-    state.run(set.outer);
-    state.combine(set.block + set.key, key);
+    state.run(set.edition, set.outer);
+    // 004 combines a key behind block and key, which in v1 are all but the last key's length; in set 4
+    // they reach further (W5: "no longer two keys long"), so the rules' "last bytes of the state" decide.
+    state.combine_last(key);
     state
 }
 
@@ -38,15 +40,16 @@ pub(crate) fn started(set: &Set, key: &[u8], nonce: &[u8]) -> State {
 fn take_data(set: &Set, state: &mut State, ad: &[u8]) {
     for block in padded_data(set, ad) {
         state.combine(0, &block);
-        state.run(set.middle);
+        state.run(set.edition, set.middle);
     }
     state.combine(39, &[1]);
 }
 
 /// Ends the message and gives its tag.
 pub(crate) fn finish(set: &Set, state: &mut State, key: &[u8]) -> Vec<u8> {
+    // Right behind the block in every set: so says the formula of 004, which is written in the rate r.
     state.combine(set.block, key);
-    state.run(set.outer);
+    state.run(set.edition, set.outer);
     combined(state.last(set.key), key)
 }
 
@@ -69,7 +72,7 @@ pub fn seal_published(set: &Set, key: &[u8], nonce: &[u8], ad: &[u8], text: &[u8
     for block in before {
         state.combine(0, block);
         cipher.extend(state.first(set.block));
-        state.run(set.middle);
+        state.run(set.edition, set.middle);
     }
     state.combine(0, last);
     cipher.extend(state.first(left));
@@ -102,7 +105,7 @@ pub fn open_published(
     for block in before {
         text.extend(combined(state.first(set.block), block));
         state.replace_front(block);
-        state.run(set.middle);
+        state.run(set.edition, set.middle);
     }
     text.extend(combined(state.first(left), last));
     state.replace_front(last);

@@ -1,6 +1,6 @@
 //! The 40 bytes of the state and the count of the rounds run on them.
 
-use crate::permutation::{constants_of_run, round, Words};
+use crate::permutation::{constants_of_run, round, Edition, Words};
 
 /// The state as bytes, high byte of x0 first, with its round counter.
 #[derive(Clone, Debug)]
@@ -42,15 +42,20 @@ impl State {
         }
     }
 
+    /// Combines the given bytes into the state's last ones.
+    pub fn combine_last(&mut self, bytes: &[u8]) {
+        self.combine(self.bytes.len() - bytes.len(), bytes);
+    }
+
     /// Puts the given bytes in the place of the state's first ones.
     pub fn replace_front(&mut self, bytes: &[u8]) {
         self.bytes[..bytes.len()].copy_from_slice(bytes);
     }
 
-    /// Runs `n` rounds and counts each of them as it runs.
-    pub fn run(&mut self, n: usize) {
+    /// Runs `n` rounds of the edition and counts each of them as it runs.
+    pub fn run(&mut self, edition: Edition, n: usize) {
         let mut words = self.words();
-        for constant in constants_of_run(n) {
+        for constant in constants_of_run(edition, n) {
             words = round(words, *constant);
             self.rounds += 1;
         }

@@ -6,13 +6,13 @@ mod writing;
 pub use reading::{read, Log};
 pub use writing::{log_of, written};
 
-use crate::cipher::{Set, SETS};
+use crate::cipher::set_of;
 use crate::record::{MOST_BYTES, MOST_ROUNDS};
 
 /// The largest answer and the largest rounds: both are written as the rounds of a record are.
 pub const MOST_NUMBER: u64 = MOST_ROUNDS;
 
-/// A call of a sealing stream.
+/// A call of a sealing stream; W12 names starts in sets 1 and 2 only, and W5 adds none.
 #[derive(Clone, Copy, Debug, PartialEq, Eq)]
 pub enum Call {
     /// A start in set 1.
@@ -49,10 +49,13 @@ impl Call {
 
     /// Gives the fewest and the most bytes of data that the call has in a log.
     fn fewest_and_most(self) -> (usize, usize) {
-        let key_and_nonce = |set: &Set| (2 * set.key, 2 * set.key);
+        let key_and_nonce = |set: u64| {
+            let length = 2 * set_of(set).expect("a known set").key;
+            (length, length)
+        };
         match self {
-            Call::Start1 => key_and_nonce(&SETS[0]),
-            Call::Start2 => key_and_nonce(&SETS[1]),
+            Call::Start1 => key_and_nonce(1),
+            Call::Start2 => key_and_nonce(2),
             Call::Ad | Call::Text => (0, MOST_BYTES),
             Call::Finish => (0, 0),
         }

@@ -1,8 +1,9 @@
 //! Whether bytes can still become a record, told from what a right line is and not by reading.
 
 use super::{Form, Line, MOST_CHIP, MOST_ROUNDS};
+use crate::cipher::{Set, SETS};
 
-/// The most characters that a value can lack: those of a whole key, nonce or tag in set 1.
+/// The most characters that a value can lack: those of a whole key, nonce or tag of 16 bytes.
 const MOST_LACKING: usize = 32;
 
 /// Says whether the bytes are the whole text of some record in either form, or a beginning of one.
@@ -26,12 +27,18 @@ pub fn may_begin_in(form: Form, bytes: &[u8]) -> bool {
 
 /// Gives how many digits the set line, if it is there, asks of key, nonce and tag.
 fn digits_asked(lines: &[&[u8]]) -> usize {
-    let asked = lines.iter().find_map(|line| match *line {
-        b"set=1" => Some(32),
-        b"set=2" => Some(24),
-        _ => None,
+    let label = Line::Set.label();
+    let asked = lines.iter().find_map(|line| {
+        let set = set_written(line.strip_prefix(label)?)?;
+        Some(set.key * 2)
     });
     asked.unwrap_or(0)
+}
+
+/// Gives the set whose number the value is, if there is one.
+fn set_written(value: &[u8]) -> Option<&'static Set> {
+    let mut sets = SETS.iter();
+    sets.find(|set| set.number.to_string().as_bytes() == value)
 }
 
 /// Says whether the text, without its line feed, is right as a line of that kind.
@@ -41,7 +48,7 @@ fn is_right(kind: Line, text: &[u8], digits: usize) -> bool {
     };
     match kind {
         Line::Form => value.is_empty(),
-        Line::Set => value == b"1" || value == b"2",
+        Line::Set => set_written(value).is_some(),
         Line::Chip => is_number(value, MOST_CHIP),
         Line::Key | Line::Nonce | Line::Tag => is_hex(value) && value.len() == digits,
         Line::Ad | Line::Text | Line::Cipher => {

@@ -1,7 +1,7 @@
 //! Reading one record from the front of any bytes.
 
 use super::{Broken, Form, Line, Record, MOST_BYTES, MOST_CHIP, MOST_ROUNDS};
-use crate::cipher::set_of;
+use crate::cipher::{set_of, SETS};
 use crate::hex::Case::Lower;
 use crate::lines::{field, number, take_line, take_lines, Good};
 
@@ -34,11 +34,13 @@ fn take_value(record: &mut Record, line: Line, text: &[u8]) -> Result<usize, Goo
     Ok(length)
 }
 
-/// Gives the set number at the front and its length in characters.
+/// Gives the set number at the front and its length in characters; every set's number is one digit.
 fn set_value(text: &[u8]) -> Result<(u64, usize), Good> {
-    match text.first() {
-        Some(b'1') => Ok((1, 1)),
-        Some(b'2') => Ok((2, 1)),
-        _ => Err(0),
+    for set in &SETS {
+        let digits = set.number.to_string();
+        if text.starts_with(digits.as_bytes()) {
+            return Ok((set.number, digits.len()));
+        }
     }
+    Err(0)
 }

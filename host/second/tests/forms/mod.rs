@@ -1,5 +1,6 @@
-//! The shapes of all right lines, two right records, and a search for what completes a beginning.
+//! The shapes of all right lines, a right record of each set, and a search for what completes a beginning.
 
+use second::cipher::SETS;
 use second::record::{Broken, Form};
 
 /// Both forms.
@@ -29,6 +30,16 @@ pub const SET_2: [&[u8]; 8] = [
     b"rounds=30",
 ];
 
+/// Gives the right record of set 1 with another set line; sets 3 and 4 ask no more of the other lines.
+const fn under(set: &'static [u8]) -> [&'static [u8]; 8] {
+    let mut record = SET_1;
+    record[0] = set;
+    record
+}
+
+/// The right records, one of each set.
+pub const RECORDS: [[&[u8]; 8]; SETS.len()] = [SET_1, SET_2, under(b"set=3"), under(b"set=4")];
+
 /// Gives the lines of form 2 for a record's lines of form 1, with a chip that may have one more digit.
 pub fn in_form_2<'a>(record: &[&'a [u8]; 8]) -> [&'a [u8]; 10] {
     let [set, key, nonce, ad, text, cipher, tag, rounds] = *record;
@@ -46,11 +57,11 @@ pub fn in_form_2<'a>(record: &[&'a [u8]; 8]) -> [&'a [u8]; 10] {
     ]
 }
 
-/// Gives the lines of both right records in the form.
-pub fn records_in(form: Form) -> [Vec<&'static [u8]>; 2] {
+/// Gives the lines of the right records in the form.
+pub fn records_in(form: Form) -> [Vec<&'static [u8]>; SETS.len()] {
     match form {
-        Form::One => [SET_1, SET_2].map(|record| record.to_vec()),
-        Form::Two => [SET_1, SET_2].map(|record| in_form_2(&record).to_vec()),
+        Form::One => RECORDS.map(|record| record.to_vec()),
+        Form::Two => RECORDS.map(|record| in_form_2(&record).to_vec()),
     }
 }
 
@@ -68,7 +79,7 @@ type Choice = &'static [u8];
 /// What may stand at each place of a line of one length, its line feed included.
 type Shape = Vec<Choice>;
 
-/// All shapes of the lines of both forms, each in set 1 and in set 2.
+/// All shapes of the lines of both forms, each with keys of 16 and of 12 bytes.
 pub struct Forms {
     one: [Vec<Vec<Shape>>; 2],
     two: [Vec<Vec<Shape>>; 2],
@@ -134,7 +145,7 @@ fn shapes_in_form_2(key: usize) -> Vec<Vec<Shape>> {
 /// Gives the shapes of the eight lines of form 1 in a set that has keys of so many bytes.
 fn shapes(key: usize) -> Vec<Vec<Shape>> {
     vec![
-        vec![shape(b"set=", &[b"12"])],
+        vec![shape(b"set=", &[b"1234"])],
         vec![hex_shape(b"key=", key * 2)],
         vec![hex_shape(b"nonce=", key * 2)],
         shapes_of_bytes(b"ad="),
@@ -162,12 +173,12 @@ impl Forms {
 
     /// Gives the shapes of line `number`, from 1, in a record of the form whose text begins as this one.
     fn of(&self, form: Form, text: &[u8], number: usize) -> &[Shape] {
-        let (sets, second): (_, &[u8]) = match form {
+        let (keys, short): (_, &[u8]) = match form {
             Form::One => (&self.one, b"set=2"),
             Form::Two => (&self.two, b"form=2\nset=2"),
         };
-        let set = usize::from(text.starts_with(second));
-        &sets[set][number - 1]
+        let key = usize::from(text.starts_with(short));
+        &keys[key][number - 1]
     }
 
     /// Gives a right line `number` of the form that begins with the given characters, if there is one.
@@ -221,7 +232,7 @@ pub fn label_of(line: &[u8]) -> &[u8] {
     &line[..=sign.expect("every line has one")]
 }
 
-/// Hands over both right records of the form with each byte changed to each, and the byte's place.
+/// Hands over each right record of the form with each byte changed to each, and the byte's place.
 pub fn each_change(form: Form, mut take: impl FnMut(usize, &[u8])) {
     for record in records_in(form) {
         let text = text_of(&record);
@@ -235,7 +246,7 @@ pub fn each_change(form: Form, mut take: impl FnMut(usize, &[u8])) {
     }
 }
 
-/// Hands over both right records of the form up to each line, with a short value behind its name, behind a cut name and alone; and the lines after it.
+/// Hands over each right record of the form up to each line, with a short value behind its name, behind a cut name and alone; and the lines after it.
 pub fn each_short_value(form: Form, mut take: impl FnMut(&[u8], &[u8])) {
     let values = short_texts(b"0129afgA =\r\n");
     for record in records_in(form) {

@@ -1,7 +1,7 @@
 //! What the tests of streams use: streams of a message, every call, cuts, and what is said of states.
 
 use crate::common::{flipped, message, Message};
-use second::cipher::{set_of, Set};
+use second::cipher::{set_numbers, set_of, Set, SETS};
 use second::permutation::{run, Words};
 use second::random::Random;
 use second::stream::{
@@ -13,7 +13,13 @@ use Direction::{Checking, Sealing};
 /// The largest limit of text; the streams of most tests have it.
 pub const LARGEST: u64 = 1_048_576;
 
-pub const KINDS: [(u64, Direction); 4] = [(1, Sealing), (1, Checking), (2, Sealing), (2, Checking)];
+/// How many kinds of streams there are.
+pub const KINDS: usize = SETS.len() * 2;
+
+/// Gives the kinds of streams: each set in either direction.
+pub fn kinds() -> impl Iterator<Item = (u64, Direction)> {
+    set_numbers().flat_map(|set| [(set, Sealing), (set, Checking)])
+}
 
 pub const TWELVE: [u64; 12] = [
     0xf0, 0xe1, 0xd2, 0xc3, 0xb4, 0xa5, 0x96, 0x87, 0x78, 0x69, 0x5a, 0x4b,
@@ -40,23 +46,44 @@ pub fn counting(first: u8, count: u8) -> Vec<u8> {
     (first..first + count).collect()
 }
 
-/// Starts a stream of set 1 or 2 with key bytes from 0 on and nonce bytes from 16 on.
+/// Gives how many bytes key, nonce and tag of a set have.
+pub fn length_in(set: u64) -> u8 {
+    match set {
+        2 => 12,
+        _ => 16,
+    }
+}
+
+/// Starts a stream of the set with key bytes from 0 on and nonce bytes from 16 on.
 pub fn counting_start(set: u64, direction: Direction, limit: u64) -> Given {
-    let length = if set == 1 { 16 } else { 12 };
+    let length = length_in(set);
     let (key, nonce) = (counting(0, length), counting(16, length));
     start(direction, set, limit, &key, &nonce)
 }
 
 /// Gives the words of that start, worked out here.
 pub fn words_at_start(set: u64) -> Words {
-    if set == 1 {
-        let (k0, k1) = (0x0001020304050607, 0x08090a0b0c0d0e0f);
-        let (n0, n1) = (0x1011121314151617, 0x18191a1b1c1d1e1f);
-        let mut x = run([0x800c060000000000, k0, k1, n0, n1], &TWELVE);
-        x[3] ^= k0;
-        x[4] ^= k1;
-        return x;
+    match set {
+        1 => words_of_long_keys(0x800c060000000000),
+        2 => words_of_short_keys(),
+        3 => words_of_long_keys(0x80400c0600000000),
+        4 => words_of_long_keys(0x80800c0800000000),
+        _ => panic!("a set that is not worked out here"),
     }
+}
+
+/// Gives the words of a start with 16 bytes of key and of nonce behind the first word.
+fn words_of_long_keys(first: u64) -> Words {
+    let (k0, k1) = (0x0001020304050607, 0x08090a0b0c0d0e0f);
+    let (n0, n1) = (0x1011121314151617, 0x18191a1b1c1d1e1f);
+    let mut x = run([first, k0, k1, n0, n1], &TWELVE);
+    x[3] ^= k0;
+    x[4] ^= k1;
+    x
+}
+
+/// Gives the words of the start of set 2.
+fn words_of_short_keys() -> Words {
     let first = [
         0x600c080000000000,
         0,
@@ -77,7 +104,7 @@ pub fn expect_started(s: Stream, set: u64, direction: Direction, limit: u64) {
         set,
         direction,
         phase: Phase::Data,
-        key: kept(&counting(0, if set == 1 { 16 } else { 12 })),
+        key: kept(&counting(0, length_in(set))),
         ad_count: 0,
         text_count: 0,
         place: 0,
@@ -89,10 +116,10 @@ pub fn expect_started(s: Stream, set: u64, direction: Direction, limit: u64) {
 /// Says that a start with any mixture of faults, or none, gives the earliest, with each of the limits.
 pub fn expect_starts(limits: &[u64]) -> usize {
     let mut ran = 0;
-    for (number, direction) in KINDS {
+    for (number, direction) in kinds() {
         let right = set_of(number).expect("a known set").key;
         let lengths = [right, 0, right - 1, right + 1, 28 - right, 40];
-        for set in [number, 0, 3, 1 << 32 | number, u64::MAX] {
+        for set in [number, 0, 5, 1 << 32 | number, u64::MAX] {
             for key in lengths {
                 for nonce in lengths {
                     for limit in limits {
@@ -359,10 +386,10 @@ pub fn expect_sound(s: Stream) -> usize {
     1
 }
 
-/// Gives sound open states: both sets, directions and phases, some counts of either kind.
+/// Gives sound open states: all sets, both directions and phases, some counts of either kind.
 pub fn open_states(random: &mut Random) -> Vec<Stream> {
     let mut states = Vec::new();
-    for (number, direction) in KINDS {
+    for (number, direction) in kinds() {
         for count in [0, 1, 8, 13, 16, 31, 32] {
             let m = message(random, number, count, 21);
             let data = after_data(&m, direction, LARGEST);
@@ -376,7 +403,7 @@ pub fn open_states(random: &mut Random) -> Vec<Stream> {
     states
 }
 
-pub const OPEN: usize = 2 * 2 * 7 * 5;
+pub const OPEN: usize = KINDS * 7 * 5;
 
 /// Gives the block of a state's set.
 pub fn block_of(s: &Stream) -> u64 {

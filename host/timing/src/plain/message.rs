@@ -15,8 +15,18 @@ pub fn seal(
     tag: &mut [u8],
 ) -> Result<Rounds, Refusal> {
     match set {
-        Set::Ascon128 => seal_in::<16, 8, 6>(key, nonce, data, text, out, tag),
-        Set::Ascon96 => seal_in::<12, 16, 8>(key, nonce, data, text, out, tag),
+        Set::Ascon128 => {
+            seal_in::<16, 8, 0x800c_0600_0000_0000, 0, 6>(key, nonce, data, text, out, tag)
+        }
+        Set::Ascon96 => {
+            seal_in::<12, 16, 0x600c_0800_0000_0000, 0, 8>(key, nonce, data, text, out, tag)
+        }
+        Set::Ascon128V12 => {
+            seal_in::<16, 8, 0x8040_0c06_0000_0000, 6, 12>(key, nonce, data, text, out, tag)
+        }
+        Set::Ascon128aV12 => {
+            seal_in::<16, 16, 0x8080_0c08_0000_0000, 4, 12>(key, nonce, data, text, out, tag)
+        }
     }
 }
 
@@ -32,13 +42,29 @@ pub fn open(
     out: &mut [u8],
 ) -> Result<Rounds, Refusal> {
     match set {
-        Set::Ascon128 => open_in::<16, 8, 6>(key, nonce, data, cipher, tag, out),
-        Set::Ascon96 => open_in::<12, 16, 8>(key, nonce, data, cipher, tag, out),
+        Set::Ascon128 => {
+            open_in::<16, 8, 0x800c_0600_0000_0000, 0, 6>(key, nonce, data, cipher, tag, out)
+        }
+        Set::Ascon96 => {
+            open_in::<12, 16, 0x600c_0800_0000_0000, 0, 8>(key, nonce, data, cipher, tag, out)
+        }
+        Set::Ascon128V12 => {
+            open_in::<16, 8, 0x8040_0c06_0000_0000, 6, 12>(key, nonce, data, cipher, tag, out)
+        }
+        Set::Ascon128aV12 => {
+            open_in::<16, 16, 0x8080_0c08_0000_0000, 4, 12>(key, nonce, data, cipher, tag, out)
+        }
     }
 }
 
-/// Seals in the set with these lengths of key and block and this number of middle rounds.
-fn seal_in<const KEY: usize, const BLOCK: usize, const MIDDLE: usize>(
+/// Seals in the set with these lengths of key and block, this first word, and middle runs from one constant up to another.
+fn seal_in<
+    const KEY: usize,
+    const BLOCK: usize,
+    const WORD: u64,
+    const FROM: usize,
+    const TO: usize,
+>(
     key: &[u8],
     nonce: &[u8],
     data: &[u8],
@@ -48,14 +74,20 @@ fn seal_in<const KEY: usize, const BLOCK: usize, const MIDDLE: usize>(
 ) -> Result<Rounds, Refusal> {
     let (key, nonce) = fitting::<KEY>(key, nonce, tag)?;
     let out = room(data, text, out)?;
-    let mut sponge = Sponge::<KEY, BLOCK, MIDDLE>::start(key, nonce, data);
+    let mut sponge = Sponge::<KEY, BLOCK, WORD, FROM, TO>::start(key, nonce, data);
     sponge.encrypt(text, out);
     tag.copy_from_slice(&sponge.end(key));
-    Ok(rounds::<BLOCK, MIDDLE>(data, text))
+    Ok(rounds(BLOCK, TO - FROM, data, text))
 }
 
-/// Opens in the set with these lengths of key and block and this number of middle rounds.
-fn open_in<const KEY: usize, const BLOCK: usize, const MIDDLE: usize>(
+/// Opens in the same set.
+fn open_in<
+    const KEY: usize,
+    const BLOCK: usize,
+    const WORD: u64,
+    const FROM: usize,
+    const TO: usize,
+>(
     key: &[u8],
     nonce: &[u8],
     data: &[u8],
@@ -65,10 +97,10 @@ fn open_in<const KEY: usize, const BLOCK: usize, const MIDDLE: usize>(
 ) -> Result<Rounds, Refusal> {
     let (key, nonce) = fitting::<KEY>(key, nonce, tag)?;
     let out = room(data, cipher, out)?;
-    let mut sponge = Sponge::<KEY, BLOCK, MIDDLE>::start(key, nonce, data);
+    let mut sponge = Sponge::<KEY, BLOCK, WORD, FROM, TO>::start(key, nonce, data);
     sponge.decrypt(cipher, out);
     let ours = sponge.end(key);
-    let rounds = rounds::<BLOCK, MIDDLE>(data, cipher);
+    let rounds = rounds(BLOCK, TO - FROM, data, cipher);
     if ours.iter().zip(tag).fold(0, |all, (a, b)| all | (a ^ b)) == 0 {
         Ok(rounds)
     } else {
@@ -99,11 +131,11 @@ fn room<'a>(data: &[u8], text: &[u8], out: &'a mut [u8]) -> Result<&'a mut [u8],
     out.get_mut(..text.len()).ok_or(Refusal::OutputTooShort)
 }
 
-/// The rounds of a message.
-fn rounds<const BLOCK: usize, const MIDDLE: usize>(data: &[u8], text: &[u8]) -> Rounds {
+/// The rounds of a message, by the length of a block and the rounds between.
+fn rounds(block: usize, middle: usize, data: &[u8], text: &[u8]) -> Rounds {
     let data_blocks = match data.len() {
         0 => 0,
-        length => length / BLOCK + 1,
+        length => length / block + 1,
     };
-    Rounds((24 + MIDDLE * (data_blocks + text.len() / BLOCK)) as u64)
+    Rounds((24 + middle * (data_blocks + text.len() / block)) as u64)
 }

@@ -29,10 +29,10 @@ fn round(x: &mut [u64; 5], constant: u64) {
     x[4] ^= x[4].rotate_right(7) ^ x[4].rotate_right(41);
 }
 
-/// The first rounds of the table, in place.
+/// The rounds of the table from one up to another, in place.
 #[inline(always)]
-pub fn run<const ROUNDS: usize>(words: &mut [u64; 5]) {
-    for &constant in &CONSTANTS[..ROUNDS] {
+pub fn run<const FROM: usize, const TO: usize>(words: &mut [u64; 5]) {
+    for &constant in &CONSTANTS[FROM..TO] {
         round(words, constant);
     }
 }
@@ -41,9 +41,9 @@ pub fn run<const ROUNDS: usize>(words: &mut [u64; 5]) {
 #[inline(never)]
 pub fn permute(rounds: u64, words: &mut [u64; 5]) -> u64 {
     match rounds {
-        12 => run::<12>(words),
-        8 => run::<8>(words),
-        6 => run::<6>(words),
+        12 => run::<0, 12>(words),
+        8 => run::<0, 8>(words),
+        6 => run::<0, 6>(words),
         _ => return 0,
     }
     rounds

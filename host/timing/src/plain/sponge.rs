@@ -2,32 +2,40 @@
 
 use super::permutation::run;
 
-/// The words, in a set with these lengths of key and block and this number of middle rounds.
-pub struct Sponge<const KEY: usize, const BLOCK: usize, const MIDDLE: usize> {
+/// The words, in a set with these lengths of key and block, this first word, and middle runs from one constant up to another.
+pub struct Sponge<
+    const KEY: usize,
+    const BLOCK: usize,
+    const WORD: u64,
+    const FROM: usize,
+    const TO: usize,
+> {
     words: [u64; 5],
 }
 
-impl<const KEY: usize, const BLOCK: usize, const MIDDLE: usize> Sponge<KEY, BLOCK, MIDDLE> {
+impl<const KEY: usize, const BLOCK: usize, const WORD: u64, const FROM: usize, const TO: usize>
+    Sponge<KEY, BLOCK, WORD, FROM, TO>
+{
     /// The words once the data is taken in.
     #[inline]
     pub fn start(key: &[u8; KEY], nonce: &[u8; KEY], data: &[u8]) -> Self {
         let mut bytes = [0; 40];
-        bytes[..3].copy_from_slice(&[8 * KEY as u8, 12, MIDDLE as u8]);
-        bytes[BLOCK..BLOCK + KEY].copy_from_slice(key);
-        bytes[BLOCK + KEY..].copy_from_slice(nonce);
+        bytes[..8].copy_from_slice(&WORD.to_be_bytes());
+        bytes[40 - 2 * KEY..40 - KEY].copy_from_slice(key);
+        bytes[40 - KEY..].copy_from_slice(nonce);
         let mut sponge = Sponge { words: [0; 5] };
         sponge.combine(&bytes);
-        run::<12>(&mut sponge.words);
-        sponge.combine_key(BLOCK + KEY, key);
+        run::<0, 12>(&mut sponge.words);
+        sponge.combine_key(40 - KEY, key);
 
         if !data.is_empty() {
             let (blocks, last) = data.as_chunks::<BLOCK>();
             for block in blocks {
                 sponge.combine(block);
-                run::<MIDDLE>(&mut sponge.words);
+                run::<FROM, TO>(&mut sponge.words);
             }
             sponge.combine(&Self::padded(last));
-            run::<MIDDLE>(&mut sponge.words);
+            run::<FROM, TO>(&mut sponge.words);
         }
         sponge.words[4] ^= 1;
         sponge
@@ -41,7 +49,7 @@ impl<const KEY: usize, const BLOCK: usize, const MIDDLE: usize> Sponge<KEY, BLOC
         for (block, room) in blocks.iter().zip(rooms) {
             self.combine(block);
             *room = self.front();
-            run::<MIDDLE>(&mut self.words);
+            run::<FROM, TO>(&mut self.words);
         }
         self.combine(&Self::padded(last));
         last_room.copy_from_slice(&self.front()[..last.len()]);
@@ -56,7 +64,7 @@ impl<const KEY: usize, const BLOCK: usize, const MIDDLE: usize> Sponge<KEY, BLOC
             self.combine(block);
             *room = self.front();
             self.replace(block);
-            run::<MIDDLE>(&mut self.words);
+            run::<FROM, TO>(&mut self.words);
         }
         let mut front = self.front();
         for ((room, byte), front) in last_room.iter_mut().zip(last).zip(&mut front) {
@@ -71,8 +79,8 @@ impl<const KEY: usize, const BLOCK: usize, const MIDDLE: usize> Sponge<KEY, BLOC
     #[inline]
     pub fn end(mut self, key: &[u8; KEY]) -> [u8; KEY] {
         self.combine_key(BLOCK, key);
-        run::<12>(&mut self.words);
-        self.combine_key(BLOCK + KEY, key);
+        run::<0, 12>(&mut self.words);
+        self.combine_key(40 - KEY, key);
         let mut bytes = [0; 40];
         self.put(&mut bytes);
         let mut tag = [0; KEY];

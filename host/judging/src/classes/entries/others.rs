@@ -1,4 +1,4 @@
-//! Files of the other set, records and other texts in place of entries, and files for no set.
+//! Files of another set, records and other texts in place of entries, and files for no set.
 
 use crate::entry::{short_up_to, Entry, Part};
 use crate::input::Input;
@@ -6,13 +6,13 @@ use crate::lines::Lines;
 use second::cipher::{Set, SETS};
 use second::record::Form::{One, Two};
 
-/// Gives the other set.
+/// Gives a set with keys of another length.
 fn other(set: &Set) -> &'static Set {
     let other = SETS.iter().find(|other| other.key != set.key);
     other.expect("a set with another length")
 }
 
-/// Gives files of which all entries or one are of the other set; the key of the first such one is at fault.
+/// Gives files of which all entries or one are of such a set; the key of the first such one is at fault.
 pub fn other_set(set: &Set) -> Vec<Input> {
     let fault = |entry| [entry, 2, 7 + 2 * set.key.min(other(set).key)];
     let [own, others] = [set, other(set)].map(|set| move |count| Entry::short(set, count).bytes());

@@ -2,8 +2,7 @@
 
 use super::fields::{other, COMPARED};
 use crate::input::Input;
-use crate::log::{ad, bytes_of, finish, logged, start, text, Handed, LINES};
-use second::cipher::SETS;
+use crate::log::{ad, bytes_of, finish, logged, start, startable, text, Handed, LINES};
 use second::random::Random;
 
 const INPUTS: usize = 150;
@@ -52,8 +51,8 @@ fn call(random: &mut Random) -> Handed {
         _ => random.below(257),
     };
     match random.below(9) {
-        0 => start(&SETS[0]),
-        1 => start(&SETS[1]),
+        0 => start(&startable()[0]),
+        1 => start(&startable()[1]),
         2 => finish(),
         3..=5 => ad(length),
         _ => text(length),

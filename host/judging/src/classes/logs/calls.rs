@@ -1,8 +1,7 @@
 //! Words that name no call.
 
 use crate::input::Input;
-use crate::log::{bytes_of, logged, message, Line};
-use second::cipher::SETS;
+use crate::log::{bytes_of, logged, message, startable, Line};
 
 /// Words, and how many of their characters begin a call's.
 const WORDS: [(&str, usize); 32] = [
@@ -45,7 +44,7 @@ pub fn names() -> Vec<Input> {
     let mut inputs = Vec::new();
     for (turn, (word, good)) in WORDS.into_iter().enumerate() {
         for number in [1, 3] {
-            let mut entries = logged(&message(&SETS[turn % 2], &[3], &[5]));
+            let mut entries = logged(&message(&startable()[turn % 2], &[3], &[5]));
             entries[number - 1] = entries[number - 1].with_value(Line::Call, word);
             let what = format!("word {turn} in entry {number}");
             let fault = [number, 1, 6 + good];

@@ -1,8 +1,7 @@
 //! Logs that end too early.
 
 use crate::input::Input;
-use crate::log::{ad, finish, many, start, text, LINES};
-use second::cipher::SETS;
+use crate::log::{ad, finish, many, start, startable, text, LINES};
 use second::random::Random;
 use second::replay::right_log;
 
@@ -21,7 +20,7 @@ fn cut(log: &[u8], length: usize) -> Input {
 
 /// Gives a log of both sets cut at each of its bytes, from none of them to all.
 pub fn every() -> Vec<Input> {
-    let [one, two] = &SETS;
+    let [one, two] = startable();
     let log = right_log(&[
         start(one),
         ad(1),

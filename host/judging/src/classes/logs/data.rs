@@ -1,9 +1,9 @@
 //! Data and outs: their lengths, and characters that are no digits of theirs.
 
 use crate::input::Input;
-use crate::log::{bytes_of, logged, message, Line, Logged};
+use crate::log::{bytes_of, logged, message, startable, Line, Logged};
 use crate::text::column;
-use second::cipher::{Set, SETS};
+use second::cipher::Set;
 
 /// Characters that are no digit: neighbours of digits, upper-case letters, blanks, signs, and bytes that are no text.
 const NO_DIGITS: [u8; 19] = *b"/:@G`gAFZ \t\r\0\xff-+.x,";
@@ -23,7 +23,7 @@ fn with_value(entries: &[Logged], place: usize, line: Line, value: Vec<u8>) -> V
 /// Gives the starts of each set with more or fewer digits than those of its key and its nonce, as the first entry or as one that starts again.
 pub fn of_starts() -> Vec<Input> {
     let mut inputs = Vec::new();
-    for (turn, set) in SETS.iter().enumerate() {
+    for (turn, set) in startable().iter().enumerate() {
         let right = 4 * set.key;
         for digits in [
             0,
@@ -36,7 +36,7 @@ pub fn of_starts() -> Vec<Input> {
             right + 2,
             2 * right,
             // The other set's.
-            4 * SETS[1 - turn].key,
+            4 * startable()[1 - turn].key,
             4 * 20,
             511,
             512,
@@ -69,7 +69,7 @@ pub fn of_ends() -> Vec<Input> {
             ("a carriage return", b"\r".to_vec()),
             ("a letter", b"g".to_vec()),
         ] {
-            let right = entries(&SETS[value.len() % 2]);
+            let right = entries(&startable()[value.len() % 2]);
             let all = [&right[..before], &right[3..]].concat();
             let bytes = with_value(&all, before, Line::Data, value);
             let what = format!("{what} {name}");
@@ -93,7 +93,7 @@ pub fn lengths() -> Vec<Input> {
     .into_iter()
     .enumerate()
     {
-        let entries = entries(&SETS[turn % 2]);
+        let entries = entries(&startable()[turn % 2]);
         for digits in [1, 3, 511, 512, 513, 514, 1_025] {
             let bytes = with_value(&entries, place, line, b"c".repeat(digits));
             let what = format!("entry {} {line:?} {digits} digits", place + 1);
@@ -112,7 +112,7 @@ pub fn lengths() -> Vec<Input> {
 pub fn wrong_digits() -> Vec<Input> {
     let mut inputs = Vec::new();
     for (turn, character) in NO_DIGITS.into_iter().enumerate() {
-        let entries = entries(&SETS[turn % 2]);
+        let entries = entries(&startable()[turn % 2]);
         for (entry, line) in [
             (0, Line::Data),
             (2, Line::Data),
@@ -138,7 +138,7 @@ pub fn each_character() -> Vec<Input> {
     for character in 0..=u8::MAX {
         let turn = usize::from(character);
         let (entry, line) = [(0, Line::Data), (2, Line::Data), (2, Line::Out)][turn % 3];
-        let mut all = entries(&SETS[turn % 2]);
+        let mut all = entries(&startable()[turn % 2]);
         let place = 4 + turn % 2;
         all[entry] = all[entry].with_character(line, place, character);
         let number = all[entry].number(line);

@@ -1,8 +1,9 @@
 //! Entries whose answer, out or rounds are not ours: the first of these in the first such entry is named.
 
 use crate::input::Input;
-use crate::log::{ad, bytes_of, finish, logged, of_all_kinds, start, text, Handed, Line, Logged};
-use second::cipher::SETS;
+use crate::log::{
+    ad, bytes_of, finish, logged, of_all_kinds, start, startable, text, Handed, Line, Logged,
+};
 
 /// The lines whose fields are compared, in the order of comparison.
 pub const COMPARED: [(Line, &str); 3] = [
@@ -79,7 +80,7 @@ pub fn two() -> Vec<Input> {
 
 /// Gives the calls up to one of each kind, with the sets in turn: its name, and the calls.
 fn up_to_each() -> [(&'static str, Vec<Handed>); 7] {
-    let [one, two] = &SETS;
+    let [one, two] = startable();
     [
         ("start1", vec![start(one)]),
         ("start2", vec![start(two)]),

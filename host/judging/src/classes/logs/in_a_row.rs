@@ -3,8 +3,9 @@
 use super::fields::{other, COMPARED};
 use crate::classes::edges::BUFFERS;
 use crate::input::Input;
-use crate::log::{bytes_of, logged, many, message, of_all_kinds, of_length, Line, Logged, LINES};
-use second::cipher::SETS;
+use crate::log::{
+    bytes_of, logged, many, message, of_all_kinds, of_length, startable, Line, Logged, LINES,
+};
 
 /// Numbers of entries, around each change in their digits and in their bytes.
 const COUNTS: [usize; 18] = [
@@ -40,7 +41,7 @@ pub fn deciding() -> Vec<Input> {
 
 /// Gives logs whose second entry differs or is broken, with bytes behind it that are no entry, or that are.
 pub fn behind() -> Vec<Input> {
-    let entries = logged(&message(&SETS[1], &[3], &[5]));
+    let entries = logged(&message(&startable()[1], &[3], &[5]));
     let right = bytes_of(&entries);
     let tails: [(&str, Vec<u8>); 7] = [
         ("nothing", vec![]),
@@ -77,7 +78,7 @@ pub fn behind() -> Vec<Input> {
 
 /// Gives a message, once and three times, with bytes behind it that are no entry.
 pub fn trailing() -> Vec<Input> {
-    let entries = logged(&message(&SETS[0], &[3], &[5]));
+    let entries = logged(&message(&startable()[0], &[3], &[5]));
     let whole = entries[2].bytes();
     let half = &whole[..whole.len() / 2];
     let lines_in_half = half.iter().filter(|byte| **byte == b'\n').count();

@@ -1,9 +1,9 @@
 //! Messages as long as they may be, and calls that would make them longer.
 
 use crate::input::Input;
-use crate::log::{ad, bytes_of, finish, logged, start, text, Handed, Line};
+use crate::log::{ad, bytes_of, finish, logged, start, startable, text, Handed, Line};
 use second::calls::{AD_LIMIT, TEXT_LIMIT};
-use second::cipher::{Set, SETS};
+use second::cipher::Set;
 use second::replay::right_log;
 
 /// The most bytes of a piece.
@@ -52,7 +52,7 @@ fn otherwise(set: &Set, limited: Limited, last: &[usize], place: usize, answer: 
 /// Gives messages with as much data as they may have, a byte or a piece more, and what follows a refusal.
 pub fn of_data() -> Vec<Input> {
     let mut inputs = Vec::new();
-    for set in &SETS {
+    for set in startable() {
         inputs.extend([
             told(set, DATA, 0, &[(1, 5), (0, 0), (1, 5)]),
             told(set, DATA, 0, &[(256, 5), (256, 5)]),
@@ -68,7 +68,7 @@ pub fn of_data() -> Vec<Input> {
 
 /// Gives messages with as much text as they may have, a byte or a piece more, and what follows a refusal, with the sets in turn.
 pub fn of_text() -> Vec<Input> {
-    let [one, two] = &SETS;
+    let [one, two] = startable();
     let both = [DATA.1 / PIECE, TEXT.1 / PIECE];
     let mut full = vec![start(two)];
     full.extend(vec![ad(PIECE); both[0]]);

@@ -2,13 +2,12 @@
 
 use crate::classes::any_line::WAYS;
 use crate::input::Input;
-use crate::log::{bytes_of, logged, message, Line, Logged, LINES};
+use crate::log::{bytes_of, logged, message, startable, Line, Logged, LINES};
 use crate::text::label;
-use second::cipher::SETS;
 
 /// Gives the right entries of a message; the sets take turns.
 fn entries(turn: usize) -> Vec<Logged> {
-    logged(&message(&SETS[turn % 2], &[3], &[5]))
+    logged(&message(&startable()[turn % 2], &[3], &[5]))
 }
 
 /// Gives each line of the entry with this number damaged in each way.

@@ -2,8 +2,8 @@
 
 use crate::classes::mixed::every_row;
 use crate::input::Input;
-use crate::log::{message, Handed};
-use second::cipher::{Set, SETS};
+use crate::log::{message, startable, Handed};
+use second::cipher::Set;
 use second::replay::right_log;
 
 /// A way to hand over so many bytes, by the lengths of the pieces; the set's block is given.
@@ -39,7 +39,7 @@ fn right(what: String, calls: &[Handed]) -> Input {
 /// Gives messages with data and text of all lengths around a block, cut in each way; those of a set and two ways stand in a row.
 pub fn cut() -> Vec<Input> {
     let mut inputs = Vec::new();
-    for set in &SETS {
+    for set in startable() {
         let block = set.block;
         let lengths = [0, 1, block - 1, block, block + 1, 2 * block + 1];
         for (data_way, cut_data) in WAYS {
@@ -62,7 +62,7 @@ pub fn cut() -> Vec<Input> {
 /// Gives messages with every row of one to three pieces of data or of text; those that begin with the same piece stand in a row.
 pub fn rows() -> Vec<Input> {
     let mut inputs = Vec::new();
-    for set in &SETS {
+    for set in startable() {
         let sizes = [0, 1, set.block - 1, set.block, set.block + 1, 256];
         for (what, of_row) in [("data", of_data as OfRow), ("text", of_text)] {
             for first in sizes {
@@ -93,7 +93,7 @@ fn of_text(set: &Set, row: &[usize]) -> Vec<Handed> {
 /// Gives a message behind another, up to each of its calls.
 pub fn open() -> Vec<Input> {
     let mut inputs = Vec::new();
-    for set in &SETS {
+    for set in startable() {
         let block = set.block;
         let before = message(set, &[1], &[block]);
         let last = message(set, &[1, block, 0], &[block + 1, 0, 256]);

@@ -1,8 +1,8 @@
 //! What a call gave out, of another length, with another bit, or where it gives nothing.
 
 use crate::input::Input;
-use crate::log::{ad, bytes_of, finish, logged, message, start, text, Line, Logged};
-use second::cipher::{Set, SETS};
+use crate::log::{ad, bytes_of, finish, logged, message, start, startable, text, Line, Logged};
+use second::cipher::Set;
 
 /// Gives the entries of a short message, and the places of those that give something out.
 fn giving(set: &Set) -> (Vec<Logged>, [usize; 2]) {
@@ -19,7 +19,7 @@ fn with_out(what: String, entries: &[Logged], place: usize, out: Vec<u8>) -> Inp
 /// Gives ciphertexts and tags cut at every length, and those that go on.
 pub fn lengths() -> Vec<Input> {
     let mut inputs = Vec::new();
-    for set in &SETS {
+    for set in startable() {
         let (entries, places) = giving(set);
         for place in places {
             let right = entries[place].value(Line::Out).to_vec();
@@ -45,7 +45,7 @@ pub fn lengths() -> Vec<Input> {
 /// Gives ciphertexts and tags with another bit in each of their bytes.
 pub fn bits() -> Vec<Input> {
     let mut inputs = Vec::new();
-    for set in &SETS {
+    for set in startable() {
         let (entries, places) = giving(set);
         for place in places {
             let right = entries[place].value(Line::Out);
@@ -70,7 +70,7 @@ pub fn none() -> Vec<Input> {
         .into_iter()
         .enumerate()
     {
-        let set = &SETS[turn % 2];
+        let set = &startable()[turn % 2];
         for (what, calls) in [
             ("start", vec![start(set)]),
             ("ad", vec![start(set), ad(16)]),

@@ -2,8 +2,7 @@
 
 use crate::classes::mixed::every_row;
 use crate::input::Input;
-use crate::log::{ad, bytes_of, finish, logged, start, text, Handed, Line};
-use second::cipher::SETS;
+use crate::log::{ad, bytes_of, finish, logged, start, startable, text, Handed, Line};
 use second::replay::right_log;
 
 /// How many rows stand in one log.
@@ -11,7 +10,13 @@ const TOGETHER: usize = 26;
 
 /// Gives every row of one to four calls, each behind an ended stream; what each leaves open is ended, which is refused where nothing is open.
 pub fn rows() -> Vec<Input> {
-    let calls = [start(&SETS[0]), start(&SETS[1]), ad(3), text(5), finish()];
+    let calls = [
+        start(&startable()[0]),
+        start(&startable()[1]),
+        ad(3),
+        text(5),
+        finish(),
+    ];
     let rows = every_row(&calls, 4);
     let together = |(number, rows): (usize, &[Vec<Handed>])| {
         let ended = rows.iter().flat_map(|row| [&row[..], &[finish()]].concat());
@@ -25,7 +30,7 @@ pub fn rows() -> Vec<Input> {
 /// Gives logs in which a refused call is said to be done, with what an open stream would have given, or a right call to be refused.
 pub fn otherwise() -> Vec<Input> {
     let mut inputs = Vec::new();
-    for set in &SETS {
+    for set in startable() {
         let refused = [
             ("data before a start", vec![ad(3)]),
             ("text before a start", vec![text(3)]),

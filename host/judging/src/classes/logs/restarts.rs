@@ -1,8 +1,8 @@
 //! Starts while a stream is open, and with the other set.
 
 use crate::input::Input;
-use crate::log::{ad, bytes_of, finish, logged, message, start, text, Handed};
-use second::cipher::{Set, SETS};
+use crate::log::{ad, bytes_of, finish, logged, message, start, startable, text, Handed};
+use second::cipher::Set;
 use second::replay::right_log;
 
 /// Gives what can stand before a restart: its name, and the calls.
@@ -24,8 +24,8 @@ fn before(set: &Set) -> [(&'static str, Vec<Handed>); 9] {
 /// Gives a message of each set behind each of these of each set.
 pub fn right() -> Vec<Input> {
     let mut inputs = Vec::new();
-    for old in &SETS {
-        for new in &SETS {
+    for old in startable() {
+        for new in startable() {
             for (what, mut calls) in before(old) {
                 calls.extend(message(new, &[3, 7], &[5, 9]));
                 let what = format!("set {} behind {what} of {}", new.number, old.number);
@@ -39,7 +39,7 @@ pub fn right() -> Vec<Input> {
 /// Gives logs of chips on whose stream a restart had no effect, or that restarted where there was no start.
 pub fn otherwise() -> Vec<Input> {
     let mut inputs = Vec::new();
-    for set in &SETS {
+    for set in startable() {
         for (what, calls) in before(set) {
             let rest = [text(5), finish()];
             let [kept, made] = [vec![], vec![start(set)]]
