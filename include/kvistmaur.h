@@ -7,7 +7,7 @@
  *   2  Ascon-96 of v1:     key, nonce and tag have 12 bytes each.
  *   3  Ascon-128 of v1.2:  key, nonce and tag have 16 bytes each.
  *   4  Ascon-128a of v1.2: key, nonce and tag have 16 bytes each.
- *   Sets 1 and 3 are different ciphers: what one sealed, the other does not open.
+ *   The sets are different ciphers: a message is opened in the set in which it was sealed.
  *
  * SLICES
  *   Each slice is two arguments, a pointer and then the number of bytes that are lent behind it. That many bytes have

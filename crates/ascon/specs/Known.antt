@@ -11,9 +11,23 @@ use Rattle.ascon.specs.Mode.{Sealed, sealed}
 abbrev pub counting : List ℕ
 counting = bytesOf 16 0x000102030405060708090a0b0c0d0e0f
 
+-- 10 11 .. 1f, another nonce
+abbrev pub countingOn : List ℕ
+countingOn = bytesOf 16 0x101112131415161718191a1b1c1d1e1f
+
 -- so many bytes of ciphertext, and the tag
 abbrev pub message : ℕ → ℕ → ℕ → Sealed
 message n cipher tag = record { cipher = bytesOf n cipher; tag = bytesOf 16 tag }
+
+-- 17 bytes of data and of text in set 4, and what the second program makes of them
+abbrev pub longData : List ℕ
+longData = bytesOf 17 0x202122232425262728292a2b2c2d2e2f30
+
+abbrev pub longText : List ℕ
+longText = bytesOf 17 0x3132333435363738393a3b3c3d3e3f4041
+
+abbrev pub longSealed : Sealed
+longSealed = message 17 0x46a24fb7efb3a52b6384866ae61890eeeb 0x057bb88f5abff9d133bf895b3f89193d
 
 pub record Known : Type 0 where
   -- the test files of the lightweight competition, Ascon-128 v1.2: nothing; a byte of data; a byte of text; two blocks of text
@@ -24,17 +38,15 @@ pub record Known : Type 0 where
   -- Ascon-128a v1.2: nothing
   pub published-4-none : sealed (rowOf 4) counting counting [] [] ≡ message 0 0 0x7a834e6f09210957067b10fd831f0078
   -- set 1: 11 bytes of data and 9 of text, in blocks of 8
-  pub set-1 : sealed ascon128 counting (bytesOf 16 0x101112131415161718191a1b1c1d1e1f)
+  pub set-1 : sealed ascon128 counting countingOn
       (bytesOf 11 0x202122232425262728292a) (bytesOf 9 0x303132333435363738)
-      ≡ record { cipher = bytesOf 9 0x8242bc00406bc969bc; tag = bytesOf 16 0xe620c58df8ceb8f4a6a1a7b328fb52ee }
+      ≡ message 9 0x8242bc00406bc969bc 0xe620c58df8ceb8f4a6a1a7b328fb52ee
   -- set 2: 17 bytes of each, in blocks of 16
   pub set-2 : sealed ascon96 (bytesOf 12 0x000102030405060708090a0b) (bytesOf 12 0x101112131415161718191a1b)
       (bytesOf 17 0x202122232425262728292a2b2c2d2e2f30) (bytesOf 17 0x3132333435363738393a3b3c3d3e3f4041)
       ≡ record { cipher = bytesOf 17 0x6d24654d99aa2dffc2e7146981fe0b5bb6; tag = bytesOf 12 0x3f93a277c733ed1f61535b80 }
   -- set 3: 11 bytes of data and 9 of text, in blocks of 8
-  pub set-3 : sealed (rowOf 3) counting (bytesOf 16 0x101112131415161718191a1b1c1d1e1f) (bytesOf 11 0x202122232425262728292a) (bytesOf 9 0x303132333435363738)
+  pub set-3 : sealed (rowOf 3) counting countingOn (bytesOf 11 0x202122232425262728292a) (bytesOf 9 0x303132333435363738)
       ≡ message 9 0x14e54bf7ccbca908f0 0xa836f46b1f1e7f5cb833f1b914169bf2
   -- set 4: 17 bytes of each, in blocks of 16
-  pub set-4 : sealed (rowOf 4) counting (bytesOf 16 0x101112131415161718191a1b1c1d1e1f) (bytesOf 17 0x202122232425262728292a2b2c2d2e2f30)
-      (bytesOf 17 0x3132333435363738393a3b3c3d3e3f4041)
-      ≡ message 17 0x46a24fb7efb3a52b6384866ae61890eeeb 0x057bb88f5abff9d133bf895b3f89193d
+  pub set-4 : sealed (rowOf 4) counting countingOn longData longText ≡ longSealed

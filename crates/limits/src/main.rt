@@ -7,6 +7,9 @@ use stream::Outcome;
 use stream::Phase;
 use stream::Stream;
 
+// The sets of starts: 1 to 4, and three numbers that no set has.
+const SETS: [u64; 7] = [1, 2, 3, 4, 5, 0, 4294967299];
+
 // The limits that are tried.
 const LIMITS: [u64; 10] = [
     0,
@@ -50,7 +53,7 @@ const DATA: [u64; 10] = [
 ];
 
 // How many starts, walks and states are tried.
-const STARTS: usize = 400;
+const STARTS: usize = 560;
 
 const WALKS: usize = 400;
 
@@ -269,10 +272,10 @@ fn told(c: Called) -> Stream {
 
 // ---- starts
 
-// The k-th start, ten to a line: by its limit, the lengths of nonce and key, which are those of set 1 or 2, its set, of which the fifth is unknown, and its direction.
+// The k-th start, ten to a line: by its limit, the lengths of nonce and key, which are those of set 1 or 2, its set or a number that no set has, and its direction.
 fn try_start(k: usize, key: &[u8], nonce: &[u8]) {
-    let direction = k / 200 % 2;
-    let set = (k / 40 % 5) as u64 + 1;
+    let direction = k / 280 % 2;
+    let set = SETS[k / 40 % 7];
     let key = first_of(key, sets::key_length((k / 20 % 2) as u64 + 1));
     let nonce = first_of(nonce, sets::key_length((k / 10 % 2) as u64 + 1));
     if k % 10 == 0 {

@@ -126,7 +126,7 @@ fn change_field(field: Field, change: Change) -> Field {
 fn change_part(entry: Record, part: usize, change: Change) -> Record {
     let mut next = entry;
     match part {
-        2 => next.set = change_number(entry.set, 5, change),
+        2 => next.set = change_number(entry.set, sets::ROWS as u64 + 1, change),
         3 => next.chip = change_number(entry.chip, 65536, change),
         4 => next.key = change_field(entry.key, change),
         5 => next.nonce = change_field(entry.nonce, change),

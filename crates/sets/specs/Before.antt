@@ -61,6 +61,6 @@ pub record SetsBefore : Type 0 where
   pub six : constantsOf FirstSix ≡ 0xf0 ∷ 0xe1 ∷ 0xd2 ∷ 0xc3 ∷ 0xb4 ∷ 0xa5 ∷ []
   -- a number but 3 and 4 names a set where it named one, and has the row that it had
   pub numbers : (set : ℕ) → (set ≡ 3 → ⊥) → (set ≡ 4 → ⊥) → (isSet set ≡ isSetBefore set) × (rowOf set ≡ rowBefore set)
-  -- sealing and opening give what they gave; by these definitions the later edition's sets are sealed and opened, too
+  -- sealing and opening give what they gave. The equations hold of sets 3 and 4, too: in every row the key lies two keys before the end
   pub sealing : (set : ℕ) (K N A P : List ℕ) → sealed (rowOf set) K N A P ≡ sealedBefore (rowOf set) K N A P
   pub opening : (set : ℕ) (K N A C T : List ℕ) → opened (rowOf set) K N A C T ≡ openedBefore (rowOf set) K N A C T

@@ -10,13 +10,8 @@ const DATA: &[u8] = b"valve 12";
 const TEXT: &[u8] = b"close, then report in";
 
 /// What the program has to print for a set.
-fn wanted(
-    &Set {
-        number: set,
-        key: length,
-        ..
-    }: &Set,
-) -> String {
+fn wanted(set: &Set) -> String {
+    let (set, length) = (set.number, set.key);
     let (key, nonce) = (vec![7; length], vec![1; length]);
     let (mut out, mut tag) = ([0xbb; 24], [0xaa; 16]);
     let whole = seal(set, &key, &nonce, DATA, TEXT, &mut out, &mut tag[..length]);

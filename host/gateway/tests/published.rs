@@ -1,18 +1,19 @@
 //! The answers of Ascon v1.2 that were published for the lightweight competition, by the model and by the second program.
 
-use gateway::Set;
+use gateway::{Rounds, Set};
 use second::{calls, hex};
 
-/// A published answer: the set, how many bytes of data and of text it has, which count up from zero as key and nonce do, and ciphertext and tag.
-type Published = (Set, usize, usize, &'static str);
+/// A published answer: the set, how many bytes of data and of text it has, which count up from zero as key and nonce do, and ciphertext and tag; with the rounds of the
+/// rules' formula.
+type Published = (Set, usize, usize, &'static str, u64);
 
 #[rustfmt::skip]
 const PUBLISHED: [Published; 5] = [
-    (Set::Ascon128V12, 0, 0, "e355159f292911f794cb1432a0103a8a"),
-    (Set::Ascon128V12, 1, 0, "944df887cd4901614c5dedbc42fc0da0"),
-    (Set::Ascon128V12, 0, 1, "bc18c3f4e39eca7222490d967c79bffc92"),
-    (Set::Ascon128V12, 0, 16, "bc820dbdf7a4631c5b29884ad69175c3f58e28436dd71556d58dfa56ac890beb"),
-    (Set::Ascon128aV12, 0, 0, "7a834e6f09210957067b10fd831f0078"),
+    (Set::Ascon128V12, 0, 0, "e355159f292911f794cb1432a0103a8a", 24),
+    (Set::Ascon128V12, 1, 0, "944df887cd4901614c5dedbc42fc0da0", 30),
+    (Set::Ascon128V12, 0, 1, "bc18c3f4e39eca7222490d967c79bffc92", 24),
+    (Set::Ascon128V12, 0, 16, "bc820dbdf7a4631c5b29884ad69175c3f58e28436dd71556d58dfa56ac890beb", 36),
+    (Set::Ascon128aV12, 0, 0, "7a834e6f09210957067b10fd831f0078", 24),
 ];
 
 /// So many bytes counting up from zero.
@@ -31,25 +32,26 @@ fn sealed(text: &[u8], seal: impl FnOnce(&mut [u8], &mut [u8])) -> String {
 fn both_programs_seal_and_open_as_published() {
     let key = counting(16);
     let mut ran = 0;
-    for (set, data, text, published) in PUBLISHED {
+    for (set, data, text, published, rounds) in PUBLISHED {
         let (data, text, number) = (counting(data), counting(text), set.number());
         let by_model = sealed(&text, |cipher, tag| {
-            gateway::seal(set, &key, &key, &data, &text, cipher, tag).expect("it is sealed");
+            let answer = gateway::seal(set, &key, &key, &data, &text, cipher, tag);
+            assert_eq!(answer, Ok(Rounds(rounds)));
         });
         let by_second = sealed(&text, |cipher, tag| {
             let answer = calls::seal(number, &key, &key, &data, &text, cipher, tag);
-            assert_eq!(answer.number, 0);
+            assert_eq!((answer.number, answer.rounds), (0, rounds));
         });
         assert_eq!((&by_model[..], &by_second[..]), (published, published));
 
         let bytes = hex::read(published.as_bytes()).expect("digits");
         let (cipher, tag) = bytes.split_at(text.len());
         let mut opened = vec![0xee; text.len()];
-        gateway::open(set, &key, &key, &data, cipher, tag, &mut opened).expect("it is opened");
-        assert_eq!(opened, text);
+        let answer = gateway::open(set, &key, &key, &data, cipher, tag, &mut opened);
+        assert_eq!((answer, &opened), (Ok(Rounds(rounds)), &text));
         opened.fill(0xee);
         let answer = calls::open(number, &key, &key, &data, cipher, tag, &mut opened);
-        assert_eq!((answer.number, opened), (0, text));
+        assert_eq!((answer.number, answer.rounds, opened), (0, rounds, text));
         ran += 1;
     }
     assert_eq!(ran, 5);

@@ -75,7 +75,7 @@ fn the_sample() {
     assert_eq!(judged.stderr, counts);
 }
 
-/// Says that the sample of a test file is refused for the other set and for no set, and judged as no records.
+/// Says that the sample of a test file is refused for set 2 and for no set, and judged as no records.
 #[test]
 fn the_sample_for_other_sets() {
     let mut ran = 0;

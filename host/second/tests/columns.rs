@@ -314,7 +314,7 @@ fn the_end_of_a_short_key() {
     assert_eq!(check_rows(&SET_2, 2, &rows), 23 * 5);
 }
 
-/// Says where the nonce line breaks in either set.
+/// Says where the nonce line breaks in each set.
 #[test]
 fn the_nonce_line() {
     let rows: [Row; 44] = [
@@ -575,7 +575,7 @@ fn the_cipher_line() {
     assert_eq!(check_in_all_sets(6, &rows), SETS.len() * 46 * 5);
 }
 
-/// Says where the tag line breaks in either set.
+/// Says where the tag line breaks in each set.
 #[test]
 fn the_tag_line() {
     let rows: [Row; 33] = [

@@ -64,12 +64,13 @@ zero-at [] e i = refl
 zero-at (a ∷ x) e zero = eqb-true a 0 (and-eq-true-iff (eqb a 0) (allZero x) .0 e .0)
 zero-at (a ∷ x) e (suc i) = zero-at x (and-eq-true-iff (eqb a 0) (allZero x) .0 e .1) i
 
-tail-broken : (d : Direction) (key : List ℕ) → Tailed key → isSound (begunIn 2 d key) ≡ false
+tail-broken : (s : Stream) → Tailed s → isSound s ≡ false
 unfolding rowOf table
-tail-broken d key (i, (far, some)) =
-    broken-by (begunIn 2 d key) (λ sound.
+tail-broken s (two, (begun, (i, (far, some)))) =
+    broken-by s (λ sound.
     let place : 12 + (i - 12) ≡ i = omega (arith, far) in
-    some (ap (λ (n : ℕ). getD key n 0) (sym place) ∙ sym (getD-drop 12 key (i - 12) 0) ∙ zero-at (drop 12 key) (sound-kept (begunIn 2 d key) refl sound .key) (i - 12)))
+    let zeros : allZero (drop 12 (s .key)) ≡ true = sym (ap (λ (n : ℕ). allZero (drop (rowOf n .key) (s .key))) two) ∙ sound-kept s begun sound .key in
+    some (ap (λ (n : ℕ). getD (s .key) n 0) (sym place) ∙ sym (getD-drop 12 (s .key) (i - 12) 0) ∙ zero-at (drop 12 (s .key)) zeros (i - 12)))
 
 -- the sets but 2 have keys of 16 bytes
 long-key : (set : ℕ) → LongKeyed set → rowOf set .key ≡ 16
@@ -106,19 +107,19 @@ wrong = record {
   start-limit-kept = λ d limit within answer rounds next other κ e p.
       let fits : leb limit 1_048_576 ≡ true = le-leb limit 1_048_576 within in other (ap (λ (x : Outcome). x .next .limit) p ∙ rw fits);
   ad-set = λ s piece none answer rounds next other κ e p. other (ap (λ (x : Outcome). x .answer) p ∙ rw (no-set-broken s none));
-  ad-key-tail = λ d key piece tailed answer rounds next other κ e p. other (ap (λ (x : Outcome). x .answer) p ∙ rw (tail-broken d key tailed));
+  ad-key-tail = λ s piece tailed answer rounds next other κ e p. other (ap (λ (x : Outcome). x .answer) p ∙ rw (tail-broken s tailed));
   ad-key = λ set long d key size answer rounds next other κ e p. other (ap (λ (x : Outcome). x .answer) p ∙ rw (begun-sound set long d key size));
   seal-piece-set = λ s piece out none answer rounds next other κ e p. other (ap (λ (x : Called). x .outcome .answer) p ∙ rw (no-set-broken s none));
-  seal-piece-key-tail = λ d key piece out tailed answer rounds next other κ e p. other (ap (λ (x : Called). x .outcome .answer) p ∙ rw (tail-broken d key tailed));
+  seal-piece-key-tail = λ s piece out tailed answer rounds next other κ e p. other (ap (λ (x : Called). x .outcome .answer) p ∙ rw (tail-broken s tailed));
   seal-piece-key = λ set long key size answer rounds next other κ e p. other (ap (λ (x : Called). x .outcome .answer) p ∙ rw (begun-sound set long Sealing key size));
   check-set = λ s piece none answer rounds next other κ e p. other (ap (λ (x : Outcome). x .answer) p ∙ rw (no-set-broken s none));
-  check-key-tail = λ d key piece tailed answer rounds next other κ e p. other (ap (λ (x : Outcome). x .answer) p ∙ rw (tail-broken d key tailed));
+  check-key-tail = λ s piece tailed answer rounds next other κ e p. other (ap (λ (x : Outcome). x .answer) p ∙ rw (tail-broken s tailed));
   check-key = λ set long key size answer rounds next other κ e p. other (ap (λ (x : Outcome). x .answer) p ∙ rw (begun-sound set long Checking key size));
   finish-sealing-set = λ s tag none answer rounds next other κ e p. other (ap (λ (x : Called). x .outcome .answer) p ∙ rw (no-set-broken s none));
-  finish-sealing-key-tail = λ d key tag tailed answer rounds next other κ e p. other (ap (λ (x : Called). x .outcome .answer) p ∙ rw (tail-broken d key tailed));
+  finish-sealing-key-tail = λ s tag tailed answer rounds next other κ e p. other (ap (λ (x : Called). x .outcome .answer) p ∙ rw (tail-broken s tailed));
   finish-sealing-key = λ set long key size answer rounds next other κ e p. other (ap (λ (x : Called). x .outcome .answer) p ∙ rw (begun-sound set long Sealing key size, long-key set long));
   finish-checking-set = λ s tag none answer rounds next other κ e p. other (ap (λ (x : Outcome). x .answer) p ∙ rw (no-set-broken s none));
-  finish-checking-key-tail = λ d key tag tailed answer rounds next other κ e p. other (ap (λ (x : Outcome). x .answer) p ∙ rw (tail-broken d key tailed));
+  finish-checking-key-tail = λ s tag tailed answer rounds next other κ e p. other (ap (λ (x : Outcome). x .answer) p ∙ rw (tail-broken s tailed));
   finish-checking-key = λ set long key size answer rounds next other κ e p. other (ap (λ (x : Outcome). x .answer) p ∙ rw (begun-sound set long Checking key size, long-key set long));
   ad-place-four = λ answer rounds next other κ e p. other (ap (λ (x : Outcome). x .answer) p);
   ad-place-eight = λ answer rounds next other κ e p. other (ap (λ (x : Outcome). x .answer) p);

@@ -1,6 +1,6 @@
 -- Wrong answers of the calls below the families.
 use mathlib.Core.Bool.{true, false}
-use mathlib.Core.List.{[], _∷_, _++_}
+use mathlib.Core.List.{List, [], _∷_, _++_}
 use Prim.Native.Nat.{ℕ, _≤_}
 use lib.ListN.{replicate}
 use Rattle.answers.specs.declared.Answer.the-variants.{Done, TagDiffers}
@@ -8,7 +8,7 @@ use Rattle.permutation.specs.declared.Run.the-variants.{Twelve, FirstEight, Fir
 use Rattle.permutation.specs.Runs.{rounds, permute, ofWords, toWords, permuteWords}
 use Rattle.permutation.specs.Strings.{bytesOf, zeros}
 use Rattle.ascon.specs.Sets.{firstWordV1}
-use Rattle.ascon.specs.Known.{counting}
+use Rattle.ascon.specs.Known.{counting, countingOn}
 use Rattle.sponge.specs.declared.Way.the-variants.{Seal, Open}
 use Rattle.sponge.specs.Sponge.{started, finished}
 use Rattle.answers.proofs as answers
@@ -18,6 +18,20 @@ use Rattle.sets.proofs as sets
 use Rattle.sponge.proofs as sponge
 use Rattle.tags.proofs as tags
 use Rattle.letter.specs.Calls.{lent, Never, Only, NeverLeaves, NoSet}
+
+-- the second program's answers: the words after a start of sets 3 and 4 under the key and the nonce that count, those after nine ones in set 3 from zeros, and the tag of
+-- set 4 behind nine bytes of text and words of zeros
+abbrev pub startedThree : List ℕ
+startedThree = 0xcba43b0a331b0ae5 ∷ 0xd0b1251e0aae45b2 ∷ 0x38a513833140c3d8 ∷ 0x9a7e53e8fcfb3832 ∷ 0x51df9d8eccf77b4f ∷ []
+
+abbrev pub startedFour : List ℕ
+startedFour = 0x89d098be2b2b225c ∷ 0x1cb8a65e22eb3671 ∷ 0x5c34ab7444d1ef2e ∷ 0xac2ec59cd1a131f3 ∷ 0x66423ade9c6503da ∷ []
+
+abbrev pub nineThree : List ℕ
+nineThree = 0xdc7ac9f7f1127c03 ∷ 0xd0af5be19ec9f900 ∷ 0x5eef1b6c714c5dff ∷ 0xdabd3362ffc066da ∷ 0x986d5d5ccf8693e1 ∷ []
+
+abbrev pub nineTag : List ℕ
+nineTag = bytesOf 16 0x48cfd7da1bb3a71401d0b91348a21129
 
 pub record Wrong : Type 0 where
   -- done is not 1
@@ -96,10 +110,10 @@ pub record Wrong : Type 0 where
   pub start-other-word : Never sponge.start.Reads.Learnt (2, (zeros 16, (zeros 16, tt)))
       (started (record { key = 12; block = 16; ends = Twelve; between = FirstSix; word = firstWordV1 12 Twelve FirstSix; keyAt = 16 }) (zeros 16) (zeros 16))
   -- a start of sets 3 and 4 makes no other state than the second program's: the key stands behind the first word, also where the block is longer, and the nonce behind the key
-  pub start-three : Only sponge.start.Reads.Learnt (3, (counting, (bytesOf 16 0x101112131415161718191a1b1c1d1e1f, tt)))
-      (0xcba43b0a331b0ae5 ∷ 0xd0b1251e0aae45b2 ∷ 0x38a513833140c3d8 ∷ 0x9a7e53e8fcfb3832 ∷ 0x51df9d8eccf77b4f ∷ [])
-  pub start-four : Only sponge.start.Reads.Learnt (4, (counting, (bytesOf 16 0x101112131415161718191a1b1c1d1e1f, tt)))
-      (0x89d098be2b2b225c ∷ 0x1cb8a65e22eb3671 ∷ 0x5c34ab7444d1ef2e ∷ 0xac2ec59cd1a131f3 ∷ 0x66423ade9c6503da ∷ [])
+  pub start-three : Only sponge.start.Reads.Learnt (3, (counting, (countingOn, tt)))
+      startedThree
+  pub start-four : Only sponge.start.Reads.Learnt (4, (counting, (countingOn, tt)))
+      startedFour
   -- the ninth byte goes into the first word, and not on into the second
   pub absorb-next-block : Never sponge.absorb.Reads.Learnt (1, (Seal, (zeros 5, (0, (lent (zeros 8 ++ (1 ∷ [])), tt)))))
       (0x202caaa308f6e2b0 ∷ 0xfee8b912453958f1 ∷ 0x36d35fb0ba000b3e ∷ 0xe52a057258368019 ∷ 0xecff298d481ed95d ∷ [])
@@ -108,7 +122,7 @@ pub record Wrong : Type 0 where
   pub absorb-one : Only sponge.absorb.Reads.Learnt (1, (Seal, (zeros 5, (0, (lent (replicate 9 1), tt)))))
       (0x705ccbffbfee79d2 ∷ 0x0ee40746a7b7f520 ∷ 0x3cc4f8432d464a1b ∷ 0xd80491d82511771b ∷ 0x66e53d0098d8bf50 ∷ [])
   pub absorb-three : Only sponge.absorb.Reads.Learnt (3, (Seal, (zeros 5, (0, (lent (replicate 9 1), tt)))))
-      (0xdc7ac9f7f1127c03 ∷ 0xd0af5be19ec9f900 ∷ 0x5eef1b6c714c5dff ∷ 0xdabd3362ffc066da ∷ 0x986d5d5ccf8693e1 ∷ [])
+      nineThree
   pub absorb-four : Only sponge.absorb.Reads.Learnt (4, (Seal, (zeros 5, (0, (lent (replicate 15 1), tt))))) (0x0101010101010101 ∷ 0x0101010101010100 ∷ zeros 3)
   pub absorb-four-full : Only sponge.absorb.Reads.Learnt (4, (Seal, (zeros 5, (0, (lent (replicate 16 1), tt)))))
       (0x38c6c01cc449bd51 ∷ 0x4c1340dc5a76151e ∷ 0x3ee0b92c26e0456d ∷ 0xa3af97b4a40892cc ∷ 0x5143de7a4cf45d5a ∷ [])
@@ -129,7 +143,7 @@ pub record Wrong : Type 0 where
       (finished (record { key = 12; block = 8; ends = Twelve; between = FirstEight; word = firstWordV1 12 Twelve FirstEight; keyAt = 16 }) (zeros 5) 0 (replicate 12 1 ++ zeros 4))
   -- that of set 3 behind 8 bytes, and that of set 4 behind 16: the tags are the second program's, and no others
   pub finish-three : Only sponge.finish.Reads.Learnt (3, (zeros 5, (9, (counting, tt)))) (bytesOf 16 0x6577460c2d4fbc2187967d497f709898)
-  pub finish-four : Only sponge.finish.Reads.Learnt (4, (zeros 5, (9, (counting, tt)))) (bytesOf 16 0x48cfd7da1bb3a71401d0b91348a21129)
+  pub finish-four : Only sponge.finish.Reads.Learnt (4, (zeros 5, (9, (counting, tt)))) nineTag
   -- a short string is not dropped
   pub sixteen-short : Never tags.sixteen.Reads.Learnt (lent (1 ∷ []), tt) (zeros 16)
   -- a string of 17 bytes is not cut to 16

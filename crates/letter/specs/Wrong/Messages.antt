@@ -5,7 +5,7 @@ use Prim.Native.Nat.{ℕ}
 use lib.ListN.{length}
 use Rattle.answers.specs.declared.Answer.the-variants.{Done, UnknownSet, NonceLength, PastLimit, NoRoom, TagDiffers}
 use Rattle.permutation.specs.Strings.{bytesOf, zeros}
-use Rattle.ascon.specs.Known.{counting}
+use Rattle.ascon.specs.Known.{counting, countingOn, longData, longText, longSealed}
 use Rattle.sets.proofs as sets
 use Rattle.message.specs.declared.Outcome.{Outcome}
 use Rattle.message.proofs as message
@@ -34,14 +34,12 @@ pub record Wrong : Type 0 where
   -- nor the first ones those of set 3: the tag of a byte of data is the published one
   pub seal-three : SealsOnly 3 counting counting (0 ∷ []) [] [] (bytesOf 16 0x944df887cd4901614c5dedbc42fc0da0)
   -- in set 4 key, nonce, blocks and constants are where they belong: ciphertext and tag of 17 bytes of data and of text are the second program's
-  pub seal-four : SealsOnly 4 counting (bytesOf 16 0x101112131415161718191a1b1c1d1e1f) (bytesOf 17 0x202122232425262728292a2b2c2d2e2f30) (bytesOf 17 0x3132333435363738393a3b3c3d3e3f4041)
-      (bytesOf 17 0x46a24fb7efb3a52b6384866ae61890eeeb) (bytesOf 16 0x057bb88f5abff9d133bf895b3f89193d)
+  pub seal-four : SealsOnly 4 counting countingOn longData longText (longSealed .cipher) (longSealed .tag)
   -- opening says done to the published ciphertext of a byte in set 3, and to the second program's of 17 bytes in set 4
   pub open-three : (o : Outcome) → (o .answer ≡ Done → ⊥)
       → Never message.«open».Reads.Learnt (whole 3 counting counting [] (0xbc ∷ []) (bytesOf 16 0x18c3f4e39eca7222490d967c79bffc92) (0 ∷ [])) o
   pub open-four : (o : Outcome) → (o .answer ≡ Done → ⊥)
-      → Never message.«open».Reads.Learnt (whole 4 counting (bytesOf 16 0x101112131415161718191a1b1c1d1e1f) (bytesOf 17 0x202122232425262728292a2b2c2d2e2f30)
-      (bytesOf 17 0x46a24fb7efb3a52b6384866ae61890eeeb) (bytesOf 16 0x057bb88f5abff9d133bf895b3f89193d) (zeros 17)) o
+      → Never message.«open».Reads.Learnt (whole 4 counting countingOn longData (longSealed .cipher) (longSealed .tag) (zeros 17)) o
   -- a refused sealing does not touch the place of the ciphertext
   pub seal-refused : (set : ℕ) → NoSet set → (o : Outcome) → NeverLeaves message.seal.Reads.Learnt (whole set [] [] [] [] (0 ∷ []) []) o (whole set [] [] [] [] (1 ∷ []) [])
   -- a done sealing does not touch what lies beyond the text

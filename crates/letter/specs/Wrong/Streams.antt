@@ -7,7 +7,7 @@ use lib.ListN.{length, getD, replicate}
 use Rattle.answers.specs.declared.Answer.{Answer}
 use Rattle.answers.specs.declared.Answer.the-variants.{Done, UnknownSet, NonceLength, TagLength, PastLimit, NoRoom, OutOfPhase, BrokenState}
 use Rattle.permutation.specs.Strings.{bytesOf, zeros}
-use Rattle.ascon.specs.Known.{counting}
+use Rattle.ascon.specs.Known.{counting, countingOn}
 use Rattle.stream.specs.declared.Stream.{Stream}
 use Rattle.stream.specs.declared.Outcome.{Outcome}
 use Rattle.stream.specs.declared.Direction.{Direction}
@@ -16,15 +16,16 @@ use Rattle.stream.specs.declared.Phase.{Phase}
 use Rattle.stream.specs.declared.Phase.the-variants.{Ad, Text, Ended}
 use Rattle.stream.specs.State.{isOpen, ended}
 use Rattle.stream.proofs as stream
+use Rattle.letter.specs.Wrong.Engine.{startedThree, startedFour, nineThree, nineTag}
 use Rattle.letter.specs.Calls.{Lent, lent, Never, NeverLeaves, NoSet}
 
 -- a stream at the start of its data: its set, direction and key
 abbrev pub begunIn : ℕ → Direction → List ℕ → Stream
 begunIn set direction key = record { words = zeros 5; set = set; direction = direction; phase = Ad; key = key; ad = 0; text = 0; place = 0; limit = 200 }
 
--- some byte of a key behind the twelfth is not zero
-abbrev pub Tailed : List ℕ → Type 0
-Tailed key = (i : ℕ) × ((12 ≤ i) × (getD key i 0 ≡ 0 → ⊥))
+-- an open state of set 2 whose key has some byte behind the twelfth that is not zero
+abbrev pub Tailed : Stream → Type 0
+Tailed s = (s .set ≡ 2) × ((isOpen (s .phase) ≡ true) × ((i : ℕ) × ((12 ≤ i) × (getD (s .key) i 0 ≡ 0 → ⊥))))
 
 -- a set but 2: its keys have 16 bytes
 abbrev pub LongKeyed : ℕ → Type 0
@@ -78,11 +79,11 @@ pub record Wrong : Type 0 where
       → Never stream.Stream.start.Reads.Learnt (d, (set, (limit, (lent key, (lent nonce, tt))))) (answering answer rounds next)
   -- a start of sets 3 and 4 leaves no other words than the second program's
   pub start-three : (d : Direction) (answer : Answer) (rounds : ℕ) (next : Stream)
-      → (next .words ≡ 0xcba43b0a331b0ae5 ∷ 0xd0b1251e0aae45b2 ∷ 0x38a513833140c3d8 ∷ 0x9a7e53e8fcfb3832 ∷ 0x51df9d8eccf77b4f ∷ [] → ⊥)
-      → Never stream.Stream.start.Reads.Learnt (d, (3, (200, (lent counting, (lent (bytesOf 16 0x101112131415161718191a1b1c1d1e1f), tt))))) (answering answer rounds next)
+      → (next .words ≡ startedThree → ⊥)
+      → Never stream.Stream.start.Reads.Learnt (d, (3, (200, (lent counting, (lent countingOn, tt))))) (answering answer rounds next)
   pub start-four : (d : Direction) (answer : Answer) (rounds : ℕ) (next : Stream)
-      → (next .words ≡ 0x89d098be2b2b225c ∷ 0x1cb8a65e22eb3671 ∷ 0x5c34ab7444d1ef2e ∷ 0xac2ec59cd1a131f3 ∷ 0x66423ade9c6503da ∷ [] → ⊥)
-      → Never stream.Stream.start.Reads.Learnt (d, (4, (200, (lent counting, (lent (bytesOf 16 0x101112131415161718191a1b1c1d1e1f), tt))))) (answering answer rounds next)
+      → (next .words ≡ startedFour → ⊥)
+      → Never stream.Stream.start.Reads.Learnt (d, (4, (200, (lent counting, (lent countingOn, tt))))) (answering answer rounds next)
   -- a refused start gives the ended state, and no open stream, nor one that has a limit
   pub start-refused : (d : Direction) (set limit : ℕ) (key nonce : List ℕ) → NoSet set → (answer : Answer) (rounds : ℕ) (next : Stream) → (next ≡ ended → ⊥)
       → Never stream.Stream.start.Reads.Learnt (d, (set, (limit, (lent key, (lent nonce, tt))))) (answering answer rounds next)
@@ -112,18 +113,18 @@ pub record Wrong : Type 0 where
       → Never stream.Stream.finish_sealing.Reads.Learnt (s, (lent tag, tt)) (answering answer rounds next)
   pub finish-checking-set : (s : Stream) (tag : List ℕ) → NoSet (s .set) → (answer : Answer) (rounds : ℕ) (next : Stream) → (answer ≡ BrokenState → ⊥)
       → Never stream.Stream.finish_checking.Reads.Learnt (s, (lent tag, tt)) (answering answer rounds next)
-  -- a state of set 2 with any byte behind the twelfth of its key is broken, for every call
-  pub ad-key-tail : (d : Direction) (key piece : List ℕ) → Tailed key → (answer : Answer) (rounds : ℕ) (next : Stream) → (answer ≡ BrokenState → ⊥)
-      → Never stream.Stream.ad.Reads.Learnt (begunIn 2 d key, (lent piece, tt)) (answering answer rounds next)
-  pub seal-piece-key-tail : (d : Direction) (key piece out : List ℕ) → Tailed key → (answer : Answer) (rounds : ℕ) (next : Stream) → (answer ≡ BrokenState → ⊥)
-      → Never stream.Stream.seal.Reads.Learnt (begunIn 2 d key, (lent piece, (lent out, tt))) (answering answer rounds next)
-  pub check-key-tail : (d : Direction) (key piece : List ℕ) → Tailed key → (answer : Answer) (rounds : ℕ) (next : Stream) → (answer ≡ BrokenState → ⊥)
-      → Never stream.Stream.check.Reads.Learnt (begunIn 2 d key, (lent piece, tt)) (answering answer rounds next)
-  pub finish-sealing-key-tail : (d : Direction) (key tag : List ℕ) → Tailed key → (answer : Answer) (rounds : ℕ) (next : Stream) → (answer ≡ BrokenState → ⊥)
-      → Never stream.Stream.finish_sealing.Reads.Learnt (begunIn 2 d key, (lent tag, tt)) (answering answer rounds next)
-  pub finish-checking-key-tail : (d : Direction) (key tag : List ℕ) → Tailed key → (answer : Answer) (rounds : ℕ) (next : Stream) → (answer ≡ BrokenState → ⊥)
-      → Never stream.Stream.finish_checking.Reads.Learnt (begunIn 2 d key, (lent tag, tt)) (answering answer rounds next)
-  -- and no other set has such a rule: its keys of 16 bytes may have any bytes. Pieces are done; a finish is refused for its tag of 15 bytes, and not for its state
+  -- an open state of set 2 with any byte behind the twelfth of its key is broken, whatever else it is, for every call
+  pub ad-key-tail : (s : Stream) (piece : List ℕ) → Tailed s → (answer : Answer) (rounds : ℕ) (next : Stream) → (answer ≡ BrokenState → ⊥)
+      → Never stream.Stream.ad.Reads.Learnt (s, (lent piece, tt)) (answering answer rounds next)
+  pub seal-piece-key-tail : (s : Stream) (piece out : List ℕ) → Tailed s → (answer : Answer) (rounds : ℕ) (next : Stream) → (answer ≡ BrokenState → ⊥)
+      → Never stream.Stream.seal.Reads.Learnt (s, (lent piece, (lent out, tt))) (answering answer rounds next)
+  pub check-key-tail : (s : Stream) (piece : List ℕ) → Tailed s → (answer : Answer) (rounds : ℕ) (next : Stream) → (answer ≡ BrokenState → ⊥)
+      → Never stream.Stream.check.Reads.Learnt (s, (lent piece, tt)) (answering answer rounds next)
+  pub finish-sealing-key-tail : (s : Stream) (tag : List ℕ) → Tailed s → (answer : Answer) (rounds : ℕ) (next : Stream) → (answer ≡ BrokenState → ⊥)
+      → Never stream.Stream.finish_sealing.Reads.Learnt (s, (lent tag, tt)) (answering answer rounds next)
+  pub finish-checking-key-tail : (s : Stream) (tag : List ℕ) → Tailed s → (answer : Answer) (rounds : ℕ) (next : Stream) → (answer ≡ BrokenState → ⊥)
+      → Never stream.Stream.finish_checking.Reads.Learnt (s, (lent tag, tt)) (answering answer rounds next)
+  -- and no other set has such a rule: at the start of its data, its keys of 16 bytes may have any bytes. Pieces are done; a finish is refused for its tag of 15 bytes, and not for its state
   pub ad-key : (set : ℕ) → LongKeyed set → (d : Direction) (key : List ℕ) → length key ≡ 16 → (answer : Answer) (rounds : ℕ) (next : Stream) → (answer ≡ Done → ⊥)
       → Never stream.Stream.ad.Reads.Learnt (handed (begunIn set d key) 0) (answering answer rounds next)
   pub seal-piece-key : (set : ℕ) → LongKeyed set → (key : List ℕ) → length key ≡ 16 → (answer : Answer) (rounds : ℕ) (next : Stream) → (answer ≡ Done → ⊥)
@@ -219,7 +220,7 @@ pub record Wrong : Type 0 where
       → Never stream.Stream.check.Reads.Learnt (handed (nineIn 4 Checking 9) 0) (answering answer rounds next)
   -- nine bytes of text go through a full block in set 3, run with the last constants, and not in set 4: the words behind them are the second program's
   pub seal-piece-three : (answer : Answer) (rounds : ℕ) (next : Stream)
-      → (next .words ≡ 0xdc7ac9f7f1127c03 ∷ 0xd0af5be19ec9f900 ∷ 0x5eef1b6c714c5dff ∷ 0xdabd3362ffc066da ∷ 0x986d5d5ccf8693e1 ∷ [] → ⊥)
+      → (next .words ≡ nineThree → ⊥)
       → Never stream.Stream.seal.Reads.Learnt (textIn 3 Sealing 0 0, (lent (replicate 9 1), (lent (zeros 9), tt))) (answering answer rounds next)
   pub seal-piece-four : (answer : Answer) (rounds : ℕ) (next : Stream) → (next .words ≡ 0x0101010101010101 ∷ 0x0100000000000000 ∷ zeros 3 → ⊥)
       → Never stream.Stream.seal.Reads.Learnt (textIn 4 Sealing 0 0, (lent (replicate 9 1), (lent (zeros 9), tt))) (answering answer rounds next)
@@ -253,7 +254,7 @@ pub record Wrong : Type 0 where
   pub finish-checking-last : (rounds : ℕ) (next : Stream)
       → Never stream.Stream.finish_checking.Reads.Learnt (insideText Checking 0 200, (lent (bytesOf 16 0x344f68b335d2682c54e0c3ef895c25b3), tt)) (answering Done rounds next)
   -- behind nine bytes the tag of set 4 is the second program's, and no other; in checking it is the right one
-  pub finish-sealing-four : (o : Outcome) (tag : List ℕ) → (tag ≡ bytesOf 16 0x48cfd7da1bb3a71401d0b91348a21129 → ⊥)
+  pub finish-sealing-four : (o : Outcome) (tag : List ℕ) → (tag ≡ nineTag → ⊥)
       → NeverLeaves stream.Stream.finish_sealing.Reads.Learnt (handed (textIn 4 Sealing 9 9) 16) o (textIn 4 Sealing 9 9, (lent tag, tt))
   pub finish-checking-four : (answer : Answer) (rounds : ℕ) (next : Stream) → (answer ≡ Done → ⊥)
-      → Never stream.Stream.finish_checking.Reads.Learnt (textIn 4 Checking 9 9, (lent (bytesOf 16 0x48cfd7da1bb3a71401d0b91348a21129), tt)) (answering answer rounds next)
+      → Never stream.Stream.finish_checking.Reads.Learnt (textIn 4 Checking 9 9, (lent nineTag, tt)) (answering answer rounds next)

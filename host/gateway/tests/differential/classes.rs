@@ -16,14 +16,15 @@ pub struct Class {
 
 /// All classes; the numbers are written down so that a class that shrinks is noticed.
 #[rustfmt::skip]
-pub const CLASSES: [Class; 15] = [
+pub const CLASSES: [Class; 16] = [
     Class { name: "data and text around the first block edges", calls: 3_200, run: near_edges },
     Class { name: "data or text around far block edges", calls: 136, run: far_edges },
     Class { name: "at a limit", calls: 36, run: at_limits },
     Class { name: "one past a limit", calls: 24, run: past_limits },
     Class { name: "one fault", calls: 176, run: one_fault },
-    Class { name: "two faults", calls: 3_696, run: two_faults },
-    Class { name: "unknown sets", calls: 96, run: unknown_sets },
+    Class { name: "two faults", calls: 4_400, run: two_faults },
+    Class { name: "unknown sets", calls: 128, run: unknown_sets },
+    Class { name: "opened as another set", calls: 12, run: as_another_set },
     Class { name: "each bit of the tag", calls: 480, run: |h| bits(h, |call| &mut call.tag) },
     Class { name: "each two bytes of the tag", calls: 852, run: two_bytes },
     Class { name: "each bit of the ciphertext", calls: 480, run: |h| bits(h, |call| &mut call.body) },
@@ -158,6 +159,17 @@ fn unknown_sets(harness: &mut Harness) {
             harness.expect(&call, 1);
         }
     });
+}
+
+/// Opening in each set what each other set sealed: the key has not the length, or the tag differs.
+fn as_another_set(harness: &mut Harness) {
+    for own in &SETS {
+        for other in SETS.iter().filter(|other| other.number != own.number) {
+            let mut call = short(harness, Direction::Open, own);
+            call.set = other.number;
+            harness.expect(&call, if own.key == other.key { 9 } else { 2 });
+        }
+    }
 }
 
 /// Opening after each single bit of a part was turned, with exact room and with more.

@@ -4,16 +4,20 @@ use crate::call::{Call, Direction};
 use gateway::{DATA_LIMIT, TEXT_LIMIT};
 
 /// Set numbers that no set has; most are a set's when cut to 8, 16 or 32 bits, or without the highest bit.
-pub const UNKNOWN_SETS: [u64; 12] = [
+pub const UNKNOWN_SETS: [u64; 16] = [
     0,
     5,
     256,
     257,
+    258,
     260,
+    65_537,
     65_538,
     65_539,
     (1 << 32) + 1,
+    (1 << 32) + 2,
     (1 << 32) + 3,
+    (1 << 63) + 1,
     (1 << 63) + 2,
     (1 << 63) + 4,
     u64::MAX,
@@ -92,7 +96,7 @@ impl Fault {
     }
 }
 
-/// Gives a key, nonce or tag another length: one less, one more, none, the other set's, far more.
+/// Gives a key, nonce or tag another length: one less, one more, none, the other one that a set has, far more.
 fn other_length(bytes: &mut Vec<u8>, way: usize) {
     let right = bytes.len();
     let length = [right - 1, right + 1, 0, 28 - right, 40][way];

@@ -42,7 +42,7 @@ fn name(line: Line) -> &'static [u8] {
     label(line).strip_suffix(b"=").expect("a label")
 }
 
-/// Gives each line damaged in each way; the sets take turns from this one on.
+/// Gives each line damaged in each way; sets 1 and 2 take turns from this one on.
 pub fn damaged(form: Form, turn: usize) -> Vec<Input> {
     let mut inputs = Vec::new();
     for (number, line) in (1..).zip(form.lines()) {
@@ -59,7 +59,7 @@ pub fn damaged(form: Form, turn: usize) -> Vec<Input> {
     inputs
 }
 
-/// Gives records in which a line stands twice or two lines have changed places; the sets take turns from this one on.
+/// Gives records in which a line stands twice or two lines have changed places; sets 1 and 2 take turns from this one on.
 pub fn moved(form: Form, turn: usize) -> Vec<Input> {
     let mut inputs = Vec::new();
     for (number, line) in (1..).zip(form.lines()) {

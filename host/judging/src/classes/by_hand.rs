@@ -38,6 +38,25 @@ tag=da672106d0b341a823aa0ef5
 rounds=32
 ";
 
+/// Published answers of v1.2, of two blocks of text in set 3 and of nothing in set 4.
+const PUBLISHED: &str = "set=3
+key=000102030405060708090a0b0c0d0e0f
+nonce=000102030405060708090a0b0c0d0e0f
+ad=
+text=000102030405060708090a0b0c0d0e0f
+cipher=bc820dbdf7a4631c5b29884ad69175c3
+tag=f58e28436dd71556d58dfa56ac890beb
+rounds=36
+set=4
+key=000102030405060708090a0b0c0d0e0f
+nonce=000102030405060708090a0b0c0d0e0f
+ad=
+text=
+cipher=
+tag=7a834e6f09210957067b10fd831f0078
+rounds=24
+";
+
 /// Gives a case with its output.
 fn case(name: &str, bytes: impl Into<Vec<u8>>, output: &str) -> Input {
     Input {
@@ -75,6 +94,18 @@ fn whole_cases_1() -> Vec<Input> {
     let rounds = "record=1\nverdict=differs\nfield=rounds\n";
     vec![
         case("the printed case", ZEROS, rounds),
+        case(
+            "published answers of sets 3 and 4",
+            PUBLISHED,
+            "record=1\nverdict=equal\nfield=none\nrecord=2\nverdict=equal\nfield=none\n",
+        ),
+        case(
+            "published answers called set 1",
+            PUBLISHED
+                .replace("set=3", "set=1")
+                .replace("set=4", "set=1"),
+            "record=1\nverdict=differs\nfield=cipher\nrecord=2\nverdict=differs\nfield=tag\n",
+        ),
         case("empty", "", ""),
         case(
             "the printed case with the right rounds",
@@ -291,6 +322,13 @@ fn whole_cases_2() -> Vec<Input> {
             "other rounds",
             CLOSE_2.replace("rounds=32", "rounds=33"),
             "record=1\nverdict=differs\nfield=rounds\n",
+        ),
+        case(
+            "published answers of sets 3 and 4",
+            PUBLISHED
+                .replace("set=3", "form=2\nset=3\nchip=1")
+                .replace("set=4", "form=2\nset=4\nchip=2"),
+            "record=1\nverdict=equal\nfield=none\nrecord=2\nverdict=equal\nfield=none\n",
         ),
         case(
             "both forms",

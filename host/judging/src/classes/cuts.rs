@@ -5,7 +5,7 @@ use crate::lines::{fault_column, Lines};
 use second::cipher::SETS;
 use second::record::Form;
 
-/// Gives a record of each set cut at each of its bytes, from none of them to all; that of this set is the shorter one.
+/// Gives a record of sets 1 and 2 each, cut at each of its bytes, from none of them to all; that of this set is the shorter one.
 pub fn every(form: Form, short: usize) -> Vec<Input> {
     let mut inputs = Vec::new();
     for (set, ad, text) in [(&SETS[short], 1, 2), (&SETS[1 - short], 5, 6)] {

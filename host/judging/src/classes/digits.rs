@@ -92,7 +92,7 @@ fn right_with(form: Form, byte: u8) -> Lines {
     Lines::of(form, &record.expect("the message fits a record"))
 }
 
-/// Gives each line with a digit fewer, a digit more, a digit alone, and a sign of hex in front; the sets take turns from this one on.
+/// Gives each line with a digit fewer, a digit more, a digit alone, and a sign of hex in front; sets 1 and 2 take turns from this one on.
 pub fn odd(form: Form, turn: usize) -> Vec<Input> {
     let mut inputs = Vec::new();
     for line in HEX {

@@ -51,7 +51,8 @@ fn two_sets() -> Vec<Input> {
 
 /// Gives every row of one to three records of any set.
 fn all_sets() -> Vec<Input> {
-    rows_of_sets(&[0, 1, 2, 3], 3)
+    let places: Vec<usize> = (0..SETS.len()).collect();
+    rows_of_sets(&places, 3)
 }
 
 /// Gives every row of up to so many records of the sets at these places.

@@ -76,7 +76,7 @@ pub fn form_lines() -> Vec<Input> {
     inputs
 }
 
-/// Gives right records of many chips, in both sets; a chip takes no part in judging.
+/// Gives right records of many chips, in each set; a chip takes no part in judging.
 pub fn chips() -> Vec<Input> {
     const CHIPS: [u64; 20] = [
         0, 1, 2, 7, 9, 10, 11, 99, 100, 255, 256, 999, 1_000, 6_553, 9_999, 10_000, 32_768, 65_530,

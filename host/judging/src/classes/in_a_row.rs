@@ -28,7 +28,7 @@ pub fn broken(form: Form) -> Vec<Input> {
     inputs
 }
 
-/// Gives two right records, one of each set.
+/// Gives two right records, of sets 1 and 2.
 pub fn two_right(form: Form) -> [Vec<u8>; 2] {
     [0, 1].map(|number| Lines::short(form, number).bytes())
 }
@@ -101,7 +101,7 @@ pub fn long(form: Form) -> Vec<Input> {
     ]
 }
 
-/// Gives as many records of form 1, of both sets and of all lengths; three of seven differ, each in another field.
+/// Gives as many records of form 1, of all sets and of all lengths; three of seven differ, each in another field.
 pub fn many(count: u64) -> Vec<u8> {
     many_in(|_| One, count, SEED)
 }

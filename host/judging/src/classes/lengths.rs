@@ -1,5 +1,6 @@
 //! Fields and lines of other lengths than the rules give them.
 
+use super::with_other_keys;
 use crate::input::Input;
 use crate::lines::{column, label, number, Lines, KEYED, UP_TO_256};
 use second::cipher::SETS;
@@ -9,8 +10,7 @@ use second::record::{Form, Line};
 pub fn exact(form: Form) -> Vec<Input> {
     let mut inputs = Vec::new();
     for set in &SETS {
-        let other = SETS.iter().find(|other| other.key != set.key);
-        let other = other.expect("a set with another length");
+        let other = with_other_keys(set);
         let lines = Lines::right(form, set, 3, 5);
         for line in KEYED {
             let number = lines.number(line);

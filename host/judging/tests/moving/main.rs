@@ -161,6 +161,7 @@ fn moved_records_are_judged_alike() {
 /// Says that each record which a right entry becomes, of each set, is judged equal: its rounds are those of the message.
 #[test]
 fn records_of_right_entries_are_judged_equal() {
+    let mut ran = 0;
     for set in &SETS {
         let mut random = Random::new(set.number);
         let entry = |count| Entry::of(count, &short_record(&mut random, set)).bytes();
@@ -172,5 +173,7 @@ fn records_of_right_entries_are_judged_equal() {
         let said = String::from_utf8_lossy(&judged.stderr);
         let wanted = "bench: 100 records: 100 equal, 0 differ, 0 unread\n";
         assert_eq!(said, wanted, "set {}", set.number);
+        ran += 1;
     }
+    assert_eq!(ran, 4);
 }

@@ -127,6 +127,8 @@ fn zeros_in_front_of_the_set() {
     for (number, set) in [
         ("1", 1),
         ("2", 2),
+        ("3", 3),
+        ("4", 4),
         ("0", 0),
         ("18446744073709551615", u64::MAX),
     ] {
@@ -151,5 +153,5 @@ fn zeros_in_front_of_the_set() {
             ran += 1;
         }
     }
-    assert_eq!(ran, 28);
+    assert_eq!(ran, 42);
 }

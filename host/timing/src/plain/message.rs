@@ -3,6 +3,12 @@
 use super::sponge::Sponge;
 use gateway::{Refusal, Rounds, Set, DATA_LIMIT, TEXT_LIMIT};
 
+/// The sets: lengths of key and block, first word, and the constants of the middle runs, from one up to another.
+type Ascon128 = Sponge<16, 8, 0x800c_0600_0000_0000, 0, 6>;
+type Ascon96 = Sponge<12, 16, 0x600c_0800_0000_0000, 0, 8>;
+type Ascon128V12 = Sponge<16, 8, 0x8040_0c06_0000_0000, 6, 12>;
+type Ascon128aV12 = Sponge<16, 16, 0x8080_0c08_0000_0000, 4, 12>;
+
 /// Seals as the model does.
 #[inline(never)]
 pub fn seal(
@@ -15,18 +21,10 @@ pub fn seal(
     tag: &mut [u8],
 ) -> Result<Rounds, Refusal> {
     match set {
-        Set::Ascon128 => {
-            seal_in::<16, 8, 0x800c_0600_0000_0000, 0, 6>(key, nonce, data, text, out, tag)
-        }
-        Set::Ascon96 => {
-            seal_in::<12, 16, 0x600c_0800_0000_0000, 0, 8>(key, nonce, data, text, out, tag)
-        }
-        Set::Ascon128V12 => {
-            seal_in::<16, 8, 0x8040_0c06_0000_0000, 6, 12>(key, nonce, data, text, out, tag)
-        }
-        Set::Ascon128aV12 => {
-            seal_in::<16, 16, 0x8080_0c08_0000_0000, 4, 12>(key, nonce, data, text, out, tag)
-        }
+        Set::Ascon128 => Ascon128::seal(key, nonce, data, text, out, tag),
+        Set::Ascon96 => Ascon96::seal(key, nonce, data, text, out, tag),
+        Set::Ascon128V12 => Ascon128V12::seal(key, nonce, data, text, out, tag),
+        Set::Ascon128aV12 => Ascon128aV12::seal(key, nonce, data, text, out, tag),
     }
 }
 
@@ -42,70 +40,54 @@ pub fn open(
     out: &mut [u8],
 ) -> Result<Rounds, Refusal> {
     match set {
-        Set::Ascon128 => {
-            open_in::<16, 8, 0x800c_0600_0000_0000, 0, 6>(key, nonce, data, cipher, tag, out)
-        }
-        Set::Ascon96 => {
-            open_in::<12, 16, 0x600c_0800_0000_0000, 0, 8>(key, nonce, data, cipher, tag, out)
-        }
-        Set::Ascon128V12 => {
-            open_in::<16, 8, 0x8040_0c06_0000_0000, 6, 12>(key, nonce, data, cipher, tag, out)
-        }
-        Set::Ascon128aV12 => {
-            open_in::<16, 16, 0x8080_0c08_0000_0000, 4, 12>(key, nonce, data, cipher, tag, out)
-        }
+        Set::Ascon128 => Ascon128::open(key, nonce, data, cipher, tag, out),
+        Set::Ascon96 => Ascon96::open(key, nonce, data, cipher, tag, out),
+        Set::Ascon128V12 => Ascon128V12::open(key, nonce, data, cipher, tag, out),
+        Set::Ascon128aV12 => Ascon128aV12::open(key, nonce, data, cipher, tag, out),
     }
 }
 
-/// Seals in the set with these lengths of key and block, this first word, and middle runs from one constant up to another.
-fn seal_in<
-    const KEY: usize,
-    const BLOCK: usize,
-    const WORD: u64,
-    const FROM: usize,
-    const TO: usize,
->(
-    key: &[u8],
-    nonce: &[u8],
-    data: &[u8],
-    text: &[u8],
-    out: &mut [u8],
-    tag: &mut [u8],
-) -> Result<Rounds, Refusal> {
-    let (key, nonce) = fitting::<KEY>(key, nonce, tag)?;
-    let out = room(data, text, out)?;
-    let mut sponge = Sponge::<KEY, BLOCK, WORD, FROM, TO>::start(key, nonce, data);
-    sponge.encrypt(text, out);
-    tag.copy_from_slice(&sponge.end(key));
-    Ok(rounds(BLOCK, TO - FROM, data, text))
-}
+impl<const KEY: usize, const BLOCK: usize, const WORD: u64, const FROM: usize, const TO: usize>
+    Sponge<KEY, BLOCK, WORD, FROM, TO>
+{
+    /// Seals in this set.
+    fn seal(
+        key: &[u8],
+        nonce: &[u8],
+        data: &[u8],
+        text: &[u8],
+        out: &mut [u8],
+        tag: &mut [u8],
+    ) -> Result<Rounds, Refusal> {
+        let (key, nonce) = fitting::<KEY>(key, nonce, tag)?;
+        let out = room(data, text, out)?;
+        let mut sponge = Self::start(key, nonce, data);
+        sponge.encrypt(text, out);
+        tag.copy_from_slice(&sponge.end(key));
+        Ok(rounds(BLOCK, TO - FROM, data, text))
+    }
 
-/// Opens in the same set.
-fn open_in<
-    const KEY: usize,
-    const BLOCK: usize,
-    const WORD: u64,
-    const FROM: usize,
-    const TO: usize,
->(
-    key: &[u8],
-    nonce: &[u8],
-    data: &[u8],
-    cipher: &[u8],
-    tag: &[u8],
-    out: &mut [u8],
-) -> Result<Rounds, Refusal> {
-    let (key, nonce) = fitting::<KEY>(key, nonce, tag)?;
-    let out = room(data, cipher, out)?;
-    let mut sponge = Sponge::<KEY, BLOCK, WORD, FROM, TO>::start(key, nonce, data);
-    sponge.decrypt(cipher, out);
-    let ours = sponge.end(key);
-    let rounds = rounds(BLOCK, TO - FROM, data, cipher);
-    if ours.iter().zip(tag).fold(0, |all, (a, b)| all | (a ^ b)) == 0 {
-        Ok(rounds)
-    } else {
-        out.fill(0);
-        Err(Refusal::TagDiffers { rounds })
+    /// Opens in this set.
+    fn open(
+        key: &[u8],
+        nonce: &[u8],
+        data: &[u8],
+        cipher: &[u8],
+        tag: &[u8],
+        out: &mut [u8],
+    ) -> Result<Rounds, Refusal> {
+        let (key, nonce) = fitting::<KEY>(key, nonce, tag)?;
+        let out = room(data, cipher, out)?;
+        let mut sponge = Self::start(key, nonce, data);
+        sponge.decrypt(cipher, out);
+        let ours = sponge.end(key);
+        let rounds = rounds(BLOCK, TO - FROM, data, cipher);
+        if ours.iter().zip(tag).fold(0, |all, (a, b)| all | (a ^ b)) == 0 {
+            Ok(rounds)
+        } else {
+            out.fill(0);
+            Err(Refusal::TagDiffers { rounds })
+        }
     }
 }
 

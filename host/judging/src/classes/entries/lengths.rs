@@ -1,14 +1,14 @@
 //! Fields and lines of other lengths than the rules give them.
 
+use crate::classes::with_other_keys;
 use crate::entry::{Entry, Part, PARTS};
 use crate::input::Input;
 use crate::text::{column, label};
-use second::cipher::{Set, SETS};
+use second::cipher::Set;
 
 /// Gives keys and nonces of lengths that are not the set's.
 pub fn exact(set: &Set) -> Vec<Input> {
-    let other = SETS.iter().find(|other| other.key != set.key);
-    let other = other.expect("a set with another length").key;
+    let other = with_other_keys(set).key;
     let entry = Entry::short(set, 1);
     let mut inputs = Vec::new();
     for line in [Part::Key, Part::Nonce] {

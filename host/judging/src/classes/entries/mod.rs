@@ -55,7 +55,7 @@ pub const ROWS: [Of; 37] = [
     Row { name: "two broken lines", inputs: [15, 15, 0, 0], make: in_a_row::two_lines },
     Row { name: "the first refused decides", inputs: [155, 0, 0, 0], make: in_a_row::first_decides },
     Row { name: "bytes after the last entry", inputs: [36, 36, 0, 0], make: in_a_row::trailing },
-    Row { name: "entries of the other set", inputs: [6, 6, 6, 6], make: others::other_set },
+    Row { name: "entries of a set with other keys", inputs: [6, 6, 6, 6], make: others::other_set },
     Row { name: "records", inputs: [9, 9, 0, 0], make: others::records },
     Row { name: "other test files", inputs: [11, 11, 0, 0], make: others::files },
     Row { name: "one byte mutated", inputs: [120, 120, 120, 120], make: |set| mutated_entries(set) },

@@ -1,26 +1,22 @@
 //! Files of another set, records and other texts in place of entries, and files for no set.
 
+use crate::classes::with_other_keys;
 use crate::entry::{short_up_to, Entry, Part};
 use crate::input::Input;
 use crate::lines::Lines;
 use second::cipher::{Set, SETS};
 use second::record::Form::{One, Two};
 
-/// Gives a set with keys of another length.
-fn other(set: &Set) -> &'static Set {
-    let other = SETS.iter().find(|other| other.key != set.key);
-    other.expect("a set with another length")
-}
-
 /// Gives files of which all entries or one are of such a set; the key of the first such one is at fault.
 pub fn other_set(set: &Set) -> Vec<Input> {
-    let fault = |entry| [entry, 2, 7 + 2 * set.key.min(other(set).key)];
-    let [own, others] = [set, other(set)].map(|set| move |count| Entry::short(set, count).bytes());
-    let keyed = Entry::short(other(set), 1).with_value(Part::Key, "A5".repeat(set.key));
-    let nonce_column = 9 + 2 * set.key.min(other(set).key);
+    let fault = |entry| [entry, 2, 7 + 2 * set.key.min(with_other_keys(set).key)];
+    let [own, others] =
+        [set, with_other_keys(set)].map(|set| move |count| Entry::short(set, count).bytes());
+    let keyed = Entry::short(with_other_keys(set), 1).with_value(Part::Key, "A5".repeat(set.key));
+    let nonce_column = 9 + 2 * set.key.min(with_other_keys(set).key);
     vec![
         Input::broken_at("one", others(1), set, fault(1)),
-        Input::broken_at("three", short_up_to(other(set), 3), set, fault(1)),
+        Input::broken_at("three", short_up_to(with_other_keys(set), 3), set, fault(1)),
         Input::broken_at("the second", [own(1), others(2)].concat(), set, fault(2)),
         Input::broken_at(
             "the third",
@@ -40,8 +36,7 @@ pub fn other_set(set: &Set) -> Vec<Input> {
 
 /// Gives records of both forms, alone and behind entries or before them.
 pub fn records(set: &Set) -> Vec<Input> {
-    let place = set.number as usize - 1;
-    let [one, two] = [One, Two].map(|form| Lines::short(form, place).with_chip(0).bytes());
+    let [one, two] = [One, Two].map(|form| Lines::right(form, set, 3, 5).with_chip(0).bytes());
     let own = |count| Entry::short(set, count).bytes();
     let upper = one.to_ascii_uppercase();
     [

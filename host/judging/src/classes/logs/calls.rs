@@ -4,7 +4,7 @@ use crate::input::Input;
 use crate::log::{bytes_of, logged, message, startable, Line};
 
 /// Words, and how many of their characters begin a call's.
-const WORDS: [(&str, usize); 32] = [
+const WORDS: [(&str, usize); 33] = [
     ("", 0),
     ("x", 0),
     ("0", 0),
@@ -22,6 +22,7 @@ const WORDS: [(&str, usize); 32] = [
     ("starts", 5),
     ("start0", 5),
     ("start3", 5),
+    ("start4", 5),
     ("start 1", 5),
     ("start12", 6),
     ("start1 ", 6),

@@ -43,7 +43,7 @@ pub const OWN: [Own; 36] = [
     ("each line damaged", 130, || lines::damaged(1)),
     ("a third entry with each line damaged", 130, || lines::damaged(3)),
     ("lines doubled or moved", 22, lines::moved),
-    ("names of calls", 64, calls::names),
+    ("names of calls", 66, calls::names),
     ("data of a start", 32, data::of_starts),
     ("data of an end", 16, data::of_ends),
     ("lengths of data and outs", 42, data::lengths),

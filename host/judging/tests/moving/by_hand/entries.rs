@@ -174,7 +174,7 @@ fn exported() -> Vec<Case> {
         moved("no records", EXPORT, &[], &[], "done: records=0"),
         moved("a record of set 2", EXPORT, &[CLOSE], &[ENTRY], "done: records=1"),
         moved("records of set 1", EXPORT, &[EMPTY_RECORD, THREE_RECORD], &[EMPTY, THREE], "done: records=2"),
-        moved("records of both sets", EXPORT, &[CLOSE, THREE_RECORD, CLOSE], &[ENTRY, THREE, &counted(ENTRY, "3")], "done: records=3"),
+        moved("records of sets 1 and 2", EXPORT, &[CLOSE, THREE_RECORD, CLOSE], &[ENTRY, THREE, &counted(ENTRY, "3")], "done: records=3"),
         moved("twelve records", EXPORT, &[CLOSE; 12], &[&row(ENTRY, 12)], "done: records=12"),
         moved("wrong rounds", EXPORT, &[&wrong_rounds], &[ENTRY], "done: records=1"),
         moved("a record without cipher", EXPORT, &[&no_cipher_record], &[&no_cipher], "done: records=1"),
