@@ -27,7 +27,7 @@ pub const READ: [Row; 24] = [
     Row { name: "many records", inputs: [5, 5], make: many },
     Row { name: "as much as is held", inputs: [9, 9], make: as_much_as_is_held },
     Row { name: "around buffer edges", inputs: [18, 18], make: around_buffer_edges },
-    Row { name: "written by hand", inputs: [17, 22], make: by_hand::whole_cases },
+    Row { name: "written by hand", inputs: [19, 23], make: by_hand::whole_cases },
     Row { name: "faults written by hand", inputs: [23, 21], make: by_hand::faults },
     Row { name: "lines doubled or moved", inputs: [19, 23], make: |form| any_line::moved(form, 0) },
     Row { name: "wrong digits", inputs: [90, 90], make: digits::wrong },
