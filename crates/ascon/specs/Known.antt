@@ -19,7 +19,7 @@ countingOn = bytesOf 16 0x101112131415161718191a1b1c1d1e1f
 abbrev pub message : ℕ → ℕ → ℕ → Sealed
 message n cipher tag = record { cipher = bytesOf n cipher; tag = bytesOf 16 tag }
 
--- 17 bytes of data and of text in set 4, and what the second program makes of them
+-- 17 bytes of data and of text, and what the second program makes of them in set 4
 abbrev pub longData : List ℕ
 longData = bytesOf 17 0x202122232425262728292a2b2c2d2e2f30
 
@@ -43,7 +43,7 @@ pub record Known : Type 0 where
       ≡ message 9 0x8242bc00406bc969bc 0xe620c58df8ceb8f4a6a1a7b328fb52ee
   -- set 2: 17 bytes of each, in blocks of 16
   pub set-2 : sealed ascon96 (bytesOf 12 0x000102030405060708090a0b) (bytesOf 12 0x101112131415161718191a1b)
-      (bytesOf 17 0x202122232425262728292a2b2c2d2e2f30) (bytesOf 17 0x3132333435363738393a3b3c3d3e3f4041)
+      longData longText
       ≡ record { cipher = bytesOf 17 0x6d24654d99aa2dffc2e7146981fe0b5bb6; tag = bytesOf 12 0x3f93a277c733ed1f61535b80 }
   -- set 3: 11 bytes of data and 9 of text, in blocks of 8
   pub set-3 : sealed (rowOf 3) counting countingOn (bytesOf 11 0x202122232425262728292a) (bytesOf 9 0x303132333435363738)

@@ -2,9 +2,9 @@
 -- The kit reads the contract of a function f off its source: `f.Statement.statement` says that the code of f returns, and with what the contract allows; `f.Reads.Asked` is what
 -- it asks of the caller; `f.Reads.Learnt` is what a caller learns from that theorem, of lifetimes, arguments, result, and arguments at the return. A lent place a holds `a .now`.
 use mathlib.Core.Path.{_≡_}
-use mathlib.Core.List.{List}
+use mathlib.Core.List.{List, [], _∷_}
 use mathlib.Core.Logic.{_⊎_}
-use Prim.Native.Nat.{ℕ, _<_}
+use Prim.Native.Nat.{ℕ, suc, _<_}
 use denote.Ref.{RefT}
 use Rattle.answers.specs.declared.Answer.{Answer}
 use Rattle.answers.specs.declared.Answer.the-variants.{Done, TagDiffers}
@@ -49,6 +49,11 @@ Never {L} {A} allowed before r = (κ : L) (after : A) → allowed κ before r af
 -- a contract allows no other result
 abbrev pub Only : {L A R : Type 0} → (L → A → R → A → Type 0) → A → R → Type 0
 Only {R = R} allowed before r = (other : R) → (other ≡ r → ⊥) → Never allowed before other
+
+-- of a call on a set's number it allows no other results than these, from a number on
+abbrev pub OnlyFrom : {L R : Type 0} → (L → ℕ × Unit {0} → R → ℕ × Unit {0} → Type 0) → ℕ → List R → Type 0
+OnlyFrom allowed set [] = Unit {0}
+OnlyFrom allowed set (r ∷ rs) = Only allowed (set, tt) r × OnlyFrom allowed (suc set) rs
 
 -- a contract does not allow a result together with this in the lent places
 abbrev pub NeverLeaves : {L A R : Type 0} → (L → A → R → A → Type 0) → A → R → A → Type 0

@@ -17,7 +17,7 @@ use Rattle.timing.proofs as timing
 use Rattle.sets.proofs as sets
 use Rattle.sponge.proofs as sponge
 use Rattle.tags.proofs as tags
-use Rattle.letter.specs.Calls.{lent, Never, Only, NeverLeaves, NoSet}
+use Rattle.letter.specs.Calls.{lent, Never, Only, OnlyFrom, NeverLeaves, NoSet}
 
 -- the second program's answers: the words after a start of sets 3 and 4 under the key and the nonce that count, those after nine ones in set 3 from zeros, and the tag of
 -- set 4 behind nine bytes of text and words of zeros
@@ -73,27 +73,12 @@ pub record Wrong : Type 0 where
   pub is-set-none : (set : ℕ) → NoSet set → Never sets.is_set.Reads.Learnt (set, tt) true
   -- and 1 to 4 are sets
   pub is-set-each : (set : ℕ) → 1 ≤ set → set ≤ 4 → Never sets.is_set.Reads.Learnt (set, tt) false
-  -- a set has no other key, block, run between, number of rounds, or first word than its row: set 4 no block of 8, set 3 not the first constants, and set 1 not the last
-  pub key-length-one : Only sets.key_length.Reads.Learnt (1, tt) 16
-  pub key-length-two : Only sets.key_length.Reads.Learnt (2, tt) 12
-  pub key-length-three : Only sets.key_length.Reads.Learnt (3, tt) 16
-  pub key-length-four : Only sets.key_length.Reads.Learnt (4, tt) 16
-  pub block-length-one : Only sets.block_length.Reads.Learnt (1, tt) 8
-  pub block-length-two : Only sets.block_length.Reads.Learnt (2, tt) 16
-  pub block-length-three : Only sets.block_length.Reads.Learnt (3, tt) 8
-  pub block-length-four : Only sets.block_length.Reads.Learnt (4, tt) 16
-  pub between-one : Only sets.between.Reads.Learnt (1, tt) FirstSix
-  pub between-two : Only sets.between.Reads.Learnt (2, tt) FirstEight
-  pub between-three : Only sets.between.Reads.Learnt (3, tt) LastSix
-  pub between-four : Only sets.between.Reads.Learnt (4, tt) LastEight
-  pub rounds-between-one : Only sets.rounds_between.Reads.Learnt (1, tt) 6
-  pub rounds-between-two : Only sets.rounds_between.Reads.Learnt (2, tt) 8
-  pub rounds-between-three : Only sets.rounds_between.Reads.Learnt (3, tt) 6
-  pub rounds-between-four : Only sets.rounds_between.Reads.Learnt (4, tt) 8
-  pub first-word-one : Only sets.first_word.Reads.Learnt (1, tt) 0x800c060000000000
-  pub first-word-two : Only sets.first_word.Reads.Learnt (2, tt) 0x600c080000000000
-  pub first-word-three : Only sets.first_word.Reads.Learnt (3, tt) 0x80400c0600000000
-  pub first-word-four : Only sets.first_word.Reads.Learnt (4, tt) 0x80800c0800000000
+  -- sets 1 to 4 have no other key, block, run between, number of rounds, or first word than these: set 4 no block of 8, set 3 not the first constants, and set 1 not the last
+  pub key-lengths : OnlyFrom sets.key_length.Reads.Learnt 1 (16 ∷ 12 ∷ 16 ∷ 16 ∷ [])
+  pub block-lengths : OnlyFrom sets.block_length.Reads.Learnt 1 (8 ∷ 16 ∷ 8 ∷ 16 ∷ [])
+  pub runs-between : OnlyFrom sets.between.Reads.Learnt 1 (FirstSix ∷ FirstEight ∷ LastSix ∷ LastEight ∷ [])
+  pub rounds-between : OnlyFrom sets.rounds_between.Reads.Learnt 1 (6 ∷ 8 ∷ 6 ∷ 8 ∷ [])
+  pub first-words : OnlyFrom sets.first_word.Reads.Learnt 1 (0x800c060000000000 ∷ 0x600c080000000000 ∷ 0x80400c0600000000 ∷ 0x80800c0800000000 ∷ [])
   -- a message of nothing has its rounds at the start and at the end
   pub message-rounds-none : Never sets.message_rounds.Reads.Learnt (1, (0, (0, tt))) 0
   -- data of a whole block has a block more, and so has text, which runs only between
