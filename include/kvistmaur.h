@@ -30,6 +30,11 @@
  *   With 1 to 6 the rounds are 0 and no lent byte changes. With 0 and 9 the rounds are those that the published
  *   definition runs for the whole message: at least 24.
  *
+ * UNVERIFIED BYTES
+ *   Nothing unverified is handed out here: kvistmaur_open leaves the text with answer 0 alone, and zeros with 9. The
+ *   model also has opening streams, which this boundary does not offer yet. What those hand out, piece by piece, is
+ *   unverified until their finish says done, and a 9 puts no zeros there.
+ *
  * The protection is lost when two messages are sealed under one key and one nonce. Choosing nonces is the caller's part.
  */
 #ifndef KVISTMAUR_H

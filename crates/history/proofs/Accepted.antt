@@ -3,11 +3,11 @@ use mathlib.Core.Path.{_≡_, refl, sym, ap, _∙_}
 use mathlib.Core.Bool.{Bool, true, false, cond, not, _&&_, false≢true}
 use mathlib.Core.List.{List, []}
 use Prim.Native.Nat.{ℕ, _+_, _-_, _%_, _≤_, _<_, zero-le}
-use lib.Dec.{leb}
+use lib.Dec.{eqb, leb}
 use lib.ListN.{length}
 use lib.Seq.{drop-at}
 use borrow.Author.Tests.{le-leb, lt-leb, eq-eqb}
-use Rattle.answers.specs.declared.Answer.the-variants.{Done, PastLimit, NoRoom}
+use Rattle.answers.specs.declared.Answer.the-variants.{Done, TagLength, PastLimit, NoRoom}
 use Rattle.answers.specs.Numbers.{isDone}
 use Rattle.permutation.specs.Strings.{zeros}
 use Rattle.ascon.specs.Sets.{rowOf, adLimit, textLimit}
@@ -37,6 +37,11 @@ fits-text d s n room a b c r =
 pub fits-finish : (d : Direction) (s : Stream) (n : ℕ) → isSound s ≡ true → fits d s ≡ true → n ≡ rowOf (s .set) .key → isDone (finishTest d s n) ≡ true
 unfolding finishTest
 fits-finish d s n a b c = rw (a, b, eq-eqb n (rowOf (s .set) .key) c)
+
+-- the test of a finish with a tag of another length
+pub tag-refused : (d : Direction) (s : Stream) (n : ℕ) → isSound s ≡ true → fits d s ≡ true → eqb n (rowOf (s .set) .key) ≡ false → finishTest d s n ≡ TagLength
+unfolding finishTest
+tag-refused d s n a b c = rw (a, b, c)
 
 -- the test of a piece of text that would pass the stream's limit
 pub past-text : (d : Direction) (s : Stream) (n room : ℕ) → isSound s ≡ true → fits d s ≡ true → s .limit < s .text + n → textTest d s n room ≡ PastLimit

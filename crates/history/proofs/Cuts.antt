@@ -1,39 +1,41 @@
--- Cutting a message does not matter: the demand, from the history law and its other half.
+-- Cutting a message does not matter, in any direction: from the history law and its other half.
 use mathlib.Core.Path.{_≡_, refl, sym, ap, ap₂, _∙_, subst}
 use mathlib.Core.Bool.{Bool, true, false, cond, not, _&&_}
-use mathlib.Core.List.{List, [], _++_, append-nil, append-assoc}
-use mathlib.Core.Option.{some, none}
+use mathlib.Core.List.{List, [], _∷_, _++_, append-nil, append-assoc}
 use Prim.Native.Nat.{ℕ, _+_, _-_, _≤_}
 use native.Mathlib.Omega.{arith}
+use lib.Dec.{eqb}
 use lib.ListN.{length, length-append}
 use lib.Seq.{take-at}
-use Rattle.answers.specs.declared.Answer.the-variants.{Done, PastLimit, TagDiffers}
+use borrow.Author.Tests.{eqb-true}
+use Rattle.answers.specs.declared.Answer.the-variants.{Done, TagLength, PastLimit, TagDiffers}
 use Rattle.answers.specs.Numbers.{isDone}
+use Rattle.answers.specs.Order.{_when_, first}
 use Rattle.permutation.specs.Runs.{constants, constantsOf, roundsOf}
 use Rattle.permutation.specs.Strings.{wordsOfString, zeros, same}
-use Rattle.ascon.specs.Sets.{ParameterSet, rowOf, adLimit, textLimit}
-use Rattle.ascon.specs.Mode.{beforeText, encrypted, decrypted, Sealed, sealed, opened, finalise}
+use Rattle.ascon.specs.Sets.{ParameterSet, rowOf, adLimit}
+use Rattle.ascon.specs.Mode.{Processed, beforeText, sealed, finalise}
 use Rattle.ascon.specs.Bytewise.{closed}
 use Rattle.ascon.specs.Rounds.{messageRounds}
-use Rattle.ascon.proofs.Sealing.{length-tag, open-sealed, seal-opened}
-use Rattle.sponge.specs.Sponge.{tagOf}
+use Rattle.ascon.proofs.Sealing.{Fits, encrypt-decrypted}
+use Rattle.sponge.specs.Sponge.{processed, tagOf}
 use Rattle.sets.proofs.Rows.{row-sizes}
 use Rattle.stream.specs.declared.Direction.{Direction}
-use Rattle.stream.specs.declared.Direction.the-variants.{Sealing, Checking}
+use Rattle.stream.specs.declared.Direction.the-variants.{Sealing, Checking, Opening}
 use Rattle.stream.specs.declared.Phase.{Phase}
 use Rattle.stream.specs.declared.Phase.the-variants.{Ad, Text}
 use Rattle.stream.specs.declared.Stream.{Stream}
 use Rattle.stream.specs.declared.Outcome.{Outcome}
-use Rattle.stream.specs.State.{isDirection, wayOf, givesText, isAd, isOpen, fits, isSound}
-use Rattle.stream.specs.Calls.{closingRounds, textTest, finishTest, Start, textWords, tookText, ownTag, finishCall}
+use Rattle.stream.specs.State.{isDirection, wayOf, givesText, givesTag, isAd, isOpen, fits, isSound}
+use Rattle.stream.specs.Calls.{closingRounds, textTest, finishTest, Start, textWords, tookText, ownTag, tagFaults, finishedWith, finishCall}
 use Rattle.stream.proofs.Tests.{own-direction}
-use Rattle.history.specs.History.{Streams, ours, Call, giveAd, giveText, finish, reply, History, begun, next, after, BytesIn, Started, stateAt, roundsAt, Fitting.ad-fits, Fitting.text-fits, NeverRefused, PastRefused}
-use Rattle.history.specs.Cuts.{RefusedCall, TextCut, TextCut.text-end, TextCut.text-refusal, TextCut.text-piece, Cut, Cut.ad-end, Cut.ad-refusal, Cut.ad-piece, Message, MessageWithin, SealedWhole, CheckedWhole, CuttingDoesNotMatter, CuttingBefore}
-use Rattle.sponge.proofs.Fronts.{stood, tag-is, l₁, b₁, sealed-end, checked-end}
+use Rattle.history.specs.History.{ours, Call, giveAd, giveText, finish, reply, History, begun, next, after, BytesIn, Started, stateAt, roundsAt, publishedOut, Fitting.ad-fits, Fitting.text-fits, NeverRefused, PastRefused}
+use Rattle.history.specs.Cuts.{RefusedCall, TextCut, TextCut.text-end, TextCut.text-refusal, TextCut.text-piece, Cut, Cut.ad-end, Cut.ad-refusal, Cut.ad-piece, Message, plainOf, publishedTag, finishAnswer, Whole}
+use Rattle.sponge.proofs.Fronts.{tag-is, l₁, b₁, processed-view}
 use Rattle.history.proofs.Rounds.{rounds-whole}
 use Rattle.history.proofs.Replies.{doneOf, reply-refused, reply-done, tag-left, next-is, refused-next}
-use Rattle.history.proofs.History.{Reached, Ready, ready, advance, reached, told, history-law, start-state, fit, key, stoodAt}
-use Rattle.history.proofs.Accepted.{fits-piece, fits-text, past-text, fits-finish, reached-sound}
+use Rattle.history.proofs.History.{Reached, Ready, ready, advance, reached, told, start-state, fit, key, stoodAt}
+use Rattle.history.proofs.Accepted.{fits-piece, fits-text, past-text, fits-finish, tag-refused, reached-sound}
 
 -- ---- following a cutting
 
@@ -106,6 +108,14 @@ past-refused start begins calls b o piece out past =
     past-text d s (length piece) (length out) (reached-sound start begins h r o) (fits-own d s o (y .direction-is)) (rw (y .text-is, y .limit-is) past) in
     ap (λ (x : Outcome). x .answer) (reply-refused s (giveText d piece out) (ap isDone test)) ∙ test
 
+-- the tag at the end of a text is that of its plaintext, in each direction
+tag-published : (row : ParameterSet) → Fits row → (K : List ℕ) → length K ≡ row .key → (N A : List ℕ) (d : Direction) (T : List ℕ)
+    → finalise row K (processed (wayOf d) row K N A T .state) ≡ sealed row K N A (plainOf d row K N A T) .tag
+unfolding sealed
+tag-published row fits K key N A Sealing T = refl
+tag-published row fits K key N A Checking T = ap (λ (w : Processed). finalise row K (w .state)) (sym (encrypt-decrypted row fits K key N A T))
+tag-published row fits K key N A Opening T = ap (λ (w : Processed). finalise row K (w .state)) (sym (encrypt-decrypted row fits K key N A T))
+
 module _ (start : Start) (begins : Started ours start) where
   abbrev d : Direction
   d = start .direction
@@ -172,8 +182,8 @@ module _ (start : Start) (begins : Started ours start) where
   followed A T calls b l m cut =
       follow cut (begun ours start) refl (reached start begins [] tt) (ap (λ (s : Stream). s .phase) (start-state start begins)) refl b (omega arith) m
 
-  -- the stream's own tag, by the published definition
-  own-tag : (h : History) → Ready start begins h → ownTag (h .stream) ≡ finalise (rowOf (start .set)) K (closed (stoodAt start begins (h .ad) (h .text)))
+  -- the stream's own tag is the published one
+  own-tag : (h : History) → Ready start begins h → ownTag (h .stream) ≡ publishedTag start (h .ad) (h .text)
   own-tag h y =
       let s : Stream = h .stream in
       let row = rowOf (start .set) in
@@ -186,6 +196,8 @@ module _ (start : Start) (begins : Started ours start) where
       ∙ ap (λ (x : List ℕ). tagOf row (wordsOfString (after .state)) (length (h .text)) x) (y .key-is)
       ∙ tag-is row f (wayOf d) (beforeText row K N (h .ad)) (l₁ row f K N k kb (h .ad)) (b₁ row f K N k kb (h .ad)) (h .text) (K ++ zeros (16 - length K)) (y .text-bounded .bytes)
       ∙ ap (λ (x : List ℕ). finalise row x (closed after)) (take-at K (zeros (16 - length K)) (row .key) k)
+      ∙ ap (λ (w : Processed). finalise row K (w .state)) (processed-view row f K N k kb (h .ad) (wayOf d) (h .text))
+      ∙ tag-published row f K k N (h .ad) d (h .text)
 
   -- all the rounds
   whole-rounds : (h : History) → Ready start begins h → h .rounds + (closingRounds (h .stream) + 12) ≡ messageRounds (rowOf (start .set)) (length (h .ad)) (length (h .text))
@@ -195,9 +207,8 @@ module _ (start : Start) (begins : Started ours start) where
       let all = rounds-whole (rowOf (start .set)) (ap roundsOf (row-sizes (start .set) .ends)) (length (h .ad)) (length (h .text)) in
       omega arith
 
--- ---- the demand
+-- ---- the end of a cut message
 
--- the end of a cut message
 module _ (start : Start) (A T : List ℕ) (calls : List Call) (m : Message ours start A T calls) where
   abbrev begins : Started ours start
   begins = m .started
@@ -220,132 +231,47 @@ module _ (start : Start) (A T : List ℕ) (calls : List Call) (m : Message ours 
       fits-finish (start .direction) (h .stream) (length tag) (reached-sound start begins h (reached start begins calls (m .bytes)) (taken .open-still))
       (fits-own (start .direction) (h .stream) (taken .open-still) (at-end .direction-is)) (e ∙ ap (λ (n : ℕ). rowOf n .key) (sym (at-end .set-is)))
 
+  -- with one of another length it is refused
+  end-refused : (tag : List ℕ) → eqb (length tag) (row .key) ≡ false → finishTest (start .direction) (h .stream) (length tag) ≡ TagLength
+  end-refused tag e =
+      tag-refused (start .direction) (h .stream) (length tag) (reached-sound start begins h (reached start begins calls (m .bytes)) (taken .open-still))
+      (fits-own (start .direction) (h .stream) (taken .open-still) (at-end .direction-is)) (ap (λ (n : ℕ). eqb (length tag) (rowOf n .key)) (at-end .set-is) ∙ e)
+
   -- the stream's own tag
-  end-tag : ownTag (h .stream) ≡ finalise row (start .key) (closed (stoodAt start begins A T))
-  end-tag =
-      own-tag start begins h at-end
-      ∙ ap₂ (λ (x y : List ℕ). finalise row (start .key) (closed (stoodAt start begins x y))) (taken .ad-is) (taken .text-is)
+  end-tag : ownTag (h .stream) ≡ publishedTag start A T
+  end-tag = own-tag start begins h at-end ∙ ap₂ (publishedTag start) (taken .ad-is) (taken .text-is)
 
   -- all the rounds
   end-rounds : h .rounds + (closingRounds (h .stream) + 12) ≡ messageRounds row (length A) (length T)
   end-rounds = whole-rounds start begins h at-end ∙ ap₂ (λ (x y : List ℕ). messageRounds row (length x) (length y)) (taken .ad-is) (taken .text-is)
 
-  -- the state at the end, in a direction
-  abbrev endIn : Direction → List ℕ
-  endIn d =
-      closed
-      (stood row (fit start begins) (wayOf d) (beforeText row (start .key) (start .nonce) A)
-      (l₁ row (fit start begins) (start .key) (start .nonce) (key start begins) (begins .key-bytes) A)
-      (b₁ row (fit start begins) (start .key) (start .nonce) (key start begins) (begins .key-bytes) A) T)
+  -- the answer of its finish
+  end-answer : (tag : List ℕ) → finishCall (start .direction) (h .stream) tag .outcome .answer ≡ finishAnswer (start .direction) row (publishedTag start A T) tag
+  end-answer tag = go (eqb (length tag) (row .key)) refl
+    where
+      call : Call
+      call = finish (start .direction) tag
 
-seals : (start : Start) (A P : List ℕ) (calls : List Call) (tag : List ℕ) → start .direction ≡ Sealing → (m : Message ours start A P calls)
-    → length tag ≡ rowOf (start .set) .key → SealedWhole ours start A P (after ours (begun ours start) calls) tag
-unfolding sealed
-seals start A P calls tag x m e =
-    let begins = m .started in
-    let K = start .key in
-    let N = start .nonce in
-    let row = rowOf (start .set) in
-    let h : History = after ours (begun ours start) calls in
-    let s : Stream = h .stream in
-    let f = taken start A P calls m in
-    let t = told start begins h (reached start begins calls (m .bytes)) in
-    let ok : isDone (finishTest Sealing s (length tag)) ≡ true = subst (λ (d : Direction). isDone (finishTest d s (length tag)) ≡ true) x (end-passed start A P calls m tag e) in
-    let fin = reply-done s (finish Sealing tag) ok in
-    record {
-      out = t .out (f .open-still) x ∙ ap₂ (λ (y z : List ℕ). encrypted row K N y z .out) (f .ad-is) (f .text-is);
-      answer = ap (λ (o : Outcome). o .answer) fin;
-      tag-is =
-          tag-left Sealing s tag ok ∙ end-tag start A P calls m
-          ∙ ap (λ (d : Direction). finalise row K (endIn start A P calls m d)) x
-          ∙ ap (λ (S : List ℕ). finalise row K S) (sealed-end row (fit start begins) K N (key start begins) (begins .key-bytes) A P);
-      rounds = ap (λ (o : Outcome). h .rounds + o .rounds) fin ∙ end-rounds start A P calls m;
-    }
+      go : (t : Bool) → eqb (length tag) (row .key) ≡ t
+          → finishCall (start .direction) (h .stream) tag .outcome .answer
+          ≡ first Done (TagLength when not t ∷ TagDiffers when (not (givesTag (start .direction)) && not (same tag (publishedTag start A T))) ∷ [])
+      go true e =
+          ap (λ (o : Outcome). o .answer) (reply-done (h .stream) call (end-passed tag (eqb-true (length tag) (row .key) e)))
+          ∙ ap (λ (x : List ℕ). first Done (TagDiffers when (not (givesTag (start .direction)) && not (same tag x)) ∷ [])) end-tag
+      go false e = ap (λ (o : Outcome). o .answer) (reply-refused (h .stream) call (ap isDone (end-refused tag e))) ∙ end-refused tag e
 
--- an opening is a plaintext exactly where the tag is the document's
-opened-same : (set : ℕ) (K N A C T : List ℕ) → same T (finalise (rowOf set) K (decrypted (rowOf set) K N A C .state)) ≡ true → opened (rowOf set) K N A C T ≡ some (decrypted (rowOf set) K N A C .out)
-unfolding opened
-opened-same set K N A C T e = rw e
-
-same-opened : (set : ℕ) (K N A C T P : List ℕ) → opened (rowOf set) K N A C T ≡ some P → same T (finalise (rowOf set) K (decrypted (rowOf set) K N A C .state)) ≡ true
-unfolding opened
-same-opened set K N A C T P e = go (same T (finalise (rowOf set) K (decrypted (rowOf set) K N A C .state))) refl e
-  where
-    go : (t : Bool) → same T (finalise (rowOf set) K (decrypted (rowOf set) K N A C .state)) ≡ t → cond t (some (decrypted (rowOf set) K N A C .out)) none ≡ some P → t ≡ true
-    go true f g = refl
-    go false f g = absurd (let z : _≡_ {A = ℕ} 0 1 = cc in omega arith)
-
--- the answer of a test of the tag
-yes-same : (t : Bool) → cond (not t) TagDiffers Done ≡ Done → t ≡ true
-yes-same true e = refl
-yes-same false e = absurd (let z : _≡_ {A = ℕ} 0 1 = cc in omega arith)
-
--- the tests of an end that says yes are passed
-yes-passed : (d : Direction) (s : Stream) (tag : List ℕ) → finishCall d s tag .outcome .answer ≡ Done → isDone (finishTest d s (length tag)) ≡ true
-yes-passed d s tag e = go (isDone (finishTest d s (length tag))) refl
-  where
-    go : (t : Bool) → isDone (finishTest d s (length tag)) ≡ t → t ≡ true
-    go true f = refl
-    go false f = sym f ∙ ap (λ (o : Outcome). isDone (o .answer)) (sym (reply-refused s (finish d tag) f)) ∙ ap isDone e
-
-checks : (start : Start) (A C : List ℕ) (calls : List Call) (tag : List ℕ) → start .direction ≡ Checking → (m : Message ours start A C calls)
-    → CheckedWhole ours start A C (after ours (begun ours start) calls) tag
-unfolding sealed
-checks start A C calls tag x m =
-    let begins = m .started in
-    let set = start .set in
-    let K = start .key in
-    let N = start .nonce in
-    let row = rowOf set in
-    let h : History = after ours (begun ours start) calls in
-    let s : Stream = h .stream in
-    let ft = fit start begins in
-    let ky = key start begins in
-    let passed : length tag ≡ row .key → isDone (finishTest Checking s (length tag)) ≡ true =
-    λ e. subst (λ (d : Direction). isDone (finishTest d s (length tag)) ≡ true) x (end-passed start A C calls m tag e) in
-    let own : ownTag s ≡ finalise row K (decrypted row K N A C .state) =
-    end-tag start A C calls m
-    ∙ ap (λ (d : Direction). finalise row K (endIn start A C calls m d)) x
-    ∙ ap (λ (S : List ℕ). finalise row K S) (checked-end row ft K N ky (begins .key-bytes) A C) in
-    let answer : isDone (finishTest Checking s (length tag)) ≡ true
-    → finishCall Checking s tag .outcome .answer ≡ cond (not (same tag (finalise row K (decrypted row K N A C .state)))) TagDiffers Done =
-    λ ok. ap (λ (o : Outcome). o .answer) (reply-done s (finish Checking tag) ok) ∙ ap (λ (y : List ℕ). cond (not (same tag y)) TagDiffers Done) own in
-    record {
-      yes = (
-        λ (y : finishCall Checking s tag .outcome .answer ≡ Done). (
-          decrypted row K N A C .out,
-          seal-opened row ft K ky N A (decrypted row K N A C .out) C tag (opened-same set K N A C tag (yes-same _ (sym (answer (yes-passed Checking s tag y)) ∙ y))),
-        ),
-        λ (z : (P : List ℕ) × (sealed row K N A P ≡ record { cipher = C; tag = tag })).
-            answer (passed (ap (λ (w : Sealed). length (w .tag)) (sym (z .1)) ∙ length-tag row ft K ky (encrypted row K N A (z .0) .state)))
-            ∙ ap (λ (t : Bool). cond (not t) TagDiffers Done)
-            (same-opened set K N A C tag (z .0)
-            (ap (λ (w : Sealed). opened row K N A (w .cipher) (w .tag)) (sym (z .1)) ∙ open-sealed row ft K ky N A (z .0))),
-      );
-      rounds = λ e. ap (λ (o : Outcome). h .rounds + o .rounds) (reply-done s (finish Checking tag) (passed e)) ∙ end-rounds start A C calls m;
-    }
-
-pub cutting-does-not-matter : CuttingDoesNotMatter ours
-cutting-does-not-matter =
-    record {
-      seals = seals;
-      checks = checks;
-      states = λ start begins calls other b c phase ad text.
-          let h = after ours (begun ours start) calls in
-          let k = after ours (begun ours start) other in
-          history-law start begins calls b .state
-          ∙ ap (λ (x : Phase). stateAt start x (h .ad) (h .text)) phase
-          ∙ ap₂ (λ (x y : List ℕ). stateAt start (k .stream .phase) x y) ad text
-          ∙ sym (history-law start begins other c .state);
-    }
-
--- the demand of before is its case of the largest limit
-pub cutting-before : (m : Streams) → CuttingDoesNotMatter m → CuttingBefore m
-cutting-before m cutting =
-    record {
-      seals = λ start A P calls tag largest sealing message size. cutting .seals start A P calls tag sealing (own start A P calls largest message) size;
-      checks = λ start A C calls tag largest checking message. cutting .checks start A C calls tag checking (own start A C calls largest message);
-    }
-  where
-    own : (start : Start) (A T : List ℕ) (calls : List Call) → start .limit ≡ textLimit → MessageWithin m textLimit start A T calls → Message m start A T calls
-    own start A T calls largest message = subst (λ (limit : ℕ). MessageWithin m limit start A T calls) (sym largest) message
+  -- the demand in any direction
+  pub whole : (tag : List ℕ) → Whole ours start A T h tag
+  whole tag =
+      let s : Stream = h .stream in
+      let d : Direction = start .direction in
+      let fin : length tag ≡ row .key → finishCall d s tag .outcome ≡ finishedWith (first Done (tagFaults d s tag)) s = λ e. reply-done s (finish d tag) (end-passed tag e) in
+      record {
+        out =
+            told start begins h (reached start begins calls (m .bytes)) .out (taken .open-still)
+            ∙ ap₂ (λ (y z : List ℕ). publishedOut d row (start .key) (start .nonce) y z) (taken .ad-is) (taken .text-is);
+        answer = end-answer tag;
+        lent = λ e. tag-left d s tag (end-passed tag e) ∙ ap (λ (x : List ℕ). cond (givesTag d) x tag) end-tag;
+        rounds = λ e. ap (λ (o : Outcome). h .rounds + o .rounds) (fin e) ∙ end-rounds;
+        over = λ e. ap (λ (o : Outcome). o .next) (fin e);
+      }

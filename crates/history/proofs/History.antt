@@ -1,5 +1,5 @@
--- The history law: while a stream is not ended, its state is a function of the start, the phase, the joined data and the joined text; the joined output is the
--- published ciphertext; the rounds add up.
+-- The history law, in every direction: while a stream is not ended, its state is a function of the start, the phase, the joined data and the joined text; the
+-- joined output is the published one; the rounds add up.
 use mathlib.Core.Path.{_≡_, refl, sym, ap, ap₂, _∙_, subst}
 use mathlib.Core.Bool.{Bool, true, false, cond, false≢true, and-eq-true-iff}
 use mathlib.Core.List.{List, [], _∷_, _++_, append-nil}
@@ -12,23 +12,23 @@ use Rattle.permutation.specs.Runs.{roundsOf}
 use Rattle.permutation.specs.Strings.{Bytes, wordsOfString, zeros}
 use Rattle.permutation.proofs.Strings.{bytes-append, bytes-none}
 use Rattle.ascon.specs.Sets.{ParameterSet, rowOf, adLimit}
-use Rattle.ascon.specs.Mode.{p, initialise, beforeText, sealed}
+use Rattle.ascon.specs.Mode.{p, Processed, initialise, beforeText, sealed}
 use Rattle.ascon.specs.Bytewise.{At, at, outs}
 use Rattle.ascon.proofs.Sealing.{Fits}
 use Rattle.sponge.specs.declared.Way.{Way}
-use Rattle.sponge.specs.declared.Way.the-variants.{Seal}
+use Rattle.sponge.specs.declared.Way.the-variants.{Seal, Open}
 use Rattle.sponge.specs.Sponge.{keepOf, absorbed, given}
 use Rattle.sets.proofs.Rows.{row-fits}
 use Rattle.stream.specs.declared.Direction.{Direction}
-use Rattle.stream.specs.declared.Direction.the-variants.{Sealing}
+use Rattle.stream.specs.declared.Direction.the-variants.{Sealing, Checking, Opening}
 use Rattle.stream.specs.declared.Phase.{Phase}
 use Rattle.stream.specs.declared.Phase.the-variants.{Ad, Text, Ended}
 use Rattle.stream.specs.declared.Stream.{Stream}
 use Rattle.stream.specs.State.{isDirection, wayOf, givesText, isAd, isOpen, ended}
 use Rattle.stream.specs.Calls.{filledRounds, closingRounds, limitedStartTest, pieceTest, Start, startCall, tookAd, textWords, tookText}
 use Rattle.stream.proofs.Tests.{one-direction, LimitedStartPassed, limited-start-passed, piece-passed, text-passed, finish-passed}
-use Rattle.history.specs.History.{ours, Call, giveAd, giveText, finish, reply, adOf, textOf, outOf, History, begun, next, after, BytesIn, Started, stateAt, roundsAt, Told, HistoryLaw, Limited}
-use Rattle.sponge.proofs.Fronts.{stood, absorbed-more, given-more, l₀, b₀, closed-is, l₁, b₁, sealed-out}
+use Rattle.history.specs.History.{ours, Call, giveAd, giveText, finish, reply, adOf, textOf, outOf, History, begun, next, after, BytesIn, Started, stateAt, roundsAt, publishedOut, Told, HistoryLaw, Limited}
+use Rattle.sponge.proofs.Fronts.{stood, absorbed-more, given-more, l₀, b₀, closed-is, l₁, b₁, processed-view}
 use Rattle.history.proofs.Rounds.{rounds-ad, rounds-text}
 use Rattle.history.proofs.Replies.{testOf, doneOf, reply-done, out-given, next-is, next-refused, unfit-piece, shut-ad}
 
@@ -40,6 +40,11 @@ start-tested start e = go (isDone (limitedStartTest (start .set) (length (start 
     go : (t : Bool) → isDone (limitedStartTest (start .set) (length (start .key)) (length (start .nonce)) (start .limit)) ≡ t → t ≡ true
     go true f = refl
     go false f = let no : isDone (startCall start .answer) ≡ false = rw f f in absurd (false≢true (sym no ∙ e))
+
+-- a choice between no bytes and none
+no-bytes : (t : Bool) → cond {A = List ℕ} t [] [] ≡ []
+no-bytes true = refl
+no-bytes false = refl
 
 -- bytes within a limit
 pub record Bounded (x : List ℕ) (limit : ℕ) : Type 0 where
@@ -116,9 +121,13 @@ module _ (start : Start) (begins : Started ours start) where
   abbrev pub stoodAt : List ℕ → List ℕ → At
   stoodAt A T = stood row fit way (S₁ A) (l₁ row fit K N key (begins .key-bytes) A) (b₁ row fit K N key (begins .key-bytes) A) T
 
-  -- what that text gave out
+  -- what that text gave out, where the direction has an output
   abbrev outAt : List ℕ → List ℕ → List ℕ
-  outAt A T = outs (row .block) (p (row .between)) (keepOf way) (at (S₁ A) 0) T
+  outAt A T = cond (givesText direction) (outs (row .block) (p (row .between)) (keepOf way) (at (S₁ A) 0) T) []
+
+  -- no text gave out nothing
+  nothing-out : (A : List ℕ) → outAt A [] ≡ []
+  nothing-out A = no-bytes (givesText direction)
 
   -- a piece of data
   ad-moves : (A piece : List ℕ) → Bytes A → tookAd (stateAt start Ad A []) piece .next ≡ stateAt start Ad (A ++ piece) []
@@ -174,8 +183,7 @@ module _ (start : Start) (begins : Started ours start) where
   pub data Reached (h : History) : Type 0 where
     in-ad : h .stream ≡ stateAt start Ad (h .ad) [] → h .text ≡ [] → h .out ≡ [] → h .rounds ≡ roundsAt row Ad (length (h .ad)) 0
         → Bounded (h .ad) adLimit → Reached h
-    in-text : h .stream ≡ stateAt start Text (h .ad) (h .text)
-        → (givesText direction ≡ true → h .out ≡ outAt (h .ad) (h .text))
+    in-text : h .stream ≡ stateAt start Text (h .ad) (h .text) → h .out ≡ outAt (h .ad) (h .text)
         → h .rounds ≡ roundsAt row Text (length (h .ad)) (length (h .text)) → Bounded (h .ad) adLimit → Bounded (h .text) limit → Reached h
     over : h .stream ≡ ended → Bounded (h .ad) adLimit → Bounded (h .text) limit → Reached h
 
@@ -202,7 +210,7 @@ module _ (start : Start) (begins : Started ours start) where
     pub limit-is : h .stream .limit ≡ limit
     pub words-is : textWords (h .stream) ≡ wordsOfString (stoodAt (h .ad) (h .text) .state)
     pub rounds-is : h .rounds + closingRounds (h .stream) ≡ roundsAt row Text (length (h .ad)) (length (h .text))
-    pub out-is : givesText direction ≡ true → h .out ≡ outAt (h .ad) (h .text)
+    pub out-is : h .out ≡ outAt (h .ad) (h .text)
     pub ad-bounded : Bounded (h .ad) adLimit
     pub text-bounded : Bounded (h .text) limit
 
@@ -235,13 +243,12 @@ module _ (start : Start) (begins : Started ours start) where
         rounds-is =
             ap₂ (λ (n k : ℕ). n + k) er (ap closingRounds es) ∙ closing-first (h .ad)
             ∙ ap (λ (T : List ℕ). roundsAt row Text (length (h .ad)) (length T)) (sym et);
-        out-is = λ x. eo ∙ ap (λ (T : List ℕ). outAt (h .ad) T) (sym et);
+        out-is = eo ∙ sym (nothing-out (h .ad)) ∙ ap (λ (T : List ℕ). outAt (h .ad) T) (sym et);
         ad-bounded = ab;
         text-bounded = rw et (bounded-none limit);
       }
 
-  open-in-text : (h : History) → h .stream ≡ stateAt start Text (h .ad) (h .text)
-      → (givesText direction ≡ true → h .out ≡ outAt (h .ad) (h .text))
+  open-in-text : (h : History) → h .stream ≡ stateAt start Text (h .ad) (h .text) → h .out ≡ outAt (h .ad) (h .text)
       → h .rounds ≡ roundsAt row Text (length (h .ad)) (length (h .text)) → Bounded (h .ad) adLimit → Bounded (h .text) limit → Ready h
   unfolding stateAt
   open-in-text h es eo er ab tb =
@@ -275,20 +282,27 @@ module _ (start : Start) (begins : Started ours start) where
       let sum : h .rounds + (closingRounds (h .stream) + filledRounds (rowOf (h .stream .set)) (h .stream .text) (length piece)) ≡ roundsAt row Text (length (h .ad)) (length (h .text) + length piece) = omega arith in
       sum ∙ ap (λ (n : ℕ). roundsAt row Text (length (h .ad)) n) (sym (length-append (h .text) piece))
 
-  text-out : (h : History) (call : Call) (piece : List ℕ) → Ready h → givesText direction ≡ true
-      → outOf ours (h .stream) call ≡ given (rowOf (h .stream .set)) way (textWords (h .stream)) (h .stream .text) piece
+  text-out : (h : History) (call : Call) (piece : List ℕ) → Ready h
+      → outOf ours (h .stream) call ≡ cond (givesText direction) (given (rowOf (h .stream .set)) way (textWords (h .stream)) (h .stream .text) piece) []
       → h .out ++ outOf ours (h .stream) call ≡ outAt (h .ad) (h .text ++ piece)
-  text-out h call piece o x e =
-      ap₂ (λ (y z : List ℕ). y ++ z) (o .out-is x)
-      (e
-      ∙ ap (λ (k : ℕ). given (rowOf k) way (textWords (h .stream)) (h .stream .text) piece) (o .set-is)
-      ∙ ap₂ (λ (w : List ℕ) (k : ℕ). given row way w k piece) (o .words-is) (o .text-is))
-      ∙ given-more row fit way (S₁ (h .ad)) (l₁ row fit K N key (begins .key-bytes) (h .ad)) (b₁ row fit K N key (begins .key-bytes) (h .ad)) (h .text) piece (o .text-bounded .bytes)
+  text-out h call piece o e = ap₂ (λ (y z : List ℕ). y ++ z) (o .out-is) e ∙ go (givesText direction)
+    where
+      -- from the place where the text stands
+      before : List ℕ → List ℕ
+      before T = outs (row .block) (p (row .between)) (keepOf way) (at (S₁ (h .ad)) 0) T
+
+      go : (t : Bool) → cond t (before (h .text)) [] ++ cond t (given (rowOf (h .stream .set)) way (textWords (h .stream)) (h .stream .text) piece) [] ≡ cond t (before (h .text ++ piece)) []
+      go true =
+          ap (λ (z : List ℕ). before (h .text) ++ z)
+          (ap (λ (k : ℕ). given (rowOf k) way (textWords (h .stream)) (h .stream .text) piece) (o .set-is)
+          ∙ ap₂ (λ (w : List ℕ) (k : ℕ). given row way w k piece) (o .words-is) (o .text-is))
+          ∙ given-more row fit way (S₁ (h .ad)) (l₁ row fit K N key (begins .key-bytes) (h .ad)) (b₁ row fit K N key (begins .key-bytes) (h .ad)) (h .text) piece (o .text-bounded .bytes)
+      go false = refl
 
   -- a piece of text that is taken
   takes-text : (h : History) (call : Call) (piece : List ℕ) → Ready h → Bytes piece → h .stream .text + length piece ≤ h .stream .limit → adOf call ≡ [] → textOf call ≡ piece
       → reply ours (h .stream) call ≡ tookText (h .stream) (absorbed (rowOf (h .stream .set)) way (textWords (h .stream)) (h .stream .text) piece) (length piece)
-      → (givesText direction ≡ true → outOf ours (h .stream) call ≡ given (rowOf (h .stream .set)) way (textWords (h .stream)) (h .stream .text) piece)
+      → outOf ours (h .stream) call ≡ cond (givesText direction) (given (rowOf (h .stream .set)) way (textWords (h .stream)) (h .stream .text) piece) []
       → Reached (next ours h call)
   unfolding tookText
   takes-text h call piece o pb w ea et er eo =
@@ -307,7 +321,7 @@ module _ (start : Start) (begins : Started ours start) where
         rounds = h .rounds + (closingRounds s + f);
       }) in
       moved (next ours h call) g to
-      (in-text refl (λ x. text-out h call piece o x (eo x)) (text-rounds h piece o) (o .ad-bounded) (bounded-more T piece limit (o .text-bounded) pb (rw (← o .text-is, ← o .limit-is) w)))
+      (in-text refl (text-out h call piece o eo) (text-rounds h piece o) (o .ad-bounded) (bounded-more T piece limit (o .text-bounded) pb (rw (← o .text-is, ← o .limit-is) w)))
 
   -- ---- one call more
 
@@ -353,10 +367,8 @@ module _ (start : Start) (begins : Started ours start) where
       takes-text h (giveText d piece out) piece o pb (ok .within) refl refl
       (reply-done s (giveText d piece out) e
       ∙ ap (λ (x : Direction). tookText s (absorbed (rowOf (s .set)) (wayOf x) (textWords s) (s .text) piece) (length piece)) same-d)
-      (λ y.
-      out-given d s piece out e
-      ∙ ap (λ (x : Direction). cond (givesText x) (given (rowOf (s .set)) (wayOf x) (textWords s) (s .text) piece) []) same-d
-      ∙ ap (λ (t : Bool). cond t (given (rowOf (s .set)) way (textWords s) (s .text) piece) []) y)
+      (out-given d s piece out e
+      ∙ ap (λ (x : Direction). cond (givesText x) (given (rowOf (s .set)) (wayOf x) (textWords s) (s .text) piece) []) same-d)
 
   -- a finish whose test is passed ends the stream, and takes nothing
   ends : (h : History) (d : Direction) (tag : List ℕ) → Reached h → isDone (testOf (h .stream) (finish d tag)) ≡ true → Reached (next ours h (finish d tag))
@@ -372,8 +384,7 @@ module _ (start : Start) (begins : Started ours start) where
       (subst (λ (x : List ℕ). Bounded x limit) (sym same-text) (o .text-bounded))
     where
       nothing : (x : List ℕ) (b : Bool) → x ++ cond b [] [] ≡ x
-      nothing x true = append-nil x
-      nothing x false = append-nil x
+      nothing x b = ap (λ (y : List ℕ). x ++ y) (no-bytes b) ∙ append-nil x
 
   -- no data, no rounds but the start's
   rounds-none : 12 ≡ roundsAt row Ad 0 0
@@ -408,21 +419,21 @@ module _ (start : Start) (begins : Started ours start) where
   pub reached : (calls : List Call) → BytesIn calls → Reached (after ours (begun ours start) calls)
   reached calls b = reach calls b (begun ours start) (in-ad start-state refl refl (start-rounds ∙ rounds-none) (bounded-none adLimit))
 
-  -- what a sealing gave out is the published ciphertext
-  seals : (h : History) → direction ≡ Sealing → outAt (h .ad) (h .text) ≡ sealed row K N (h .ad) (h .text) .cipher
+  -- what a text gave out is published, in each direction
+  out-published : (d : Direction) (A T : List ℕ) → cond (givesText d) (outs (row .block) (p (row .between)) (keepOf (wayOf d)) (at (S₁ A) 0) T) [] ≡ publishedOut d row K N A T
   unfolding sealed
-  seals h x =
-      ap (λ (d : Direction). outs (row .block) (p (row .between)) (keepOf (wayOf d)) (at (S₁ (h .ad)) 0) (h .text)) x
-      ∙ sealed-out row fit K N key (begins .key-bytes) (h .ad) (h .text)
+  out-published Sealing A T = ap (λ (w : Processed). w .out) (processed-view row fit K N key (begins .key-bytes) A Seal T)
+  out-published Checking A T = refl
+  out-published Opening A T = ap (λ (w : Processed). w .out) (processed-view row fit K N key (begins .key-bytes) A Open T)
 
   -- what is reached is told
   pub told : (h : History) → Reached h → Told start h
-  unfolding sealed stateAt
+  unfolding stateAt
   told h (in-ad es et eo er ab) =
       let e : h .stream .phase ≡ Ad = ap (λ (s : Stream). s .phase) es in
       record {
         state = es ∙ ap₂ (λ (phase : Phase) (T : List ℕ). stateAt start phase (h .ad) T) (sym e) (sym et);
-        out = λ o x. eo ∙ ap (λ (T : List ℕ). outAt (h .ad) T) (sym et) ∙ seals h x;
+        out = λ o. eo ∙ sym (nothing-out (h .ad)) ∙ ap (λ (T : List ℕ). outAt (h .ad) T) (sym et) ∙ out-published direction (h .ad) (h .text);
         rounds = λ o. er ∙ ap₂ (λ (phase : Phase) (n : ℕ). roundsAt row phase (length (h .ad)) n) (sym e) (ap length (sym et));
         within = (ab .within, rw et (omega arith));
       }
@@ -430,7 +441,7 @@ module _ (start : Start) (begins : Started ours start) where
       let e : h .stream .phase ≡ Text = ap (λ (s : Stream). s .phase) es in
       record {
         state = es ∙ ap (λ (phase : Phase). stateAt start phase (h .ad) (h .text)) (sym e);
-        out = λ o x. eo (ap givesText x) ∙ seals h x;
+        out = λ o. eo ∙ out-published direction (h .ad) (h .text);
         rounds = λ o. er ∙ ap (λ (phase : Phase). roundsAt row phase (length (h .ad)) (length (h .text))) (sym e);
         within = (ab .within, tb .within);
       }

@@ -4,3 +4,4 @@ pub mod Replies
 pub mod History
 pub mod Accepted
 pub mod Cuts
+pub mod Directions

@@ -10,11 +10,11 @@ use Rattle.answers.specs.Numbers.{isDone}
 use Rattle.permutation.specs.Runs.{roundsOf}
 use Rattle.permutation.specs.Strings.{Bytes, zeros, wordsOfString}
 use Rattle.ascon.specs.Sets.{ParameterSet, rowOf, adLimit}
-use Rattle.ascon.specs.Mode.{p, initialise, beforeText, sealed}
+use Rattle.ascon.specs.Mode.{p, initialise, beforeText, decrypted, sealed}
 use Rattle.ascon.specs.Bytewise.{at, sealing, steps}
 use Rattle.sponge.specs.Sponge.{keepOf}
 use Rattle.stream.specs.declared.Direction.{Direction}
-use Rattle.stream.specs.declared.Direction.the-variants.{Sealing}
+use Rattle.stream.specs.declared.Direction.the-variants.{Sealing, Checking, Opening}
 use Rattle.stream.specs.declared.Phase.{Phase}
 use Rattle.stream.specs.declared.Phase.the-variants.{Ad, Text, Ended}
 use Rattle.stream.specs.declared.Stream.{Stream}
@@ -33,7 +33,8 @@ pub record Streams : Type 0 where
 abbrev pub ours : Streams
 ours = record { start = startCall; ad = adCall; text = textCall; finish = finishCall }
 
--- a call on a stream, with what it is handed; a lent place is what it holds before, and a checking has none, so that what stands there plays no part
+-- a call on a stream, with what it is handed; a lent place is what it holds before. A checking's text call is lent none, so that the second list of its `giveText`
+-- plays no part
 pub data Call : Type 0 where
   giveAd : List ℕ → Call
   giveText : Direction → List ℕ → List ℕ → Call
@@ -143,10 +144,17 @@ roundsAt row Text a t =
     12 + roundsOf (row .between) * (a / row .block) + cond (eqb a 0) 0 (roundsOf (row .between)) + roundsOf (row .between) * (t / row .block)
 roundsAt row Ended a t = 0
 
+-- what a text gives out in a direction, all its pieces joined, by the published definitions: in a sealing its ciphertext; in a checking nothing, since its calls are
+-- lent no place; in an opening its decryption, which is unverified until the finish says done
+abbrev pub publishedOut : Direction → ParameterSet → List ℕ → List ℕ → List ℕ → List ℕ → List ℕ
+publishedOut Sealing row K N A P = sealed row K N A P .cipher
+publishedOut Checking row K N A C = []
+publishedOut Opening row K N A C = decrypted row K N A C .out
+
 -- what holds of a history: its state and its lengths in every phase; its output and its rounds while it is not ended
 pub record Told (start : Start) (h : History) : Type 0 where
   pub state : h .stream ≡ stateAt start (h .stream .phase) (h .ad) (h .text)
-  pub out : isOpen (h .stream .phase) ≡ true → start .direction ≡ Sealing → h .out ≡ sealed (rowOf (start .set)) (start .key) (start .nonce) (h .ad) (h .text) .cipher
+  pub out : isOpen (h .stream .phase) ≡ true → h .out ≡ publishedOut (start .direction) (rowOf (start .set)) (start .key) (start .nonce) (h .ad) (h .text)
   pub rounds : isOpen (h .stream .phase) ≡ true → h .rounds ≡ roundsAt (rowOf (start .set)) (h .stream .phase) (length (h .ad)) (length (h .text))
   pub within : (length (h .ad) ≤ adLimit) × (length (h .text) ≤ start .limit)
 

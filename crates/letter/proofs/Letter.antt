@@ -12,7 +12,7 @@ use Rattle.ascon.proofs.Marks.{runs-marked}
 use Rattle.history.specs.History.{HistoryLaw}
 use Rattle.stream.proofs.Before.{as-before}
 use Rattle.history.proofs.History.{history-law}
-use Rattle.history.proofs.Cuts.{cutting-before}
+use Rattle.history.proofs.Directions.{cutting-before}
 use Rattle.lines.proofs.Laws.{reads-lines}
 use Rattle.record.proofs.Known as record-crate
 use Rattle.record.proofs.Laws.{reads-and-writes}
@@ -33,6 +33,7 @@ use Rattle.letter.proofs.Model.{keeps, of-kept, reported}
 use Rattle.letter.proofs.First.{first-demand}
 use Rattle.letter.proofs.Second.{second-demand}
 use Rattle.letter.proofs.Third.{third-demand}
+use Rattle.letter.proofs.Walk.{second-walk}
 use Rattle.letter.proofs.Worthless.{worthless}
 
 pub letter : Letter
@@ -42,6 +43,7 @@ letter =
       first = first-demand;
       second = second-demand;
       third = third-demand;
+      second-walk = second-walk;
       history = of-kept (λ m. HistoryLaw (m .streams)) history-law;
       third-before = cutting-before;
       streams-before = as-before;

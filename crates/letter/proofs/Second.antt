@@ -51,6 +51,10 @@ module _ (set : ℕ) (K N A P out tag : List ℕ) where
 
 -- ---- opening
 
+-- done is no refusal
+pub unrefused : (answer : Answer) → answer ≡ Done → Unrefused answer
+unrefused answer e r = let none : numberOf answer ≡ 0 = ap numberOf e in omega (arith, r .0, none)
+
 module _ (set : ℕ) (K N A C T out : List ℕ) where
   -- the opening's tests
   test : Answer

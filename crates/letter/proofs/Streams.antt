@@ -19,7 +19,7 @@ use Rattle.ascon.specs.Mode.{p, initialise}
 use Rattle.ascon.proofs.Bytewise.{length-outs}
 use Rattle.sponge.specs.Sponge.{keepOf, frontOf, absorbed, given}
 use Rattle.stream.specs.declared.Direction.{Direction}
-use Rattle.stream.specs.declared.Direction.the-variants.{Sealing, Checking}
+use Rattle.stream.specs.declared.Direction.the-variants.{Sealing, Checking, Opening}
 use Rattle.stream.specs.declared.Stream.{Stream}
 use Rattle.stream.specs.declared.Outcome.{Outcome}
 use Rattle.stream.specs.declared.Phase.the-variants.{Ad, Text}
@@ -39,18 +39,20 @@ one-lent : (t : Bool) (one other : Outcome) (left : List ℕ) → cond t (called
 one-lent true one other left = refl
 one-lent false one other left = refl
 
--- a checking's piece, and its end, leave the place as it is
-check-is : (s : Stream) (piece out : List ℕ) → textCall Checking s piece out ≡ called (textCall Checking s piece [] .outcome) out
+-- a checking's piece leaves the place as it is
+pub check-is : (s : Stream) (piece out : List ℕ) → textCall Checking s piece out ≡ called (textCall Checking s piece [] .outcome) out
 unfolding textCall textTest
 check-is s piece out = one-lent (isDone (textTest Checking s (length piece) (length out))) _ _ out
 
-finish-is : (s : Stream) (tag : List ℕ) → finishCall Checking s tag ≡ called (finishCall Checking s tag .outcome) tag
+-- and so does an end that is given a tag to compare
+finish-is : (d : Direction) → givesTag d ≡ false → (s : Stream) (tag : List ℕ) → finishCall d s tag ≡ called (finishCall d s tag .outcome) tag
 unfolding finishCall
-finish-is s tag = go (isDone (finishTest Checking s (length tag))) _ _
+finish-is d compares s tag = go (isDone (finishTest d s (length tag))) (givesTag d) compares _ _
   where
-    go : (t : Bool) (one other : Outcome) → let leaves = cond t (called one tag) (called other tag) in leaves ≡ called (leaves .outcome) tag
-    go true one other = refl
-    go false one other = refl
+    go : (t gives : Bool) → gives ≡ false → (one other : Outcome) → let leaves = cond t (called one (cond gives (ownTag s) tag)) (called other tag) in leaves ≡ called (leaves .outcome) tag
+    go true true e one other = absurd (false≢true (sym e))
+    go true false e one other = refl
+    go false gives e one other = refl
 
 -- calls that keep the contracts are ours
 pub is-ours : (m : Streams) → Keeps m → m ≡ ours
@@ -66,11 +68,14 @@ is-ours m k =
     texts Sealing s piece out = k .seal-piece s (lent piece) (lent out) (lifetimes 2)
     texts Checking s piece out =
         let h = k .check s (lent piece) out in (λ j. called (h .0 (lifetimes 1) j) (h .1 j)) ∙ sym (check-is s piece out)
+    texts Opening s piece out = k .open-piece s (lent piece) (lent out) (lifetimes 2)
 
     finishes : (d : Direction) (s : Stream) (tag : List ℕ) → m .finish d s tag ≡ finishCall d s tag
     finishes Sealing s tag = k .finish-sealing s (lent tag) (lifetimes 1)
     finishes Checking s tag =
-        let h = k .finish-checking s (lent tag) in (λ j. called (h .0 (lifetimes 1) j) (h .1 j)) ∙ sym (finish-is s tag)
+        let h = k .finish-checking s (lent tag) in (λ j. called (h .0 (lifetimes 1) j) (h .1 j)) ∙ sym (finish-is Checking refl s tag)
+    finishes Opening s tag =
+        let h = k .finish-opening s (lent tag) in (λ j. called (h .0 (lifetimes 1) j) (h .1 j)) ∙ sym (finish-is Opening refl s tag)
 
 -- and ours keep them
 pub keeps : Keeps ours
@@ -80,8 +85,10 @@ keeps =
       ad = λ s piece κ. refl;
       seal-piece = λ s piece out κ. refl;
       check = λ s piece out. let e = check-is s (piece .now) out in (λ κ. ap (λ (c : Called). c .outcome) e, ap (λ (c : Called). c .lent) e);
+      open-piece = λ s piece out κ. refl;
       finish-sealing = λ s tag κ. refl;
-      finish-checking = λ s tag. (λ κ. refl, ap (λ (c : Called). c .lent) (finish-is s (tag .now)));
+      finish-checking = λ s tag. (λ κ. refl, ap (λ (c : Called). c .lent) (finish-is Checking refl s (tag .now)));
+      finish-opening = λ s tag. (λ κ. refl, ap (λ (c : Called). c .lent) (finish-is Opening refl s (tag .now)));
     }
 
 -- each is answered
@@ -93,8 +100,10 @@ every-call =
       stream-ad = answered (λ M. stream.Stream.ad.Met.met) (λ κ a. tt) (λ κ a r e p. p);
       stream-seal = answered (λ M. stream.Stream.seal.Met.met) (λ κ a. tt) (λ κ a r e p. p);
       stream-check = answered (λ M. stream.Stream.check.Met.met) (λ κ a. tt) (λ κ a r e p. p);
+      stream-open = answered (λ M. stream.Stream.«open».Met.met) (λ κ a. tt) (λ κ a r e p. p);
       stream-finish-sealing = answered (λ M. stream.Stream.finish_sealing.Met.met) (λ κ a. tt) (λ κ a r e p. p);
       stream-finish-checking = answered (λ M. stream.Stream.finish_checking.Met.met) (λ κ a. tt) (λ κ a r e p. p);
+      stream-finish-opening = answered (λ M. stream.Stream.finish_opening.Met.met) (λ κ a. tt) (λ κ a r e p. p);
     }
 
 -- ---- what they answer, and what a refusal leaves

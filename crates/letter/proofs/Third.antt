@@ -1,6 +1,7 @@
 -- The third demand: the cut does not matter.
 use Rattle.history.proofs.History.{limited}
-use Rattle.history.proofs.Cuts.{never-refused, past-refused, cutting-does-not-matter}
+use Rattle.history.proofs.Cuts.{never-refused, past-refused}
+use Rattle.history.proofs.Directions.{cutting-does-not-matter}
 use Rattle.letter.specs.Model.{Model, Keeps}
 use Rattle.letter.specs.Third.{Third}
 use Rattle.letter.proofs.Model.{of-kept}

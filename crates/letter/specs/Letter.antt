@@ -30,6 +30,7 @@ use Rattle.letter.specs.Model.{Model, ours, Keeps, Reported}
 use Rattle.letter.specs.First.{First}
 use Rattle.letter.specs.Second.{Second}
 use Rattle.letter.specs.Third.{Third}
+use Rattle.letter.specs.Walk.{SecondWalk}
 use Rattle.letter.specs.Worthless.{Worthless}
 
 pub record Letter : Type 2 where
@@ -39,6 +40,8 @@ pub record Letter : Type 2 where
   pub second : (m : Model) → Keeps m → Second (m .messages)
   -- whether the cut matters
   pub third : (m : Model) → Keeps m → Third (m .streams)
+  -- whether a second walk, which opens, agrees with the first, which checked, and with the opening of the whole message
+  pub second-walk : (m : Model) → Keeps m → SecondWalk m
   -- behind it: after any calls, also refused ones, the state, with its counts, is that of the start, the phase, and what was taken
   pub history : (m : Model) → Keeps m → HistoryLaw (m .streams)
   -- what the third demand said of cuttings before a start chose a limit is its case of the largest one, and so are the tests of a start, of an open state and of text

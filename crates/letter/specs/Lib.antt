@@ -12,6 +12,7 @@ pub mod Model
 pub mod First
 pub mod Second
 pub mod Third
+pub mod Walk
 pub mod Worthless
 pub mod Wrong
 pub mod Letter

@@ -8,7 +8,7 @@ use Rattle.answers.specs.declared.Answer.the-variants.{Done, TagDiffers}
 use Rattle.answers.specs.Order.{first}
 use Rattle.ascon.specs.Sets.{rowOf, adLimit}
 use Rattle.stream.specs.declared.Direction.{Direction}
-use Rattle.stream.specs.declared.Direction.the-variants.{Sealing, Checking}
+use Rattle.stream.specs.declared.Direction.the-variants.{Sealing, Checking, Opening}
 use Rattle.stream.specs.declared.Stream.{Stream}
 use Rattle.stream.specs.declared.Phase.the-variants.{Ad, Text}
 use Rattle.stream.specs.State.{givesTag, isAd, ended}
@@ -19,7 +19,8 @@ use Rattle.letter.specs.Calls.{Answered, Lent, holding, Leaves, Gives, R
 
 -- ---- the calls
 
--- each gives what the contract of the code allows; `check` and `finish_checking` are lent nothing to write, so what the model was handed is what it leaves
+-- each gives what the contract of the code allows; `check`, `finish_checking` and `finish_opening` are lent nothing to write, so what the model was handed is what it
+-- leaves
 pub record Keeps (m : Streams) : Type 0 where
   pub start : (d : Direction) (set limit : ℕ) (key nonce : Lent)
       → Gives stream.Stream.start.Reads.Learnt (d, (set, (limit, (key, (nonce, tt)))))
@@ -29,10 +30,14 @@ pub record Keeps (m : Streams) : Type 0 where
       Leaves stream.Stream.seal.Reads.Learnt (s, (piece, (out, tt))) (leaves .outcome) (s, (piece, (holding out (leaves .lent), tt)))
   pub check : (s : Stream) (piece : Lent) (out : List ℕ) → let leaves = m .text Checking s (piece .now) out in
       Gives stream.Stream.check.Reads.Learnt (s, (piece, tt)) (leaves .outcome) × (leaves .lent ≡ out)
+  pub open-piece : (s : Stream) (piece out : Lent) → let leaves = m .text Opening s (piece .now) (out .now) in
+      Leaves stream.Stream.«open».Reads.Learnt (s, (piece, (out, tt))) (leaves .outcome) (s, (piece, (holding out (leaves .lent), tt)))
   pub finish-sealing : (s : Stream) (tag : Lent) → let leaves = m .finish Sealing s (tag .now) in
       Leaves stream.Stream.finish_sealing.Reads.Learnt (s, (tag, tt)) (leaves .outcome) (s, (holding tag (leaves .lent), tt))
   pub finish-checking : (s : Stream) (tag : Lent) → let leaves = m .finish Checking s (tag .now) in
       Gives stream.Stream.finish_checking.Reads.Learnt (s, (tag, tt)) (leaves .outcome) × (leaves .lent ≡ tag .now)
+  pub finish-opening : (s : Stream) (tag : Lent) → let leaves = m .finish Opening s (tag .now) in
+      Gives stream.Stream.finish_opening.Reads.Learnt (s, (tag, tt)) (leaves .outcome) × (leaves .lent ≡ tag .now)
 
 -- each public call, and its one outcome
 pub record EveryCall : Type 2 where
@@ -46,10 +51,14 @@ pub record EveryCall : Type 2 where
       (λ r (s, (piece, (out, _))). called r (out .now)) (λ (s, (piece, (out, _))). textCall Sealing s (piece .now) (out .now))
   pub stream-check : Answered stream.Stream.check.Statement.statement stream.Stream.check.Reads.Asked stream.Stream.check.Reads.Learnt
       (λ r e. r) (λ (s, (piece, _)). textCall Checking s (piece .now) [] .outcome)
+  pub stream-open : Answered stream.Stream.«open».Statement.statement stream.Stream.«open».Reads.Asked stream.Stream.«open».Reads.Learnt
+      (λ r (s, (piece, (out, _))). called r (out .now)) (λ (s, (piece, (out, _))). textCall Opening s (piece .now) (out .now))
   pub stream-finish-sealing : Answered stream.Stream.finish_sealing.Statement.statement stream.Stream.finish_sealing.Reads.Asked stream.Stream.finish_sealing.Reads.Learnt
       (λ r (s, (tag, _)). called r (tag .now)) (λ (s, (tag, _)). finishCall Sealing s (tag .now))
   pub stream-finish-checking : Answered stream.Stream.finish_checking.Statement.statement stream.Stream.finish_checking.Reads.Asked stream.Stream.finish_checking.Reads.Learnt
       (λ r e. r) (λ (s, (tag, _)). finishCall Checking s (tag .now) .outcome)
+  pub stream-finish-opening : Answered stream.Stream.finish_opening.Statement.statement stream.Stream.finish_opening.Reads.Asked stream.Stream.finish_opening.Reads.Learnt
+      (λ r e. r) (λ (s, (tag, _)). finishCall Opening s (tag .now) .outcome)
 
 -- ---- what they answer
 

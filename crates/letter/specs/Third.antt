@@ -4,8 +4,9 @@ use Rattle.history.specs.Cuts.{CuttingDoesNotMatter}
 
 -- In `history/specs/Cuts.antt`, in the order of the demand: `Message` is a message and a cutting of it (`Cut`) on a stream as a done start gives it, its data within
 -- the limit of data and its text within the limit that the start chose, with room for each piece, empty pieces, and calls refused with 4 to 8 in between;
--- `SealedWhole` is the joined output, the tag and the sum of the rounds; `CheckedWhole` is a checking's yes and the sum of its rounds; `states` says that two
--- cuttings of one start hold equal states.
+-- `Whole` is the end of it in any direction: the joined output, the answer of the finish under every tag, the tag, the sum of the rounds and the ended state.
+-- `SealedWhole`, `CheckedWhole` and `OpenedWhole` say it of each direction in the demand's own words: what is sealed; when a checking says yes; what an opening hands
+-- out, unverified until its finish, and when that finish says yes. `states` says that two cuttings of one start hold equal states.
 pub record Third (m : Streams) : Type 0 where
   pub cutting : CuttingDoesNotMatter m
   -- and there are such cuttings: a piece in its phase and direction, within the limits and with room, is always taken

@@ -1,20 +1,23 @@
 -- Worthless versions, and what each of them breaks. A version is any model that does what is said of it, whatever else it does.
+use mathlib.Core.Bool.{true, false}
 use mathlib.Core.List.{List, [], _∷_}
 use mathlib.Core.Path.{_≡_}
 use Prim.Native.Nat.{ℕ, _+_, _≤_, _<_}
 use lib.ListN.{length, getD, take}
-use Rattle.answers.specs.declared.Answer.the-variants.{Done}
+use Rattle.answers.specs.declared.Answer.the-variants.{Done, TagDiffers}
 use Rattle.permutation.specs.Strings.{Bytes}
 use Rattle.ascon.specs.Sets.{rowOf}
 use Rattle.ascon.specs.Mode.{sealed}
 use Rattle.stream.specs.declared.Direction.{Direction}
-use Rattle.stream.specs.declared.Direction.the-variants.{Sealing, Checking}
+use Rattle.stream.specs.declared.Direction.the-variants.{Sealing}
 use Rattle.stream.specs.declared.Phase.the-variants.{Ended}
 use Rattle.stream.specs.declared.Stream.{Stream}
+use Rattle.stream.specs.State.{givesText, givesTag, isOpen}
 use Rattle.stream.specs.Calls.{Start}
-use Rattle.history.specs.History.{Streams, Call, begun, after}
+use Rattle.history.specs.History.{Streams, Call, begun, after, Started}
 use Rattle.history.specs.Cuts.{Message}
 use Rattle.message.specs.Message.{SealLeaves}
+use Rattle.letter.specs.Calls.{Through}
 use Rattle.letter.specs.Messages as messages
 use Rattle.letter.specs.Streams as streams
 use Rattle.letter.specs.Second.{Unrefused, Second}
@@ -43,20 +46,31 @@ Copies m = (set : ℕ) (K N A P out tag : List ℕ) → let leaves = m .seal set
 abbrev pub CopiesOpenings : messages.Model → Type 0
 CopiesOpenings m = (set : ℕ) (K N A C T out : List ℕ) → let leaves = m .unseal set K N A C T out in leaves .outcome .answer ≡ Done → take (length C) (leaves .out) ≡ C
 
--- once it has taken some text, copies every later piece, whatever it does with the first
-abbrev pub CopiesLater : Streams → Type 0
-CopiesLater m =
-    (start : Start) (calls : List Call) (piece out : List ℕ) → start .direction ≡ Sealing → let before = after m (begun m start) calls in
-    let leaves = m .text Sealing (before .stream) piece out in
+-- in a direction, once it has taken some text, copies every later piece, whatever it does with the first
+abbrev pub CopiesLater : Streams → Direction → Type 0
+CopiesLater m d =
+    (start : Start) (calls : List Call) (piece out : List ℕ) → start .direction ≡ d → let before = after m (begun m start) calls in
+    let leaves = m .text d (before .stream) piece out in
     (before .text ≡ [] → ⊥) → leaves .outcome .answer ≡ Done → take (length piece) (leaves .lent) ≡ piece
 
--- takes an empty piece of text for the end of the message
-abbrev pub EmptyEnds : Streams → Type 0
-EmptyEnds m = (s : Stream) (out : List ℕ) → let outcome = m .text Sealing s [] out .outcome in outcome .answer ≡ Done → outcome .next .phase ≡ Ended
+-- leaves what it is lent as it was at the first piece of one message, whatever that is: an opening that hands out nothing until the finish is such
+abbrev pub HoldsBack : Streams → Start → List ℕ → Type 0
+HoldsBack m start piece = (out : List ℕ) → m .text (start .direction) (m .start start .next) piece out .lent ≡ out
 
--- counts no text, and so has no limit
-abbrev pub ForgetsText : Streams → Type 0
-ForgetsText m = (s : Stream) (piece out : List ℕ) → let outcome = m .text Sealing s piece out .outcome in outcome .answer ≡ Done → outcome .next .text ≡ 0
+-- takes one piece, or one finish, for a stream of another direction
+abbrev pub CrossesText : Streams → Direction → Stream → List ℕ → List ℕ → Type 0
+CrossesText m d s piece out = (s .direction ≡ d → ⊥) × (m .text d s piece out .outcome .answer ≡ Done)
+
+abbrev pub CrossesFinish : Streams → Direction → Stream → List ℕ → Type 0
+CrossesFinish m d s tag = (s .direction ≡ d → ⊥) × Through (m .finish d s tag .outcome .answer)
+
+-- in a direction, takes an empty piece of text for the end of the message
+abbrev pub EmptyEnds : Streams → Direction → Type 0
+EmptyEnds m d = (s : Stream) (out : List ℕ) → let outcome = m .text d s [] out .outcome in outcome .answer ≡ Done → outcome .next .phase ≡ Ended
+
+-- in a direction, counts no text, and so has no limit
+abbrev pub ForgetsText : Streams → Direction → Type 0
+ForgetsText m d = (s : Stream) (piece out : List ℕ) → let outcome = m .text d s piece out .outcome in outcome .answer ≡ Done → outcome .next .text ≡ 0
 
 -- takes one piece of text past a stream's limit, in some direction
 abbrev pub PassesLimit : Streams → Direction → Stream → List ℕ → List ℕ → Type 0
@@ -70,10 +84,11 @@ ForgetsLimit m d s piece out = let outcome = m .text d s piece out .outcome in (
 abbrev pub OpensAnyTag : messages.Model → ℕ → List ℕ → List ℕ → List ℕ → List ℕ → List ℕ → Type 0
 OpensAnyTag m set K N A C out = (T : List ℕ) → length T ≡ rowOf set .key → m .unseal set K N A C T out .outcome .answer ≡ Done
 
--- after one cut message, says yes to every tag of the set's length, whatever else its finish refuses
-abbrev pub AgreesToAnyTag : Streams → Start → List Call → Type 0
-AgreesToAnyTag m start calls =
-    (tag : List ℕ) → length tag ≡ rowOf (start .set) .key → m .finish Checking (after m (begun m start) calls .stream) tag .outcome .answer ≡ Done
+-- after one cut message, says done to two tags
+abbrev pub AgreesToTwo : Streams → Start → List Call → List ℕ → List ℕ → Type 0
+AgreesToTwo m start calls tag other =
+    let finish = m .finish (start .direction) (after m (begun m start) calls .stream) in
+    (tag ≡ other → ⊥) × (finish tag .outcome .answer ≡ Done) × (finish other .outcome .answer ≡ Done)
 
 -- reports the same rounds for every message; for every start, every piece of text and every finish
 abbrev pub SameRounds : messages.Model → ℕ → Type 0
@@ -89,14 +104,21 @@ SameStreamRounds m start text finish =
 abbrev pub ReportsLate : Streams → Type 0
 ReportsLate m = (start : Start) → m .start start .rounds ≡ 0
 
--- finishes, and leaves the stream as it was
-abbrev pub StaysOpen : Streams → Type 0
-StaysOpen m = (s : Stream) (tag : List ℕ) → let outcome = m .finish Sealing s tag .outcome in outcome .answer ≡ Done → outcome .next ≡ s
+-- finishes one stream, with done or 9, and leaves it open
+abbrev pub StaysOpen : Streams → Direction → Stream → List ℕ → Type 0
+StaysOpen m d s tag = let outcome = m .finish d s tag .outcome in Through (outcome .answer) × (isOpen (outcome .next .phase) ≡ true)
+
+-- says one 9, and leaves the stream open, or reports no round
+abbrev pub OpenOnNine : Streams → Direction → Stream → List ℕ → Type 0
+OpenOnNine m d s tag = let outcome = m .finish d s tag .outcome in (outcome .answer ≡ TagDiffers) × (isOpen (outcome .next .phase) ≡ true)
+
+abbrev pub SilentNine : Streams → Direction → Stream → List ℕ → Type 0
+SilentNine m d s tag = let outcome = m .finish d s tag .outcome in (outcome .answer ≡ TagDiffers) × (outcome .rounds ≡ 0)
 
 -- changes a byte behind one piece of text, which the third demand does not see
-abbrev pub WritesBeyond : Streams → Stream → List ℕ → List ℕ → ℕ → Type 0
-WritesBeyond m s piece out index =
-    let leaves = m .text Sealing s piece out in
+abbrev pub WritesBeyond : Streams → Direction → Stream → List ℕ → List ℕ → ℕ → Type 0
+WritesBeyond m d s piece out index =
+    let leaves = m .text d s piece out in
     (leaves .outcome .answer ≡ Done) × (length piece ≤ index) × (getD (leaves .lent) index 0 ≡ getD out index 0 → ⊥)
 
 -- ---- what they break
@@ -107,6 +129,8 @@ pub record Worthless : Type 0 where
   pub refuses-openings : (m : messages.Model) → NeverOpens m → messages.Listed m → ⊥
   pub refuses-streams : (m : Streams) → NeverStarts m → streams.Listed m → ⊥
   pub passes-limit : (m : Streams) (d : Direction) (s : Stream) (piece out : List ℕ) → PassesLimit m d s piece out → streams.Listed m → ⊥
+  pub crosses-text : (m : Streams) (d : Direction) (s : Stream) (piece out : List ℕ) → CrossesText m d s piece out → streams.Listed m → ⊥
+  pub crosses-finish : (m : Streams) (d : Direction) (s : Stream) (tag : List ℕ) → CrossesFinish m d s tag → streams.Listed m → ⊥
   -- the second demand, once it is done with a text that is not empty
   pub answers-same : (m : messages.Model) (same : ℕ → ℕ → ℕ → ℕ → ℕ → List ℕ → List ℕ → SealLeaves) → SealsBlindly m same
       → (set : ℕ) (K N A : List ℕ) (byte : ℕ) (rest out tag : List ℕ) → Bytes (byte ∷ rest) → length K ≡ rowOf set .key
@@ -121,16 +145,24 @@ pub record Worthless : Type 0 where
       let answer = m .unseal set K N A (published .cipher) (published .tag) out .outcome .answer in
       Unrefused answer → (answer ≡ Done → ⊥) → Second m → ⊥
   -- the third demand; the listed conditions only say which calls are done
-  pub copies-later : (m : Streams) → CopiesLater m → streams.Listed m → Third m → ⊥
-  pub ends-early : (m : Streams) → EmptyEnds m → streams.Listed m → Third m → ⊥
-  pub forgets : (m : Streams) → ForgetsText m → streams.Listed m → Third m → ⊥
-  pub says-yes : (m : Streams) (start : Start) (A C : List ℕ) (calls : List Call) → length (start .key) ≡ rowOf (start .set) .key → start .direction ≡ Checking
-      → Message m start A C calls → AgreesToAnyTag m start calls → Third m → ⊥
+  pub copies-later : (m : Streams) (d : Direction) → givesText d ≡ true → CopiesLater m d → streams.Listed m → Third m → ⊥
+  pub ends-early : (m : Streams) (d : Direction) → givesText d ≡ true → EmptyEnds m d → streams.Listed m → Third m → ⊥
+  pub forgets : (m : Streams) (d : Direction) → givesText d ≡ true → ForgetsText m d → streams.Listed m → Third m → ⊥
   pub makes-up-streams : (m : Streams) (start text finish : ℕ) → SameStreamRounds m start text finish → streams.Listed m → Third m → ⊥
+  -- the third demand, for every start in a direction that has an output, and every first piece that it can take
+  pub holds-back : (m : Streams) (start : Start) (byte : ℕ) (rest : List ℕ) → let piece = byte ∷ rest in
+      givesText (start .direction) ≡ true → Started m start → length (start .key) ≡ rowOf (start .set) .key → Bytes piece → length piece ≤ start .limit
+      → HoldsBack m start piece → Third m → ⊥
+  -- the third demand, after every cut message, in a direction that compares tags
+  pub says-yes : (m : Streams) (start : Start) (A C : List ℕ) (calls : List Call) (tag other : List ℕ) → givesTag (start .direction) ≡ false
+      → Message m start A C calls → AgreesToTwo m start calls tag other → Third m → ⊥
   -- what a call has to report and leave; the listed conditions only say which calls are done
   pub makes-up : (m : messages.Model) (n : ℕ) → SameRounds m n → messages.Listed m → messages.Reported m → ⊥
   pub reports-late : (m : Streams) → ReportsLate m → streams.Listed m → streams.Reported m → ⊥
-  pub stays-open : (m : Streams) → StaysOpen m → streams.Listed m → streams.Reported m → ⊥
+  pub silent-nine : (m : Streams) (d : Direction) (s : Stream) (tag : List ℕ) → SilentNine m d s tag → streams.Reported m → ⊥
+  -- what a mismatch has to leave
+  pub open-on-nine : (m : Streams) (d : Direction) (s : Stream) (tag : List ℕ) → OpenOnNine m d s tag → streams.Mismatch m → ⊥
   -- what a call has to leave
   pub forgets-limit : (m : Streams) (d : Direction) (s : Stream) (piece out : List ℕ) → ForgetsLimit m d s piece out → streams.Reported m → ⊥
-  pub writes-beyond : (m : Streams) (s : Stream) (piece out : List ℕ) (index : ℕ) → WritesBeyond m s piece out index → streams.Reported m → ⊥
+  pub stays-open : (m : Streams) (d : Direction) (s : Stream) (tag : List ℕ) → StaysOpen m d s tag → streams.Reported m → ⊥
+  pub writes-beyond : (m : Streams) (d : Direction) (s : Stream) (piece out : List ℕ) (index : ℕ) → WritesBeyond m d s piece out index → streams.Reported m → ⊥

@@ -53,11 +53,11 @@ const DATA: [u64; 10] = [
 ];
 
 // How many starts, walks and states are tried.
-const STARTS: usize = 560;
+const STARTS: usize = 840;
 
-const WALKS: usize = 400;
+const WALKS: usize = 600;
 
-const STATES: usize = 2400;
+const STATES: usize = 3600;
 
 // What a call gave, and what its lent place then holds, mixed.
 struct Called {
@@ -85,12 +85,15 @@ fn first_of(s: &[u8], n: usize) -> &[u8] {
     &s[..0]
 }
 
-// A direction by its number, 0 or 1.
+// A direction by its number, 0 to 2.
 fn direction_of(n: usize) -> Direction {
     if n == 0 {
         return Direction::Sealing;
     }
-    Direction::Checking
+    if n == 1 {
+        return Direction::Checking;
+    }
+    Direction::Opening
 }
 
 // The number of a direction.
@@ -98,6 +101,7 @@ fn direction_number(direction: Direction) -> u64 {
     match direction {
         Direction::Sealing => 0,
         Direction::Checking => 1,
+        Direction::Opening => 2,
     }
 }
 
@@ -205,12 +209,25 @@ fn seal(stream: Stream, piece: &[u8]) -> Called {
     }
 }
 
+// An opening of a piece, with room for 255 bytes.
+fn open(stream: Stream, piece: &[u8]) -> Called {
+    let mut out = [90u8; 255];
+    let outcome = stream.open(piece, &mut out);
+    Called {
+        outcome,
+        lent: mixed_bytes(&out),
+    }
+}
+
 // The text call of a direction.
 fn text(direction: usize, stream: Stream, piece: &[u8]) -> Called {
     if direction == 0 {
         return seal(stream, piece);
     }
-    placeless(stream.check(piece))
+    if direction == 1 {
+        return placeless(stream.check(piece));
+    }
+    open(stream, piece)
 }
 
 // A stream with its direction changed to sealing.
@@ -238,17 +255,27 @@ fn combine_first(s: &mut [u8], byte: u8) {
     }
 }
 
-// The finish of a direction, with a place for the tag: a checking is given the tag that its words would be sealed with, its first byte combined with `change`.
-fn finish_with(direction: usize, stream: Stream, tag: &mut [u8], change: u8) -> Called {
-    let outcome = as_sealing(stream).finish_sealing(tag);
-    if direction == 0 {
-        return Called {
-            outcome,
-            lent: mixed_bytes(tag),
-        };
+// The finish of a sealing, with a place for the tag.
+fn finish_sealing(stream: Stream, tag: &mut [u8]) -> Called {
+    let outcome = stream.finish_sealing(tag);
+    Called {
+        outcome,
+        lent: mixed_bytes(tag),
     }
+}
+
+// The finish of a direction, with a place for the tag: a checking or an opening is given the tag that its words would be sealed with, its first byte combined with
+// `change`.
+fn finish_with(direction: usize, stream: Stream, tag: &mut [u8], change: u8) -> Called {
+    if direction == 0 {
+        return finish_sealing(stream, tag);
+    }
+    as_sealing(stream).finish_sealing(tag);
     combine_first(tag, change);
-    placeless(stream.finish_checking(tag))
+    if direction == 1 {
+        return placeless(stream.finish_checking(tag));
+    }
+    placeless(stream.finish_opening(tag))
 }
 
 // The finish of a direction, with a tag of the set's length.
@@ -274,7 +301,7 @@ fn told(c: Called) -> Stream {
 
 // The k-th start, ten to a line: by its limit, the lengths of nonce and key, which are those of set 1 or 2, its set or a number that no set has, and its direction.
 fn try_start(k: usize, key: &[u8], nonce: &[u8]) {
-    let direction = k / 280 % 2;
+    let direction = k / 280 % 3;
     let set = SETS[k / 40 % 7];
     let key = first_of(key, sets::key_length((k / 20 % 2) as u64 + 1));
     let nonce = first_of(nonce, sets::key_length((k / 10 % 2) as u64 + 1));
@@ -340,7 +367,7 @@ fn walk_from(direction: usize, begun: Stream, walk: usize, l: usize, bytes: &[u8
 
 // The k-th walk: by its number, its limit, which is one of the first five, its set and its direction.
 fn try_walk(k: usize, key: &[u8], nonce: &[u8], bytes: &[u8]) {
-    let direction = k / 200 % 2;
+    let direction = k / 200 % 3;
     let set = (k / 50 % 4) as u64 + 1;
     let limit = LIMITS[k / 10 % 5];
     let length = sets::key_length(set);
@@ -375,8 +402,14 @@ fn two_then_one(direction: usize, s: Stream, bytes: &[u8]) -> Called {
     text(direction, o.next, first_of(bytes, 1))
 }
 
-// The answers to calls on a state, and all that they gave, mixed: a byte of data; no byte of text, one, two, and 65,537; a byte behind two; a byte of text for
-// the other direction; the finish.
+// What the calls of another direction gave, behind the mixture: a byte of text, and the finish.
+fn try_other(mixture: u64, direction: usize, s: Stream, bytes: &[u8]) -> u64 {
+    let one = told_in(mixture, text(direction, s, first_of(bytes, 1)));
+    told_in(one, finish(direction, s, 0))
+}
+
+// The answers to calls on a state, and all that they gave, mixed: a byte of data; no byte of text, one, two, and 65,537; a byte behind two; the finish with the
+// right tag and with another; a byte of text and the finish for each of the other directions.
 fn try_calls(direction: usize, s: Stream, bytes: &[u8]) {
     io::write_all(STDOUT_FILENO, b" ");
     let data = told_in(0, placeless(s.ad(first_of(bytes, 1))));
@@ -385,8 +418,11 @@ fn try_calls(direction: usize, s: Stream, bytes: &[u8]) {
     let two = told_in(one, text(direction, s, first_of(bytes, 2)));
     let far = told_in(two, text(direction, s, first_of(bytes, 65537)));
     let behind = told_in(far, two_then_one(direction, s, bytes));
-    let other = told_in(behind, text(1 - direction % 2, s, first_of(bytes, 1)));
-    say_word(b",", told_in(other, finish(direction, s, 0)));
+    let right = told_in(behind, finish(direction, s, 0));
+    let wrong = told_in(right, finish(direction, s, 1));
+    let next = try_other(wrong, (direction % 3 + 1) % 3, s, bytes);
+    let last = try_other(next, (direction % 3 + 2) % 3, s, bytes);
+    say_word(b",", last);
 }
 
 // The place in its block of the next byte behind a count.
@@ -426,7 +462,7 @@ fn state_of(direction: usize, set: u64, phase: usize, limit: u64, count: u64) ->
 
 // The k-th state, ten to a line: by its count, its limit, its phase, its set and its direction.
 fn try_state(k: usize, bytes: &[u8]) {
-    let direction = k / 1200 % 2;
+    let direction = k / 1200 % 3;
     let set = (k / 300 % 4) as u64 + 1;
     let phase = k / 100 % 3;
     let limit = LIMITS[k / 10 % 10];

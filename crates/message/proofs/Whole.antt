@@ -1,5 +1,5 @@
 -- The sponge over a whole message gives the published text and tag, in either direction.
-use mathlib.Core.Path.{_≡_, sym, ap, ap₂, _∙_}
+use mathlib.Core.Path.{_≡_, ap, ap₂, _∙_}
 use mathlib.Core.List.{List, [], _++_}
 use Prim.Native.Nat.{ℕ, _-_, _≤_}
 use lib.ListN.{length, drop}
@@ -7,21 +7,13 @@ use lib.Seq.{take-at}
 use borrow.Author.Tests.{le-leb}
 use Rattle.permutation.specs.Strings.{Bytes, wordsOfString, zeros}
 use Rattle.ascon.specs.Sets.{ParameterSet}
-use Rattle.ascon.specs.Mode.{p, Processed, initialise, beforeText, finalise}
-use Rattle.ascon.proofs.Views.{streamed}
-use Rattle.ascon.proofs.Sealing.{Fits, encrypted-view, decrypted-view}
+use Rattle.ascon.specs.Mode.{Processed, initialise, beforeText, finalise}
+use Rattle.ascon.proofs.Sealing.{Fits}
 use Rattle.sponge.specs.declared.Way.{Way}
-use Rattle.sponge.specs.declared.Way.the-variants.{Seal, Open}
-use Rattle.sponge.specs.Sponge.{keepOf, started, absorbed, crypted, cryptedOf, adClosed, tagOf}
-use Rattle.sponge.proofs.Fronts.{stood, absorbed-more, given-more, tag-is, l₀, b₀, closed-is, l₁, b₁}
+use Rattle.sponge.specs.declared.Way.the-variants.{Seal}
+use Rattle.sponge.specs.Sponge.{processed, started, absorbed, crypted, cryptedOf, adClosed, tagOf}
+use Rattle.sponge.proofs.Fronts.{stood, absorbed-more, given-more, tag-is, l₀, b₀, closed-is, l₁, b₁, processed-view}
 use Rattle.permutation.proofs.Strings.{bytes-none}
-use Rattle.message.specs.Message.{processed}
-
--- byte by byte is block by block, in either direction
-processed-view : (row : ParameterSet) (fits : Fits row) (K N : List ℕ) (key : length K ≡ row .key) (way : Way) (A X : List ℕ)
-    → streamed (row .block) (p (row .between)) (keepOf way) (beforeText row K N A) X ≡ processed way row K N A X
-processed-view row fits K N key Seal A X = sym (encrypted-view row fits K key N A X)
-processed-view row fits K N key Open A X = sym (decrypted-view row fits K key N A X)
 
 module _ (row : ParameterSet) (fits : Fits row) (K N : List ℕ) (key : length K ≡ row .key) (nonce : length N ≡ row .key) (kb : Bytes K) where
   -- the start
@@ -51,11 +43,11 @@ module _ (row : ParameterSet) (fits : Fits row) (K N : List ℕ) (key : length K
         (ap₂ (λ (w o : List ℕ). crypted w (o ++ drop (length X) out))
         (absorbed-more row fits way (beforeText row K N A) (l₁ row fits K N key kb A) (b₁ row fits K N key kb A) [] X bytes-none)
         (given-more row fits way (beforeText row K N A) (l₁ row fits K N key kb A) (b₁ row fits K N key kb A) [] X bytes-none
-        ∙ ap (λ (w : Processed). w .out) (processed-view row fits K N key way A X)))
+        ∙ ap (λ (w : Processed). w .out) (processed-view row fits K N key kb A way X)))
 
     -- the tag
     pub tagged-is : Bytes X → tagOf row (wordsOfString end) (length X) (K ++ zeros (16 - length K)) ≡ finalise row K (processed way row K N A X .state)
     tagged-is xb =
         tag-is row fits way (beforeText row K N A) (l₁ row fits K N key kb A) (b₁ row fits K N key kb A) X (K ++ zeros (16 - length K)) xb
         ∙ ap₂ (λ (k s : List ℕ). finalise row k s) (take-at K (zeros (16 - length K)) (row .key) key)
-        (ap (λ (w : Processed). w .state) (processed-view row fits K N key way A X))
+        (ap (λ (w : Processed). w .state) (processed-view row fits K N key kb A way X))

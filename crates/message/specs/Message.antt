@@ -9,12 +9,10 @@ use Rattle.answers.specs.declared.Answer.{Answer}
 use Rattle.answers.specs.declared.Answer.the-variants.{Done, TagLength, PastLimit, NoRoom, TagDiffers}
 use Rattle.answers.specs.Numbers.{isDone}
 use Rattle.answers.specs.Order.{Choice, _when_, first}
-use Rattle.ascon.specs.Sets.{ParameterSet, rowOf, adLimit, textLimit}
+use Rattle.ascon.specs.Sets.{rowOf, adLimit, textLimit}
 use Rattle.permutation.specs.Strings.{zeros}
-use Rattle.ascon.specs.Mode.{Processed, encrypted, decrypted, sealed, opened}
+use Rattle.ascon.specs.Mode.{sealed, opened}
 use Rattle.ascon.specs.Rounds.{messageRounds}
-use Rattle.sponge.specs.declared.Way.{Way}
-use Rattle.sponge.specs.declared.Way.the-variants.{Seal, Open}
 use Rattle.sets.specs.Start.{startFaults}
 use Rattle.message.specs.declared.Outcome.{Outcome}
 
@@ -86,10 +84,3 @@ openCall set K N A C T out =
     let answer = messageTest set (length K) (length N) (length T) (length A) (length C) (length out) in
     cond (isDone answer) (judged (opened (rowOf set) K N A C T) (messageRounds (rowOf set) (length A) (length C)) (length C) out)
     (openLeaves (record { answer = answer; rounds = 0 }) out)
-
--- ---- inside
-
--- the text and the state after it, in a direction
-abbrev pub processed : Way → ParameterSet → List ℕ → List ℕ → List ℕ → List ℕ → Processed
-processed Seal = encrypted
-processed Open = decrypted

@@ -7,7 +7,8 @@ ghost use lib.ListN.{length, drop};
 ghost use Rattle.ascon.specs.Sets.{rowOf, adLimit, textLimit};
 ghost use Rattle.permutation.specs.Strings.{zeros};
 ghost use Rattle.ascon.specs.Mode.{finalise};
-ghost use Rattle.message.specs.Message.{processed, messageTest, sealLeaves, sealCall, openLeaves, openCall};
+ghost use Rattle.sponge.specs.Sponge.{processed};
+ghost use Rattle.message.specs.Message.{messageTest, sealLeaves, sealCall, openLeaves, openCall};
 use answers::Answer;
 use sponge::Way;
 

@@ -8,14 +8,14 @@ use lib.ListN.{length, take}
 use borrow.Author.Tests.{ne-eqb}
 use Rattle.permutation.specs.Strings.{Bytes, wordsOfString}
 use Rattle.ascon.specs.Sets.{ParameterSet}
-use Rattle.ascon.specs.Mode.{p, initialise, separate, beforeText, encrypted, decrypted, finalise, Processed}
-use Rattle.ascon.specs.Bytewise.{At, at, sealing, opening, closed, steps, outs}
+use Rattle.ascon.specs.Mode.{p, initialise, separate, beforeText, finalise}
+use Rattle.ascon.specs.Bytewise.{At, at, sealing, closed, steps, outs}
 use Rattle.ascon.proofs.Bytewise.{steps-append, outs-append, steps-place, length-steps, bytes-steps}
 use Rattle.ascon.proofs.Sealing.{Fits, length-p, bytes-p, length-initialise, bytes-initialise, length-before, bytes-before, encrypted-view, decrypted-view}
-use Rattle.ascon.proofs.Views.{ad-view}
+use Rattle.ascon.proofs.Views.{streamed, ad-view}
 use Rattle.sponge.specs.declared.Way.{Way}
 use Rattle.sponge.specs.declared.Way.the-variants.{Seal, Open}
-use Rattle.sponge.specs.Sponge.{keepOf, frontOf, absorbed, given, adClosed, tagOf}
+use Rattle.sponge.specs.Sponge.{keepOf, processed, frontOf, absorbed, given, adClosed, tagOf}
 use Rattle.sponge.proofs.Words.{string-view}
 
 -- a direction keeps a byte
@@ -91,13 +91,7 @@ module _ (row : ParameterSet) (fits : Fits row) (K N : List ℕ) (key : length K
     pub b₁ : Bytes S₁
     b₁ = bytes-before row fits K key N A kb
 
-    -- a sealing's bytes are the published ciphertext, and its end the published state
-    pub sealed-out : (T : List ℕ) → outs (row .block) (p (row .between)) sealing (at S₁ 0) T ≡ encrypted row K N A T .out
-    sealed-out T = ap (λ (w : Processed). w .out) (sym (encrypted-view row fits K key N A T))
-
-    pub sealed-end : (T : List ℕ) → closed (steps (row .block) (p (row .between)) sealing (at S₁ 0) T) ≡ encrypted row K N A T .state
-    sealed-end T = ap (λ (w : Processed). w .state) (sym (encrypted-view row fits K key N A T))
-
-    -- so is a checking's end
-    pub checked-end : (C : List ℕ) → closed (steps (row .block) (p (row .between)) opening (at S₁ 0) C) ≡ decrypted row K N A C .state
-    checked-end C = ap (λ (w : Processed). w .state) (sym (decrypted-view row fits K key N A C))
+    -- byte by byte is block by block, either way: the bytes that go out are the published text's, and the end is the published state
+    pub processed-view : (way : Way) (T : List ℕ) → streamed (row .block) (p (row .between)) (keepOf way) S₁ T ≡ processed way row K N A T
+    processed-view Seal T = sym (encrypted-view row fits K key N A T)
+    processed-view Open T = sym (decrypted-view row fits K key N A T)

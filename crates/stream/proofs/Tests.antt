@@ -23,7 +23,7 @@ use Rattle.sets.proofs.Start.{StartPassed, start-passed}
 use Rattle.stream.specs.State.{rankOf, isDirection, givesText, isAd, isOpen, fits, allZero, isSound}
 use Rattle.stream.specs.Calls.{filledRounds, closingRounds, limitedStartTest, pieceFaults, pieceTest, textFaults, textTest, finishFaults, finishTest}
 use Rattle.stream.specs.declared.Direction.{Direction}
-use Rattle.stream.specs.declared.Direction.the-variants.{Sealing, Checking}
+use Rattle.stream.specs.declared.Direction.the-variants.{Sealing, Checking, Opening}
 use Rattle.stream.specs.declared.Stream.{Stream}
 use Rattle.stream.proofs.Sound.{sound-kept}
 
@@ -63,11 +63,25 @@ closing-bound s = go (isAd (s .phase)) (eqb (s .ad) 0)
 pub one-direction : (d e : Direction) → isDirection d e ≡ true → d ≡ e
 one-direction Sealing Sealing h = refl
 one-direction Sealing Checking h = absurd (false≢true h)
+one-direction Sealing Opening h = absurd (false≢true h)
 one-direction Checking Sealing h = absurd (false≢true h)
 one-direction Checking Checking h = refl
+one-direction Checking Opening h = absurd (false≢true h)
+one-direction Opening Sealing h = absurd (false≢true h)
+one-direction Opening Checking h = absurd (false≢true h)
+one-direction Opening Opening h = refl
 
 pub own-direction : (d : Direction) → isDirection d d ≡ true
 own-direction d = eq-eqb (rankOf d) (rankOf d) refl
+
+-- a call does not fit a stream of another direction
+pub unfitting : (d : Direction) (s : Stream) → (s .direction ≡ d → ⊥) → fits d s ≡ false
+unfitting d s other = go (isOpen (s .phase)) (isDirection d (s .direction)) refl
+  where
+    go : (o t : Bool) → isDirection d (s .direction) ≡ t → (o && t) ≡ false
+    go true true e = absurd (other (sym (one-direction d (s .direction) e)))
+    go true false e = refl
+    go false t e = refl
 
 -- ---- what passed tests say
 

@@ -157,7 +157,7 @@ pub record Called : Type 0 where
 abbrev pub called : Outcome → List ℕ → Called
 called outcome lent = record { outcome = outcome; lent = lent }
 
--- what a piece of text gives in a direction, at the front of `out`
+-- what a piece of text gives in a direction, at the front of `out`; in an opening it is unverified until the finish
 abbrev pub givenText : Direction → Stream → List ℕ → List ℕ → List ℕ
 givenText d s piece out = cond (givesText d) (given (rowOf (s .set)) (wayOf d) (textWords s) (s .text) piece ++ drop (length piece) out) out
 

@@ -9,7 +9,7 @@ use Rattle.ascon.specs.Sets.{isSet, rowOf, adLimit, textLimit}
 use Rattle.sponge.specs.declared.Way.{Way}
 use Rattle.sponge.specs.declared.Way.the-variants.{Seal, Open}
 use Rattle.stream.specs.declared.Direction.{Direction}
-use Rattle.stream.specs.declared.Direction.the-variants.{Sealing, Checking}
+use Rattle.stream.specs.declared.Direction.the-variants.{Sealing, Checking, Opening}
 use Rattle.stream.specs.declared.Phase.{Phase}
 use Rattle.stream.specs.declared.Phase.the-variants.{Ad, Text, Ended}
 use Rattle.stream.specs.declared.Stream.{Stream}
@@ -20,25 +20,29 @@ use Rattle.stream.specs.declared.Stream.{Stream}
 abbrev pub rankOf : Direction → ℕ
 rankOf Sealing = 0
 rankOf Checking = 1
+rankOf Opening = 2
 
 -- whether two directions are one
 abbrev pub isDirection : Direction → Direction → Bool
 isDirection one other = eqb (rankOf one) (rankOf other)
 
--- which text the state's front becomes: the one that goes out of a sealing, the one that comes into a checking; it is the ciphertext both times
+-- which text the state's front becomes: the one that goes out of a sealing, the one that comes into a checking or an opening; it is the ciphertext each time
 abbrev pub wayOf : Direction → Way
 wayOf Sealing = Seal
 wayOf Checking = Open
+wayOf Opening = Open
 
 -- whether a piece of text has an output
 abbrev pub givesText : Direction → Bool
 givesText Sealing = true
 givesText Checking = false
+givesText Opening = true
 
 -- whether the end gives the tag; else it is given one to compare
 abbrev pub givesTag : Direction → Bool
 givesTag Sealing = true
 givesTag Checking = false
+givesTag Opening = false
 
 -- ---- phases
 

@@ -1,12 +1,13 @@
-// Sealing and checking streams. A state goes into each call and comes back from it; every call takes any state, any lengths and any order, and answers with
-// its listed number.
+// Sealing, checking and opening streams. A state goes into each call and comes back from it; every call takes any state, any lengths and any order, and answers
+// with its listed number.
+ghost use mathlib.Core.Bool.{true, false};
 ghost use mathlib.Core.Path.{_≡_};
 ghost use mathlib.Core.List.{[]};
 ghost use Prim.Native.Nat.{_+_, _-_, _*_, _≤_, _<_};
 ghost use lib.ListN.{take, drop};
 ghost use Rattle.ascon.specs.Sets.{rowOf, textLimit};
-ghost use Rattle.stream.specs.declared.Direction.the-variants.{Sealing, Checking};
-ghost use Rattle.stream.specs.State.{rankOf, isDirection, givesText, isAd, isOpen, fits, allZero, ended, isSoundOpen, isSoundEnded, isSound};
+ghost use Rattle.stream.specs.declared.Direction.the-variants.{Sealing, Checking, Opening};
+ghost use Rattle.stream.specs.State.{rankOf, isDirection, wayOf, givesText, givesTag, isAd, isOpen, fits, allZero, ended, isSoundOpen, isSoundEnded, isSound};
 ghost use Rattle.stream.specs.Calls.{filledRounds, limitedStartTest, pieceTest, textTest, finishTest, refused, textWords, closingRounds, startCall, adCall, tookText, ownTag, called, textCall, finishCall};
 use answers::Answer;
 use sponge::Way;
@@ -15,6 +16,7 @@ use sponge::Way;
 pub enum Direction {
     Sealing,
     Checking,
+    Opening,
 }
 
 // What a stream takes next.
@@ -74,6 +76,7 @@ fn rank(direction: Direction) -> u64
     match direction {
         Direction::Sealing => 0,
         Direction::Checking => 1,
+        Direction::Opening => 2,
     }
 }
 
@@ -91,6 +94,18 @@ fn gives_text(direction: Direction) -> bool
     match direction {
         Direction::Sealing => true,
         Direction::Checking => false,
+        Direction::Opening => true,
+    }
+}
+
+// Whether a direction's text is sealed or opened; either way, the state's front becomes the ciphertext.
+fn way(direction: Direction) -> Way
+    ensures { λ r. ⌜ r ≡ wayOf direction ⌝ }
+{
+    match direction {
+        Direction::Sealing => Way::Seal,
+        Direction::Checking => Way::Open,
+        Direction::Opening => Way::Open,
     }
 }
 
@@ -328,7 +343,7 @@ impl Stream {
         }
     }
 
-    // A piece of the associated data, in either direction.
+    // A piece of the associated data, in every direction.
     pub fn ad(self, piece: &[u8]) -> Outcome
         ensures { λ r. ⌜ r ≡ adCall self (now (piece .entry)) ⌝ }
     {
@@ -398,23 +413,31 @@ impl Stream {
         }
     }
 
-    // A piece of the text, sealed into `out`.
-    pub fn seal(self, piece: &[u8], out: &mut [u8]) -> Outcome
-        ensures { λ r. ⌜ called r (now (out .exit)) ≡ textCall Sealing self (now (piece .entry)) (now (out .entry)) ⌝ }
+    // A piece of the text in a direction that has an output, which goes to `out`.
+    fn crypt(self, wanted: Direction, piece: &[u8], out: &mut [u8]) -> Outcome
+        requires { ⌜ givesText wanted ≡ true ⌝ }
+        ensures { λ r. ⌜ called r (now (out .exit)) ≡ textCall wanted self (now (piece .entry)) (now (out .entry)) ⌝ }
     {
-        let answer = self.text_test(Direction::Sealing, piece.len(), out.len());
+        let answer = self.text_test(wanted, piece.len(), out.len());
         if !answers::is_done(answer) {
             return refusal(answer, self);
         }
         let words = sponge::crypt(
             self.set,
-            Way::Seal,
+            way(wanted),
             self.text_words(),
             self.text,
             piece,
             out,
         );
         self.took_text(words, piece.len())
+    }
+
+    // A piece of the text, sealed into `out`.
+    pub fn seal(self, piece: &[u8], out: &mut [u8]) -> Outcome
+        ensures { λ r. ⌜ called r (now (out .exit)) ≡ textCall Sealing self (now (piece .entry)) (now (out .entry)) ⌝ }
+    {
+        self.crypt(Direction::Sealing, piece, out)
     }
 
     // A piece of the ciphertext, to be checked.
@@ -427,6 +450,13 @@ impl Stream {
         }
         let words = sponge::absorb(self.set, Way::Open, self.text_words(), self.text, piece);
         self.took_text(words, piece.len())
+    }
+
+    // A piece of the ciphertext, opened into `out`. What stands there is unverified until `finish_opening` says done, and a 9 does not take it back.
+    pub fn open(self, piece: &[u8], out: &mut [u8]) -> Outcome
+        ensures { λ r. ⌜ called r (now (out .exit)) ≡ textCall Opening self (now (piece .entry)) (now (out .entry)) ⌝ }
+    {
+        self.crypt(Direction::Opening, piece, out)
     }
 
     // The tag of the text so far, with zeros behind it.
@@ -454,11 +484,12 @@ impl Stream {
         }
     }
 
-    // The end of a checking: whether the tag is the right one.
-    pub fn finish_checking(self, tag: &[u8]) -> Outcome
-        ensures { λ r. ⌜ r ≡ finishCall Checking self (now (tag .entry)) .outcome ⌝ }
+    // The end in a direction that is given a tag: whether it is the right one.
+    fn compare(self, wanted: Direction, tag: &[u8]) -> Outcome
+        requires { ⌜ givesTag wanted ≡ false ⌝ }
+        ensures { λ r. ⌜ r ≡ finishCall wanted self (now (tag .entry)) .outcome ⌝ }
     {
-        let answer = self.finish_test(Direction::Checking, tag.len());
+        let answer = self.finish_test(wanted, tag.len());
         if !answers::is_done(answer) {
             return refusal(answer, self);
         }
@@ -478,5 +509,19 @@ impl Stream {
             rounds,
             next,
         }
+    }
+
+    // The end of a checking: whether the tag is the right one.
+    pub fn finish_checking(self, tag: &[u8]) -> Outcome
+        ensures { λ r. ⌜ r ≡ finishCall Checking self (now (tag .entry)) .outcome ⌝ }
+    {
+        self.compare(Direction::Checking, tag)
+    }
+
+    // The end of an opening: whether the tag is the right one; where it is, what was handed out is the plaintext.
+    pub fn finish_opening(self, tag: &[u8]) -> Outcome
+        ensures { λ r. ⌜ r ≡ finishCall Opening self (now (tag .entry)) .outcome ⌝ }
+    {
+        self.compare(Direction::Opening, tag)
     }
 }

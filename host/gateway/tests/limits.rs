@@ -2,9 +2,10 @@
 
 use second::cipher::{set_numbers, set_of, Set, SETS};
 use second::stream::{
-    ad, check, finish_checking, finish_sealing, seal, start, Direction, Given, Phase, Stream,
+    ad, check, finish_checking, finish_opening, finish_sealing, open, seal, start, Direction,
+    Given, Phase, Stream,
 };
-use Direction::{Checking, Sealing};
+use Direction::{Checking, Opening, Sealing};
 
 /// What the gate compares the program's output with.
 const EXPECTED: &str = include_str!("../../../crates/limits/stdout");
@@ -47,7 +48,7 @@ const BYTE: u8 = 165;
 const LENT: u8 = 90;
 
 /// The directions and phases, in the program's order.
-const DIRECTIONS: [(usize, Direction); 2] = [(0, Sealing), (1, Checking)];
+const DIRECTIONS: [(usize, Direction); 3] = [(0, Sealing), (1, Checking), (2, Opening)];
 const PHASES: [(usize, Phase); 3] = [(0, Phase::Data), (1, Phase::Text), (2, Phase::Ended)];
 
 /// What a call gave, and what its lent place then holds.
@@ -76,7 +77,7 @@ fn mixed_state(s: &Stream) -> u64 {
     let kinds = [
         mixed_bytes(&s.key),
         s.set,
-        direction.expect("one of two").0 as u64,
+        direction.expect("one of three").0 as u64,
         phase.expect("one of three").0 as u64,
     ];
     let counts = [s.ad_count, s.text_count, s.place, s.limit];
@@ -93,33 +94,33 @@ fn placeless(given: Given) -> Called {
     (given, Vec::new())
 }
 
-/// The text call of a direction, of so many bytes; a sealing has room for 255.
+/// The text call of a direction, of so many bytes; one that gives text has room for 255.
 fn text(direction: Direction, stream: Stream, length: usize) -> Called {
     let piece = vec![BYTE; length];
+    let mut out = vec![LENT; 255];
     match direction {
-        Sealing => {
-            let mut out = vec![LENT; 255];
-            (seal(stream, &piece, &mut out), out)
-        }
+        Sealing => (seal(stream, &piece, &mut out), out),
         Checking => placeless(check(stream, &piece)),
+        Opening => (open(stream, &piece, &mut out), out),
     }
 }
 
-/// The finish of a direction; a checking is given the tag that its words would be sealed with, its first byte combined with `change`.
+/// The finish of a direction; a checking or an opening is given the tag that its words would be sealed with, its first byte combined with `change`.
 fn finish(direction: Direction, stream: Stream, change: u8) -> Called {
     let mut tag = vec![LENT; set_of(stream.set).map_or(16, |set| set.key)];
+    if direction == Sealing {
+        return (finish_sealing(stream, &mut tag), tag);
+    }
     let sealing = Stream {
         direction: Sealing,
         ..stream
     };
-    let given = finish_sealing(sealing, &mut tag);
-    match direction {
-        Sealing => (given, tag),
-        Checking => {
-            tag[0] ^= change;
-            placeless(finish_checking(stream, &tag))
-        }
-    }
+    finish_sealing(sealing, &mut tag);
+    tag[0] ^= change;
+    placeless(match direction {
+        Checking => finish_checking(stream, &tag),
+        _ => finish_opening(stream, &tag),
+    })
 }
 
 /// The answer and the rounds of a call, and all else that it gave, mixed.
@@ -202,20 +203,26 @@ fn walks() -> Vec<String> {
 
 /// The answers to calls on a state, and all that they gave, mixed.
 fn tried(direction: Direction, stream: Stream) -> String {
-    let other = match direction {
-        Sealing => Checking,
-        Checking => Sealing,
-    };
-    let calls = [
+    let own = [
         placeless(ad(stream, &[BYTE])),
         text(direction, stream, 0),
         text(direction, stream, 1),
         text(direction, stream, 2),
         text(direction, stream, 65_537),
         text(direction, text(direction, stream, 2).0 .2, 1),
-        text(other, stream, 1),
         finish(direction, stream, 0),
+        finish(direction, stream, 1),
     ];
+    let others = match direction {
+        Sealing => [Checking, Opening],
+        Checking => [Opening, Sealing],
+        Opening => [Sealing, Checking],
+    };
+    let crossed = others.map(|other| [text(other, stream, 1), finish(other, stream, 0)]);
+    let calls: Vec<Called> = own
+        .into_iter()
+        .chain(crossed.into_iter().flatten())
+        .collect();
     let answers: String = calls.iter().map(|call| call.0 .0.to_string()).collect();
     format!(" {answers},{:016x}", mixed(0, calls.iter().map(mixed_call)))
 }
@@ -269,7 +276,7 @@ fn states() -> Vec<String> {
 #[test]
 fn starts_walks_and_states_are_the_second_programs() {
     let (starts, walks, states) = (starts(), walks(), states());
-    assert_eq!([starts.len(), walks.len(), states.len()], [56, 400, 240]);
+    assert_eq!([starts.len(), walks.len(), states.len()], [84, 600, 360]);
     let all = [starts, walks, states].concat().concat();
     assert!(
         EXPECTED == all,

@@ -1,5 +1,6 @@
-//! A slow and plain second program for Ascon v1 and v1.2, their whole-message calls and
-//! streams, their bench records, published test files and logs of a chip's calls.
+//! A slow and plain second program for Ascon v1 and v1.2, their whole-message calls, their
+//! sealing, checking and opening streams, their bench records, published test files and logs
+//! of a chip's calls.
 //! It is there to be compared with, so every part follows the printed
 //! definition step by step.
 

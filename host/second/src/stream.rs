@@ -1,11 +1,15 @@
-//! Sealing and checking streams on any state and input, with the answer numbers of the rules.
+//! Sealing, checking and opening streams on any state and input, with the answer numbers of the rules.
 //!
 //! A state is its named parts and nothing else, so what an unfilled block has taken stands in the
 //! words already. A call puts stand-ins for those bytes before its piece: zeros where bytes are
 //! combined, the state's own front where they replace. It then cuts the whole into blocks.
+//!
+//! Sealing combines: the front is then the ciphertext. Checking and opening replace: the front becomes
+//! the ciphertext that came, and the plaintext is what stood there combined with it. Opening hands that
+//! plaintext out (W1), checking doesn't.
 
 use crate::calls::{AD_LIMIT, TEXT_LIMIT};
-use crate::cipher::{cipher_blocks, finish, set_of, started, Set, State};
+use crate::cipher::{cipher_blocks, combined, finish, set_of, started, Set, State};
 use crate::permutation::Words;
 
 /// The largest text limit that a stream may have.
@@ -16,6 +20,7 @@ pub const LARGEST_LIMIT: u64 = TEXT_LIMIT as u64;
 pub enum Direction {
     Sealing,
     Checking,
+    Opening,
 }
 
 /// What a stream takes next: associated data, text, or nothing any more.
@@ -152,6 +157,25 @@ fn text_taken(stream: Stream, state: &State, text_count: u64, place: usize) -> G
     (0, state.rounds(), next)
 }
 
+/// Takes a piece of the ciphertext into a state that far into a block, and gives the plaintext of the
+/// piece and the place after it.
+fn take_cipher(set: &Set, state: &mut State, place: usize, piece: &[u8]) -> (Vec<u8>, usize) {
+    let mut joined = state.first(place).to_vec();
+    joined.extend(piece);
+    let blocks = cipher_blocks(set, &joined);
+    let (unfilled, filled) = blocks.split_last().expect("there is always a last block");
+    let mut text = Vec::new();
+    for block in filled {
+        text.extend(combined(state.first(set.block), block));
+        state.replace_front(block);
+        state.run(set.edition, set.middle);
+    }
+    text.extend(combined(state.first(unfilled.len()), unfilled));
+    state.replace_front(unfilled);
+    // The first bytes are those of the stand-ins, which are no part of the piece.
+    (text[place..].to_vec(), unfilled.len())
+}
+
 /// Ends the text of a sound open stream and gives the tag and the rounds of doing so.
 fn tag_and_rounds(set: &Set, stream: &Stream) -> (Vec<u8>, u64) {
     let (mut state, place) = state_at_text(set, stream);
@@ -191,7 +215,7 @@ pub fn start(direction: Direction, set: u64, limit: u64, key: &[u8], nonce: &[u8
     (0, state.rounds(), next)
 }
 
-/// Takes a piece of the associated data, in either direction; its limit is the same in all streams.
+/// Takes a piece of the associated data, in any direction; its limit is the same in all streams.
 pub fn ad(stream: Stream, piece: &[u8]) -> Given {
     let set = match fitting(&stream, stream.direction) {
         Ok(set) => set,
@@ -254,7 +278,7 @@ pub fn seal(stream: Stream, piece: &[u8], out: &mut [u8]) -> Given {
     text_taken(stream, &state, text_count, unfilled.len())
 }
 
-/// Takes a piece of the ciphertext that is to be checked.
+/// Takes a piece of the ciphertext that is to be checked; its plaintext isn't written anywhere.
 pub fn check(stream: Stream, piece: &[u8]) -> Given {
     let (set, text_count) = match fitting_text(&stream, Direction::Checking, piece.len()) {
         Ok(both) => both,
@@ -262,17 +286,29 @@ pub fn check(stream: Stream, piece: &[u8]) -> Given {
     };
 
     let (mut state, place) = state_at_text(set, &stream);
-    let mut joined = state.first(place).to_vec();
-    joined.extend(piece);
-    let blocks = cipher_blocks(set, &joined);
-    let (unfilled, filled) = blocks.split_last().expect("there is always a last block");
-    for block in filled {
-        state.replace_front(block);
-        state.run(set.edition, set.middle);
-    }
-    state.replace_front(unfilled);
+    let (_, place) = take_cipher(set, &mut state, place, piece);
 
-    text_taken(stream, &state, text_count, unfilled.len())
+    text_taken(stream, &state, text_count, place)
+}
+
+/// Opens a piece of the ciphertext into the front of `out`; a refusal changes nothing there.
+///
+/// What it hands out is unverified until the finish says yes: it is the plaintext of whatever came. A
+/// finish that says no doesn't take it back or put zeros in its place, so the caller mustn't use it.
+pub fn open(stream: Stream, piece: &[u8], out: &mut [u8]) -> Given {
+    let (set, text_count) = match fitting_text(&stream, Direction::Opening, piece.len()) {
+        Ok(both) => both,
+        Err(number) => return refusal(number, stream),
+    };
+    if out.len() < piece.len() {
+        return refusal(6, stream);
+    }
+
+    let (mut state, place) = state_at_text(set, &stream);
+    let (text, place) = take_cipher(set, &mut state, place, piece);
+    out[..piece.len()].copy_from_slice(&text);
+
+    text_taken(stream, &state, text_count, place)
 }
 
 /// Finishes a sealing stream and puts the tag into its place; a refusal changes nothing there.
@@ -289,9 +325,9 @@ pub fn finish_sealing(stream: Stream, tag_place: &mut [u8]) -> Given {
     (0, rounds, ENDED)
 }
 
-/// Finishes a checking stream and compares the tags; equal or not, the stream has ended.
-pub fn finish_checking(stream: Stream, tag: &[u8]) -> Given {
-    let set = match fitting(&stream, Direction::Checking) {
+/// Finishes a stream of the direction by comparing the tags; equal or not, the stream has ended.
+fn finish_by_comparing(stream: Stream, direction: Direction, tag: &[u8]) -> Given {
+    let set = match fitting(&stream, direction) {
         Ok(set) => set,
         Err(number) => return refusal(number, stream),
     };
@@ -301,4 +337,16 @@ pub fn finish_checking(stream: Stream, tag: &[u8]) -> Given {
     let (ours, rounds) = tag_and_rounds(set, &stream);
     let number = if ours == tag { 0 } else { 9 };
     (number, rounds, ENDED)
+}
+
+/// Finishes a checking stream: done if the tag is that of what came, otherwise 9.
+pub fn finish_checking(stream: Stream, tag: &[u8]) -> Given {
+    finish_by_comparing(stream, Direction::Checking, tag)
+}
+
+/// Finishes an opening stream: done if the tag is that of what came, otherwise 9.
+///
+/// Only when it is done are the pieces that the stream handed out, joined, the plaintext of the message.
+pub fn finish_opening(stream: Stream, tag: &[u8]) -> Given {
+    finish_by_comparing(stream, Direction::Opening, tag)
 }

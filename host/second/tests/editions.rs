@@ -16,12 +16,12 @@ use second::random::Random;
 use second::record::{first_broken_line, may_begin, read, write, Broken, Form, Record};
 use second::replay::{replay, Replay};
 use second::stream::{
-    ad, check, finish_checking, finish_sealing, is_broken, seal, start, Direction, Given, Phase,
-    Stream, ENDED, LARGEST_LIMIT,
+    ad, check, finish_checking, finish_opening, finish_sealing, is_broken, open, seal, start,
+    Direction, Given, Phase, Stream, ENDED, LARGEST_LIMIT,
 };
 use second::vectors;
 use walk::{Numbers, ALL};
-use Direction::{Checking, Sealing};
+use Direction::{Checking, Opening, Sealing};
 
 const SEED: u64 = 20_160_915;
 
@@ -203,14 +203,14 @@ fn key_and_nonce_at_the_start() {
         for _ in 0..100 {
             let (key, nonce) = (random.bytes(n.key), random.bytes(n.key));
             let wanted = walk::started(n, &key, &nonce);
-            for direction in [Sealing, Checking] {
+            for direction in [Sealing, Checking, Opening] {
                 let s = started(n, direction, &key, &nonce);
                 assert_eq!(walk::bytes(s.words), wanted);
                 ran += 1;
             }
         }
     }
-    assert_eq!(ran, 4 * 100 * 2);
+    assert_eq!(ran, 4 * 100 * 3);
 }
 
 /// Gives an open state of any words in the text phase, so many bytes into its text.
@@ -250,6 +250,9 @@ fn pad_and_key_at_the_end() {
                 let direction = Checking;
                 let checked = finish_checking(Stream { direction, ..s }, &wanted);
                 assert_eq!(checked, (0, 12, ENDED));
+                let direction = Opening;
+                let opened = finish_opening(Stream { direction, ..s }, &wanted);
+                assert_eq!(opened, (0, 12, ENDED));
                 ran += 1;
             }
         }
@@ -437,9 +440,11 @@ fn stream_in_pieces(m: &Message, data: usize, pieces: usize) {
     let mut sum = 12;
     let mut s = started(m.n, Sealing, &m.key, &m.nonce);
     let mut c = started(m.n, Checking, &m.key, &m.nonce);
+    let mut o = started(m.n, Opening, &m.key, &m.nonce);
     for piece in m.ad.chunks(data) {
         s = step(&mut sum, ad(s, piece));
         c = step(&mut 0, ad(c, piece));
+        o = step(&mut 0, ad(o, piece));
     }
     let mut cipher = Vec::new();
     for piece in m.text.chunks(pieces) {
@@ -447,6 +452,10 @@ fn stream_in_pieces(m: &Message, data: usize, pieces: usize) {
         s = step(&mut sum, seal(s, piece, &mut out));
         c = step(&mut 0, check(c, &out));
         assert_eq!((s.words, s.place), (c.words, c.place));
+        let mut back = vec![0; piece.len()];
+        o = step(&mut 0, open(o, &out, &mut back));
+        assert_eq!((s.words, s.place), (o.words, o.place));
+        assert_eq!(back, piece);
         cipher.extend(out);
     }
     assert_eq!(cipher, m.cipher);
@@ -458,9 +467,11 @@ fn stream_in_pieces(m: &Message, data: usize, pieces: usize) {
     assert_eq!((right.0, right.2), (0, ENDED));
     let wrong = finish_checking(c, &flipped(&tag, m.text.len()));
     assert_eq!(wrong, (9, right.1, ENDED));
+    assert_eq!(finish_opening(o, &tag), right);
+    assert_eq!(finish_opening(o, &flipped(&tag, m.text.len())), wrong);
 }
 
-/// Says that cutting a message into pieces makes no difference, sealing and checking, in any set.
+/// Says that cutting a message into pieces makes no difference, sealing, checking and opening, in any set.
 #[test]
 fn pieces_make_no_difference() {
     let mut random = Random::new(SEED + 8);
@@ -530,6 +541,8 @@ fn lengths_in_the_later_edition() {
             assert_eq!(finish_sealing(s, &mut vec![7; length]), (4, 0, s));
             let s = start(Checking, set, 9, right, right).2;
             assert_eq!(finish_checking(s, wrong), (4, 0, s));
+            let s = start(Opening, set, 9, right, right).2;
+            assert_eq!(finish_opening(s, wrong), (4, 0, s));
             ran += 1;
         }
     }
@@ -552,7 +565,7 @@ fn unknown_sets_of_calls() {
             let given = calls::open(set, &part, &part, &[], &text, &tag, &mut out);
             assert_eq!(given.one_number(), 1);
             assert_eq!((out, tag), (vec![4; 20], vec![5; length]));
-            for direction in [Sealing, Checking] {
+            for direction in [Sealing, Checking, Opening] {
                 for limit in [0, LARGEST_LIMIT, u64::MAX] {
                     let given = start(direction, set, limit, &part, &part);
                     assert_eq!(given, (1, 0, ENDED));
@@ -574,23 +587,25 @@ fn unknown_sets_of_states() {
     for n in &ALL {
         let key = random.bytes(n.key);
         for set in UNKNOWN {
-            for open in [Sealing, Checking].map(|way| started(n, way, &key, &key)) {
-                let s = Stream { set, ..open };
-                assert!(is_broken(&s) && !is_broken(&open));
+            for sound in [Sealing, Checking, Opening].map(|way| started(n, way, &key, &key)) {
+                let s = Stream { set, ..sound };
+                assert!(is_broken(&s) && !is_broken(&sound));
                 let given = [
                     ad(s, &[1]),
                     seal(s, &[1], &mut [0]),
                     check(s, &[1]),
+                    open(s, &[1], &mut [0]),
                     finish_sealing(s, &mut [0; 16]),
                     finish_checking(s, &[0; 16]),
+                    finish_opening(s, &[0; 16]),
                 ];
-                assert_eq!(given, [(8, 0, s); 5]);
+                assert_eq!(given, [(8, 0, s); 7]);
                 ran += 1;
             }
             assert!(is_broken(&Stream { set, ..ENDED }));
         }
     }
-    assert_eq!(ran, 4 * 23 * 2);
+    assert_eq!(ran, 4 * 23 * 3);
 }
 
 /// Says of every set, count and place whether a state is broken, in both phases.

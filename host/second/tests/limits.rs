@@ -7,9 +7,9 @@ use common::{message, Message};
 use second::log::{self, log_of, Entry};
 use second::random::Random;
 use second::replay::{self, replay, Field, Replay, Verdict};
-use second::stream::{ad, finish_checking, is_broken, Direction, Phase, Stream, ENDED};
+use second::stream::{ad, is_broken, Direction, Phase, Stream, ENDED};
 use streaming::*;
-use Direction::{Checking, Sealing};
+use Direction::{Checking, Opening, Sealing};
 
 const SEED: u64 = 20_140_320;
 
@@ -106,7 +106,7 @@ fn expect_refusals(m: &Message, s: Stream) -> usize {
     let mut ran = expect_past(s, left + 1);
     let to_data = if s.phase == Phase::Data { 5 } else { 7 };
     expect_refusal(to_data, Call::Ad, s, &[1; 65_537], 0, &[]);
-    for call in calls_of(other(s.direction)) {
+    for call in calls_of_others(s.direction) {
         expect_refusal(7, call, s, &[1; 3], 3, &vec![2; key]);
         expect_refusal(7, call, s, &vec![1; left + 1], 0, &[2]);
         ran += 2;
@@ -115,7 +115,7 @@ fn expect_refusals(m: &Message, s: Stream) -> usize {
         expect_refusal(4, finish, s, &[], 0, &vec![2; length]);
         ran += 1;
     }
-    if text == Call::Seal && left > 0 {
+    if text != Call::Check && left > 0 {
         expect_refusal(6, text, s, &[1], 0, &[]);
     }
     let place = s.place + m.set.block as u64;
@@ -145,18 +145,17 @@ fn the_limit_stays_up_to_the_end() {
             let (given, out) = text_call(s, body(&m, direction));
             s = done(given, filling(&m, 0, m.text.len()));
             expect_parts(&m, &s, kind, Phase::Text, [20, m.text.len()]);
-            assert_eq!(out, m.cipher);
+            assert_eq!(out, came_out(&m, direction));
             ran += expect_refusals(&m, s);
 
             expect_end(s, &m.tag, 12);
-            if direction == Checking {
-                let wrong = vec![0; m.set.key];
-                assert_eq!(finish_checking(s, &wrong), (9, 12, ENDED));
+            if direction != Sealing {
+                expect_no(s, &vec![0; m.set.key], 12);
             }
         }
     }
-    // Five states, each with 3 pieces past the limit and 9 other refusals.
-    assert_eq!(ran, KINDS * 7 * 5 * (3 + 9));
+    // Five states, each with 3 pieces past the limit and 13 other refusals.
+    assert_eq!(ran, KINDS * 7 * 5 * (3 + 13));
 }
 
 /// Fills a stream, whose limit is the text's length, by the pieces, with longer ones refused before each.
@@ -180,7 +179,7 @@ fn expect_filled(m: &Message, direction: Direction, pieces: &[Vec<u8>]) {
         expect_parts(m, &s, kind, Phase::Text, [m.ad.len(), after]);
     }
     assert_eq!(refused, (pieces.len() + 1) * 9);
-    assert!(went == m.cipher);
+    assert!(went == came_out(m, direction));
 
     for past in [1, 2, 8, 16, 300] {
         expect_past(s, past);
@@ -218,7 +217,7 @@ fn small_limits() {
 fn expect_large(seed: u64, number: u64) {
     let mut random = Random::new(seed);
     let mut ran = 0;
-    for direction in [Sealing, Checking] {
+    for direction in DIRECTIONS {
         for limit in [1_048_575, 1_048_576] {
             let m = message(&mut random, number, 13, limit);
             let whole = body(&m, direction);
@@ -227,7 +226,7 @@ fn expect_large(seed: u64, number: u64) {
             ran += 2;
         }
     }
-    assert_eq!(ran, 2 * 2 * 2);
+    assert_eq!(ran, 3 * 2 * 2);
 }
 
 /// Says that the two largest limits hold in set 1.
@@ -356,7 +355,7 @@ fn data_keeps_its_own_limit() {
 
             expect_past(full, limit as usize + 1);
             let (given, out) = text_call(full, body(&m, direction));
-            assert_eq!(out, m.cipher);
+            assert_eq!(out, came_out(&m, direction));
             expect_end(done(given, closing(&m)), &m.tag, 12);
             ran += 1;
         }
@@ -544,7 +543,7 @@ fn every_mixture_of_faults_of_a_text_call() {
                     if ended {
                         s = ENDED;
                     } else if turned {
-                        s.direction = other(direction);
+                        s.direction = others(direction)[way % 2];
                     }
                     if broken {
                         s = damaged(s, way);
@@ -568,9 +567,9 @@ fn every_mixture_of_faults_of_a_text_call() {
             }
         }
     }
-    // Sealing with limit 0 leaves out short room for no piece.
-    let sealing = 7 * 2 * 3 * 32 - 2 * 3 * 8;
-    assert_eq!(ran, KINDS / 2 * (sealing + 7 * 2 * 3 * 16));
+    // Sealing and opening with limit 0 leave out short room for no piece.
+    let with_room = 7 * 2 * 3 * 32 - 2 * 3 * 8;
+    assert_eq!(ran, KINDS / 3 * (2 * with_room + 7 * 2 * 3 * 16));
 }
 
 /// Says that a refused piece doesn't close the data of a stream with a small limit.
@@ -588,7 +587,7 @@ fn a_refused_piece_closes_nothing() {
         }
         s = done(ad(s, &m.ad[9..]), filling(&m, 9, 40));
         let (given, out) = text_call(s, body(&m, direction));
-        assert_eq!(out, m.cipher);
+        assert_eq!(out, came_out(&m, direction));
         expect_end(done(given, closing(&m) + filling(&m, 0, 5)), &m.tag, 12);
         ran += 1;
     }
@@ -665,8 +664,12 @@ fn the_limit_of_a_logged_start() {
     for set in LOGGED {
         let length = length_in(set);
         let data = [counting(0, length), counting(16, length)].concat();
-        let before = made(set, Sealing, Phase::Text, 200, 200);
-        for before in [ENDED, before, made(set, Checking, Phase::Data, 0, 0)] {
+        for before in [
+            ENDED,
+            made(set, Sealing, Phase::Text, 200, 200),
+            made(set, Checking, Phase::Data, 0, 0),
+            made(set, Opening, Phase::Text, 200, 7),
+        ] {
             let (entry, s) = replay::called(before, start_of(set), &data);
             assert_eq!((entry.answer, entry.rounds), (0, 12));
             expect_started(s, set, Sealing, 1_048_576);
@@ -690,5 +693,5 @@ fn the_limit_of_a_logged_start() {
             ran += 1;
         }
     }
-    assert_eq!(ran, 2 * 3);
+    assert_eq!(ran, 2 * 4);
 }

@@ -10,10 +10,9 @@ use second::permutation::run;
 use second::random::Random;
 use second::stream::{ad, check, finish_checking, is_broken, Direction, Phase, Stream, ENDED};
 use streaming::*;
-use Direction::{Checking, Sealing};
+use Direction::{Checking, Opening, Sealing};
 
 const SEED: u64 = 20_140_316;
-const BOTH: [Direction; 2] = [Sealing, Checking];
 
 /// Says that messages around the block edges come out the same in all mixtures of cuts.
 #[test]
@@ -59,7 +58,7 @@ fn every_cut_in_two_and_three() {
         }
     }
     // With n bytes there are (n + 1)(n + 2) / 2 pairs of places; n is 17 in sets 1 and 3, 33 in 2 and 4.
-    assert_eq!(ran, 2 * 2 * 2 * (18 * 19 / 2 + 34 * 35 / 2));
+    assert_eq!(ran, 3 * 2 * 2 * (18 * 19 / 2 + 34 * 35 / 2));
 }
 
 /// Says that the state depends on the bytes taken and not on the pieces.
@@ -92,7 +91,7 @@ fn states_do_not_remember_the_pieces() {
 fn words_by_hand_in_blocks_of_8() {
     let (k0, k1) = (0x0001020304050607, 0x08090a0b0c0d0e0f);
     let sets = [(1, &TWELVE[..6]), (3, &TWELVE[6..])];
-    let cases = sets.map(|set| BOTH.map(|direction| (set, direction)));
+    let cases = sets.map(|set| DIRECTIONS.map(|direction| (set, direction)));
     let mut ran = 0;
     for ((set, middle), direction) in cases.concat() {
         let mut x = words_at_start(set);
@@ -113,15 +112,17 @@ fn words_by_hand_in_blocks_of_8() {
         x[4] ^= 1;
         let stream_bytes = x[0].to_be_bytes();
         x[0] ^= 0x3031000000000000;
-        // Sealing takes text, checking the ciphertext of the same text.
+        // Sealing takes text, checking and opening the ciphertext of the same text; opening gives the text.
+        let text = [0x30, 0x31];
         let cipher = [stream_bytes[0] ^ 0x30, stream_bytes[1] ^ 0x31];
-        let piece = match direction {
-            Sealing => [0x30, 0x31],
-            Checking => cipher,
+        let (piece, wanted) = match direction {
+            Sealing => (text, cipher),
+            Checking => (cipher, cipher),
+            Opening => (cipher, text),
         };
         let (given, out) = text_call(s, &piece);
         let s = done(given, 6);
-        assert_eq!(out, cipher);
+        assert_eq!(out, wanted);
         assert_eq!((s.words, s.ad_count, s.text_count, s.place), (x, 9, 2, 2));
         assert_eq!(s.phase, Phase::Text);
 
@@ -133,7 +134,7 @@ fn words_by_hand_in_blocks_of_8() {
         expect_end(s, &tag, 12);
         ran += 1;
     }
-    assert_eq!(ran, 4);
+    assert_eq!(ran, 2 * 3);
 }
 
 /// Says that the words in set 4 are those worked out here, within blocks too.
@@ -142,7 +143,7 @@ fn words_by_hand_in_set_4() {
     let (k0, k1) = (0x0001020304050607, 0x08090a0b0c0d0e0f);
     let middle = &TWELVE[4..];
     let mut ran = 0;
-    for direction in BOTH {
+    for direction in DIRECTIONS {
         let mut x = words_at_start(4);
         let s = done(counting_start(4, direction, LARGEST), 12);
         expect_started(s, 4, direction, LARGEST);
@@ -166,16 +167,17 @@ fn words_by_hand_in_set_4() {
         let stream_bytes = [x[0].to_be_bytes(), x[1].to_be_bytes()].concat();
         x[0] ^= 0x4041424344454647;
         x[1] ^= 0x4849000000000000;
-        // Sealing takes text, checking the ciphertext of the same text.
+        // Sealing takes text, checking and opening the ciphertext of the same text; opening gives the text.
         let text = counting(0x40, 10);
         let cipher: Vec<u8> = text.iter().zip(&stream_bytes).map(|(a, b)| a ^ b).collect();
-        let piece = match direction {
-            Sealing => &text,
-            Checking => &cipher,
+        let (piece, wanted) = match direction {
+            Sealing => (&text, &cipher),
+            Checking => (&cipher, &cipher),
+            Opening => (&cipher, &text),
         };
         let (given, out) = text_call(s, piece);
         let s = done(given, 8);
-        assert_eq!(out, cipher);
+        assert_eq!(out, *wanted);
         assert_eq!((s.words, s.text_count, s.place), (x, 10, 10));
         assert_eq!((s.ad_count, s.phase), (18, Phase::Text));
 
@@ -187,14 +189,14 @@ fn words_by_hand_in_set_4() {
         expect_end(s, &tag, 12);
         ran += 1;
     }
-    assert_eq!(ran, 2);
+    assert_eq!(ran, 3);
 }
 
 /// Says that the words in set 2 are those worked out here, within blocks too.
 #[test]
 fn words_by_hand_in_set_2() {
     let mut ran = 0;
-    for direction in BOTH {
+    for direction in DIRECTIONS {
         let mut x = words_at_start(2);
         let s = done(counting_start(2, direction, LARGEST), 12);
         expect_started(s, 2, direction, LARGEST);
@@ -226,7 +228,7 @@ fn words_by_hand_in_set_2() {
         expect_end(s, &tag[4..], 12);
         ran += 1;
     }
-    assert_eq!(ran, 2);
+    assert_eq!(ran, 3);
 }
 
 /// Says that the named cases have their names, their order and, in each set, the answers of the rules.
@@ -253,7 +255,7 @@ fn the_named_cases() {
 /// Takes a stream to both limits, with so many blocks filled before the last byte of each.
 fn expect_limits(seed: u64, s: (u64, Direction), middle: u64, filled: [u64; 2], rounds: u64) {
     let m = message(&mut Random::new(seed), s.0, 65_536, 1_048_576);
-    let whole = body(&m, s.1);
+    let (whole, wanted) = (body(&m, s.1), came_out(&m, s.1));
     let [text, _] = calls_of(s.1);
     let mut s = fresh(&m, s.1, LARGEST);
     s = done(ad(s, &m.ad[..65_535]), filled[0] * middle);
@@ -269,7 +271,7 @@ fn expect_limits(seed: u64, s: (u64, Direction), middle: u64, filled: [u64; 2], 
     out.extend(last);
     expect_refusal(5, text, s, &[1], 1, &[]);
     s = done(text_call(s, &[]).0, 0);
-    assert!(out == m.cipher);
+    assert!(out == wanted);
     expect_end(s, &m.tag, 12);
     assert_eq!(m.rounds, rounds);
 }
@@ -292,6 +294,13 @@ fn both_limits_in_set_2() {
 fn both_limits_in_sets_3_and_4() {
     expect_limits(SEED + 20, (3, Checking), 6, [8_191, 131_071], 835_614);
     expect_limits(SEED + 21, (4, Sealing), 8, [4_095, 65_535], 557_088);
+}
+
+/// Says the same of opening streams in a set with blocks of 8 and in one with blocks of 16.
+#[test]
+fn both_limits_of_opening() {
+    expect_limits(SEED + 22, (1, Opening), 6, [8_191, 131_071], 835_614);
+    expect_limits(SEED + 23, (4, Opening), 8, [4_095, 65_535], 557_088);
 }
 
 /// Gives the state with one bit of its key changed.
@@ -332,14 +341,11 @@ fn broken_by_another_ended_state() {
     }
     let others = set_numbers().filter(|set| *set != 1);
     ran += all_broken(others.map(|set| Stream { set, ..one }));
-    ran += expect_broken(Stream {
-        direction: Checking,
-        ..one
-    });
+    ran += all_broken([Checking, Opening].map(|direction| Stream { direction, ..one }));
     // An open state with nothing changed but its phase.
     let phase = Phase::Ended;
     ran += over_open(SEED + 4, |s| expect_broken(Stream { phase, ..s }));
-    assert_eq!(ran, 1 + 320 + 128 + 3 * 64 + 3 + 1 + OPEN);
+    assert_eq!(ran, 1 + 320 + 128 + 3 * 64 + 3 + 2 + OPEN);
 }
 
 /// Says that every place but the present count modulo the block is broken.
@@ -375,7 +381,7 @@ fn broken_by_the_place_of_the_other_phase() {
         }
     }
     // Sets 1 and 3 have 19 such text states and 3 data states in each direction, sets 2 and 4 have 22 and 4.
-    assert_eq!(ran, 2 * 2 * (19 + 3 + 22 + 4));
+    assert_eq!(ran, 3 * 2 * (19 + 3 + 22 + 4));
 }
 
 /// Says that a text count before the text phase is broken, at a fitting place too.
@@ -472,17 +478,18 @@ fn faults_of(call: Call) -> Vec<(Fault, u64)> {
     }
     faults.extend(match call {
         Call::Ad | Call::Check => vec![(Limit, 5)],
-        Call::Seal => vec![(Limit, 5), (Room, 6)],
+        Call::Seal | Call::Open => vec![(Limit, 5), (Room, 6)],
         Call::FinishSealing => vec![(Tag, 4)],
-        Call::FinishChecking => vec![(Tag, 4), (Mismatch, 9)],
+        Call::FinishChecking | Call::FinishOpening => vec![(Tag, 4), (Mismatch, 9)],
     });
     faults
 }
 
 /// Gives the state that a call has no fault with, at a later or an earlier phase if both fit.
 fn fitting(m: &Message, call: Call, later: bool) -> Stream {
-    let checks = calls_of(Checking).contains(&call);
-    let direction = if checks { Checking } else { Sealing };
+    let owns = |direction: &Direction| calls_of(*direction).contains(&call);
+    // A data call belongs to no direction and fits each.
+    let direction = DIRECTIONS.into_iter().find(owns).unwrap_or(Sealing);
     let s = after_data(m, direction, LARGEST);
     if call == Call::Ad || !later {
         return s;
@@ -523,7 +530,7 @@ fn expect_first(random: &mut Random, number: u64, call: Call, way: usize, faults
         s.place = 0;
     }
     if has(Fault::Direction) && !ended {
-        s.direction = other(s.direction);
+        s.direction = others(s.direction)[way / 2];
     }
     if has(Fault::Broken) {
         s.place += block_of(&s);
@@ -535,7 +542,9 @@ fn expect_first(random: &mut Random, number: u64, call: Call, way: usize, faults
             let mut out = vec![0; room];
             let given = called(call, s, &piece, &mut out, &mut tag);
             assert_eq!(given.0, faults.first().map_or(0, |(_, answer)| *answer));
-            let finishing = matches!(call, Call::FinishSealing | Call::FinishChecking);
+            let finishing = DIRECTIONS
+                .map(|direction| calls_of(direction)[1])
+                .contains(&call);
             assert_eq!(given.2 == ENDED, finishing);
             assert!(given.1 > 0 || !finishing);
         }
@@ -561,7 +570,7 @@ fn every_mixture_of_faults() {
             }
         }
     }
-    assert_eq!(ran, SETS.len() * 4 * (8 + 32 + 16 + 16 + 32));
+    assert_eq!(ran, SETS.len() * 4 * (8 + 32 + 16 + 32 + 16 + 32 + 32));
 }
 
 /// Says that every mixture of a start's faults is answered with the earliest, and has ended.
@@ -570,19 +579,19 @@ fn every_mixture_of_faults_of_a_start() {
     assert_eq!(expect_starts(&[LARGEST]), KINDS * 5 * 6 * 6);
 }
 
-/// Says that text and finish calls of the other direction are 7 in both open phases.
+/// Says that text and finish calls of the other directions are 7 in both open phases.
 #[test]
 fn the_other_direction() {
     let mut ran = 0;
     for s in open_states(&mut Random::new(SEED + 14)) {
         let tag = vec![4; set_of(s.set).expect("a known set").key];
-        for call in calls_of(other(s.direction)) {
+        for call in calls_of_others(s.direction) {
             expect_refusal(7, call, s, &[1, 2], 2, &tag);
             expect_refusal(7, call, s, &[], 0, &tag);
             ran += 2;
         }
     }
-    assert_eq!(ran, OPEN * 4);
+    assert_eq!(ran, OPEN * 8);
 }
 
 /// Says that the ended state answers 7 to every call, whatever else is wrong.
@@ -599,7 +608,7 @@ fn nothing_after_the_end() {
             }
         }
     }
-    assert_eq!(ran, 5 * 4 * 3 * 4);
+    assert_eq!(ran, 7 * 4 * 3 * 4);
 }
 
 /// Says that a tag with any one bit wrong is 9 and ends the stream, from both open phases.
@@ -705,8 +714,8 @@ fn refusals_change_nothing() {
             ad(s, &long[..65_530]),
         ];
         assert_eq!(refused, [(5, 0, s), (4, 0, s), (5, 0, s)]);
-        if direction == Sealing {
-            expect_refusal(6, Call::Seal, s, &[1; 9], 8, &[]);
+        if direction != Checking {
+            expect_refusal(6, text, s, &[1; 9], 8, &[]);
         }
         for (answer, _, next) in refused {
             assert_ne!(answer, 0);
@@ -714,7 +723,7 @@ fn refusals_change_nothing() {
         }
         s = done(ad(s, &back), filling(&m, 7, 20));
         let (given, out) = text_call(s, body(&m, direction));
-        assert_eq!(out, m.cipher);
+        assert_eq!(out, came_out(&m, direction));
         expect_end(given.2, &m.tag, 12);
         ran += 1;
     }

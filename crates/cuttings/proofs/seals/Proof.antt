@@ -5,10 +5,10 @@ use Rattle.cuttings.proofs.seals.Statement.{statement}
 use Rattle.cuttings.proofs.seals.Tie as tie
 
 abbrev Inv-loop : tie.InvT-loop
-Inv-loop first start ad text n k₀ count₀ k count = Unit {0}
+Inv-loop first start message n k₀ count₀ k count = Unit {0}
 
 abbrev μ-loop : tie.MeasureT-loop
-μ-loop first start ad text n k₀ count₀ k count = 216 - k
+μ-loop first start message n k₀ count₀ k count = 216 - k
 
 loop-holds : tie.Need-loop-holds Inv-loop μ-loop
 loop-holds c = search needs

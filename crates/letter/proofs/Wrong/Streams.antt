@@ -1,32 +1,38 @@
 -- The contracts rule out the wrong answers of the calls of streams: each is computed in the checker.
-use mathlib.Core.Path.{_≡_, refl, sym, ap, _∙_}
-use mathlib.Core.Bool.{Bool, true, false, true≢false, and-eq-true-iff}
+use mathlib.Core.Path.{_≡_, refl, sym, ap, _∙_, subst}
+use mathlib.Core.Bool.{Bool, true, false, cond, not, true≢false, false≢true, and-eq-true-iff}
 use mathlib.Core.List.{List, [], _∷_}
-use Prim.Native.Nat.{ℕ, zero, suc, _+_, _-_, zero-le}
+use Prim.Native.Nat.{ℕ, zero, suc, _+_, _-_, _≤_, _<_, zero-le}
 use native.Mathlib.Omega.{arith}
 use lib.Dec.{eqb, leb}
-use lib.ListN.{length, getD, drop}
+use lib.ListN.{length, getD, drop, replicate}
 use lib.Seq.{drop-length, getD-drop}
 use borrow.Author.Tests.{eqb-true, le-leb, lt-leb}
-use Rattle.answers.specs.declared.Answer.the-variants.{Done, KeyLength, NonceLength, TagLength, PastLimit, NoRoom, OutOfPhase, BrokenState, TagDiffers}
+use Rattle.answers.specs.Numbers.{isDone}
+use Rattle.answers.specs.Order.{first}
+use Rattle.answers.specs.declared.Answer.the-variants.{Done, KeyLength, NonceLength, PastLimit, NoRoom, OutOfPhase, BrokenState, TagDiffers}
 use Rattle.permutation.specs.Round.{_⋙_, addConstant, sBox, bit, fromBits, column, substituted, substitute, Σ₀, Σ₁, Σ₂, Σ₃, Σ₄, diffuse, round}
 use Rattle.permutation.specs.Runs.{constants, constantsOf, roundsOf, rounds, permute}
-use Rattle.permutation.specs.Strings.{bytesOf, valueOf, stringOf, stateOf}
+use Rattle.permutation.specs.Strings.{bytesOf, valueOf, stringOf, stateOf, zeros, same}
+use Rattle.permutation.proofs.Strings.{same-refl, same-eq}
 use Rattle.ascon.specs.Sets.{table, isSet, rowOf}
 use Rattle.ascon.specs.Mode.{p, beforeKey, initialise, finalise}
-use Rattle.sponge.specs.Sponge.{started, absorbed, tagOf}
+use Rattle.sponge.specs.Sponge.{started, absorbed, given, tagOf}
 use Rattle.stream.specs.declared.Stream.{Stream}
 use Rattle.stream.specs.declared.Outcome.{Outcome}
 use Rattle.stream.specs.declared.Direction.{Direction}
-use Rattle.stream.specs.declared.Direction.the-variants.{Sealing, Checking}
+use Rattle.stream.specs.declared.Direction.the-variants.{Sealing, Checking, Opening}
 use Rattle.stream.specs.declared.Phase.{Phase}
 use Rattle.stream.specs.declared.Phase.the-variants.{Ad, Text, Ended}
-use Rattle.stream.specs.State.{isDirection, isOpen, allZero, isSoundOpen, isSoundEnded, isSoundIn, isSound}
-use Rattle.stream.specs.Calls.{limitedStartTest, pieceTest, textTest, finishTest, filledRounds, closingRounds, startCall, adCall, textWords, tookText, Called, textCall, finishCall}
+use Rattle.stream.specs.State.{isDirection, givesText, givesTag, isOpen, allZero, ended, isSoundOpen, isSoundEnded, isSoundIn, isSound}
+use Rattle.stream.specs.Calls.{limitedStartTest, pieceTest, textTest, finishTest, filledRounds, closingRounds, startCall, adCall, textWords, tookText, Called, textCall, ownTag, tagFaults, finishedWith, finishCall}
 use Rattle.stream.proofs.Sound.{open-kept, sound-kept}
+use Rattle.stream.proofs.Tests.{one-direction, own-direction, unfitting}
 use Rattle.letter.specs.Calls.{NoSet}
-use Rattle.letter.specs.Wrong.Streams.{Tailed, LongKeyed, begunIn, Wrong}
+use Rattle.letter.specs.Wrong.Streams.{Tailed, LongKeyed, EndedElse, begunIn, nineIn, textIn, streamOf, insideText, fronted, threeBytes, nineBytes, nineFronted, zerosTag, answering, TextOnly, FinishOnly, Wrong}
+use Rattle.letter.specs.Wrong.Engine.{nineTag}
 use Rattle.letter.proofs.Calls.{off, no-set}
+use Rattle.letter.proofs.Streams.{check-is}
 
 -- a key of 16 bytes has nothing behind its sixteenth
 nothing-behind : (key : List ℕ) → length key ≡ 16 → drop 16 key ≡ []
@@ -91,8 +97,135 @@ begun-sound (suc (suc (suc zero))) h d key size = rw (nothing-behind key size)
 begun-sound (suc (suc (suc (suc zero)))) h d key size = rw (nothing-behind key size)
 begun-sound (suc (suc (suc (suc (suc n))))) h d key size = absurd (omega (arith, h .1 .0))
 
+-- an ended state that says another direction than sealing breaks a rule
+ended-else-broken : (s : Stream) → EndedElse s → isSound s ≡ false
+unfolding isSound isSoundEnded
+ended-else-broken s (over, else) = broken-by s (λ sound. go (s .phase) over sound)
+  where
+    go : (phase : Phase) → phase ≡ Ended → isSoundIn phase s ≡ true → ⊥
+    go Ad e sound = off (cc e)
+    go Text e sound = off (cc e)
+    go Ended e sound =
+        let words = and-eq-true-iff (allZero (s .words)) _ .0 sound in
+        let key = and-eq-true-iff (allZero (s .key)) _ .0 (words .1) in
+        else (sym (one-direction Sealing (s .direction) (and-eq-true-iff (isDirection Sealing (s .direction)) _ .0 (key .1) .0)))
+
+-- a limit over the largest breaks a rule
+wide-broken : (d : Direction) (limit : ℕ) → 1_048_576 < limit → isSound (insideText d 0 limit) ≡ false
+unfolding isSound isSoundOpen isSet rowOf table
+wide-broken d limit over = let past : leb limit 1_048_576 ≡ false = lt-leb limit 1_048_576 over in rw (le-leb 0 limit zero-le, past)
+
+-- ---- the calls of a direction
+
+-- what holds in each direction holds in every one
+each : (Holds : Direction → Type 0) → Holds Sealing → Holds Checking → Holds Opening → (d : Direction) → Holds d
+each Holds seals checks opens Sealing = seals
+each Holds seals checks opens Checking = checks
+each Holds seals checks opens Opening = opens
+
+-- the contracts allow no outcome but the definition's
+text-only : (d : Direction) (s : Stream) (piece out : List ℕ) (Such : Outcome → Type 0) → Such (textCall d s piece out .outcome) → TextOnly d s piece out Such
+text-only Sealing s piece out Such h = λ o other κ e q. other (subst Such (sym (ap (λ (x : Called). x .outcome) q)) h)
+text-only Checking s piece out Such h = λ o other κ e q. other (subst Such (ap (λ (x : Called). x .outcome) (check-is s piece out) ∙ sym q) h)
+text-only Opening s piece out Such h = λ o other κ e q. other (subst Such (sym (ap (λ (x : Called). x .outcome) q)) h)
+
+finish-only : (d : Direction) (s : Stream) (tag : List ℕ) (Such : Outcome → Type 0) → Such (finishCall d s tag .outcome) → FinishOnly d s tag Such
+finish-only Sealing s tag Such h = λ o other κ e q. other (subst Such (sym (ap (λ (x : Called). x .outcome) q)) h)
+finish-only Checking s tag Such h = λ o other κ e q. other (subst Such (sym q) h)
+finish-only Opening s tag Such h = λ o other κ e q. other (subst Such (sym q) h)
+
+-- a text call, by what is computed in each direction
+text-each : (s : Direction → Stream) (piece out : List ℕ) (Such : Direction → Outcome → Type 0)
+    → Such Sealing (textCall Sealing (s Sealing) piece out .outcome)
+    → Such Checking (textCall Checking (s Checking) piece out .outcome)
+    → Such Opening (textCall Opening (s Opening) piece out .outcome)
+    → (d : Direction) → TextOnly d (s d) piece out (Such d)
+text-each s piece out Such seals checks opens d =
+    text-only d (s d) piece out (Such d) (each (λ d. Such d (textCall d (s d) piece out .outcome)) seals checks opens d)
+
+-- a broken state
+broken-text : (d : Direction) (s : Stream) (piece out : List ℕ) → isSound s ≡ false → textCall d s piece out .outcome .answer ≡ BrokenState
+unfolding textCall textTest
+broken-text d s piece out e = rw e
+
+broken-finish : (d : Direction) (s : Stream) (tag : List ℕ) → isSound s ≡ false → finishCall d s tag .outcome .answer ≡ BrokenState
+unfolding finishCall finishTest
+broken-finish d s tag e = rw e
+
+-- a stream of another direction
+crossed-text : (d : Direction) (s : Stream) (piece out : List ℕ) → isSound s ≡ true → (s .direction ≡ d → ⊥) → textCall d s piece out .outcome ≡ answering OutOfPhase 0 s
+unfolding textCall textTest
+crossed-text d s piece out sound other = rw (sound, unfitting d s other)
+
+crossed-finish : (d : Direction) (s : Stream) (tag : List ℕ) → isSound s ≡ true → (s .direction ≡ d → ⊥) → finishCall d s tag .outcome ≡ answering OutOfPhase 0 s
+unfolding finishCall finishTest
+crossed-finish d s tag sound other = rw (sound, unfitting d s other)
+
+-- one that gives text and has no room for it
+no-room : (d : Direction) → givesText d ≡ true
+    → textCall d (streamOf (zeros 5) d Ad 0 0 0 200) (0 ∷ []) [] .outcome ≡ answering NoRoom 0 (streamOf (zeros 5) d Ad 0 0 0 200)
+unfolding textCall textTest isSound isSoundOpen isSet rowOf table
+no-room Sealing gives = refl
+no-room Checking gives = absurd (false≢true gives)
+no-room Opening gives = refl
+
+-- a piece that passes the limit
+past-limit : (d : Direction) (piece out : List ℕ) → 200 ≤ length piece → textCall d (insideText d 1 200) piece out .outcome .answer ≡ PastLimit
+unfolding textCall textTest isSound isSoundOpen isSet rowOf table
+past-limit d piece out long = let past : leb (1 + length piece) 200 ≡ false = lt-leb (1 + length piece) 200 (omega (arith, long)) in rw (own-direction d, past)
+
+-- the ended state
+ended-text : (d : Direction) (piece out : List ℕ) → textCall d ended piece out .outcome .answer ≡ OutOfPhase
+unfolding textCall textTest isSound isSoundEnded
+ended-text d piece out = refl
+
+ended-finish : (d : Direction) (tag : List ℕ) → finishCall d ended tag .outcome .answer ≡ OutOfPhase
+unfolding finishCall finishTest isSound isSoundEnded
+ended-finish d tag = refl
+
+-- ---- the end
+
+-- a finish whose tests are passed
+through : (d : Direction) (s : Stream) (tag : List ℕ) → isDone (finishTest d s (length tag)) ≡ true → finishCall d s tag .outcome ≡ finishedWith (first Done (tagFaults d s tag)) s
+unfolding finishCall
+through d s tag passed = rw passed
+
+-- where it compares, and the state's own tag is known, and whether the two are the same
+compared : (d : Direction) → givesTag d ≡ false → (s : Stream) (tag : List ℕ) → isDone (finishTest d s (length tag)) ≡ true → (own : List ℕ) → ownTag s ≡ own
+    → (b : Bool) → same tag own ≡ b → finishCall d s tag .outcome ≡ finishedWith (cond (not b) TagDiffers Done) s
+compared d compares s tag passed own e b f = through d s tag passed ∙ rw (compares, e, f)
+
+-- two texts that are not one differ
+unlike : (x y : List ℕ) → (x ≡ y → ⊥) → same x y ≡ false
+unlike x y other = go (same x y) refl
+  where
+    go : (t : Bool) → same x y ≡ t → same x y ≡ false
+    go true e = absurd (other (same-eq x y e))
+    go false e = e
+
+inside-passed : (d : Direction) (tag : List ℕ) → length tag ≡ 16 → isDone (finishTest d (insideText d 0 200) (length tag)) ≡ true
+unfolding finishTest isSound isSoundOpen isSet rowOf table
+inside-passed d tag size = rw (size, own-direction d)
+
+closing-passed : (d : Direction) (tag : List ℕ) → length tag ≡ 16 → isDone (finishTest d (streamOf (zeros 5) d Ad 1 0 1 200) (length tag)) ≡ true
+unfolding finishTest isSound isSoundOpen isSet rowOf table
+closing-passed d tag size = rw (size, own-direction d)
+
+four-passed : (d : Direction) → isDone (finishTest d (textIn 4 d 9 9) 16) ≡ true
+unfolding finishTest isSound isSoundOpen isSet rowOf table bytesOf
+four-passed d = rw (own-direction d)
+
+-- their own tags, computed
+zeros-own : (d : Direction) → ownTag (insideText d 0 200) ≡ zerosTag
+unfolding tagOf finalise textWords rowOf table roundsOf constantsOf constants p permute rounds round diffuse Σ₀ Σ₁ Σ₂ Σ₃ Σ₄ _⋙_ substitute substituted column fromBits bit sBox addConstant stringOf stateOf bytesOf valueOf
+zeros-own d = refl
+
+four-own : (d : Direction) → ownTag (textIn 4 d 9 9) ≡ nineTag
+unfolding tagOf finalise textWords rowOf table roundsOf constantsOf constants p permute rounds round diffuse Σ₀ Σ₁ Σ₂ Σ₃ Σ₄ _⋙_ substitute substituted column fromBits bit sBox addConstant stringOf stateOf bytesOf valueOf
+four-own d = refl
+
 pub wrong : Wrong
-unfolding finalise absorbed tagOf filledRounds closingRounds textWords textCall tookText isSet rowOf table roundsOf constantsOf constants p permute rounds round diffuse Σ₀ Σ₁ Σ₂ Σ₃ Σ₄ _⋙_ substitute substituted column fromBits bit sBox addConstant stringOf stateOf bytesOf valueOf isSound isSoundOpen isSoundEnded startCall adCall limitedStartTest pieceTest textTest finishTest finishCall started initialise beforeKey
+unfolding finalise absorbed tagOf filledRounds closingRounds textWords textCall tookText isSet rowOf table roundsOf constantsOf constants p permute rounds round diffuse Σ₀ Σ₁ Σ₂ Σ₃ Σ₄ _⋙_ substitute substituted column fromBits bit sBox addConstant stringOf stateOf bytesOf valueOf isSound isSoundOpen isSoundEnded startCall adCall limitedStartTest pieceTest textTest finishTest finishCall started initialise beforeKey given
 wrong = record {
   start-key = λ rounds next κ e p. let answer : NonceLength ≡ KeyLength = ap (λ (x : Outcome). x .answer) p in off (cc answer);
   start-nonce = λ d rounds next κ e p. let answer : PastLimit ≡ NonceLength = ap (λ (x : Outcome). x .answer) p in off (cc answer);
@@ -107,20 +240,21 @@ wrong = record {
   start-limit-kept = λ d limit within answer rounds next other κ e p.
       let fits : leb limit 1_048_576 ≡ true = le-leb limit 1_048_576 within in other (ap (λ (x : Outcome). x .next .limit) p ∙ rw fits);
   ad-set = λ s piece none answer rounds next other κ e p. other (ap (λ (x : Outcome). x .answer) p ∙ rw (no-set-broken s none));
+  text-set = λ d s piece out none. text-only d s piece out _ (broken-text d s piece out (no-set-broken s none));
+  finish-set = λ d s tag none. finish-only d s tag _ (broken-finish d s tag (no-set-broken s none));
   ad-key-tail = λ s piece tailed answer rounds next other κ e p. other (ap (λ (x : Outcome). x .answer) p ∙ rw (tail-broken s tailed));
+  text-key-tail = λ d s piece out tailed. text-only d s piece out _ (broken-text d s piece out (tail-broken s tailed));
+  finish-key-tail = λ d s tag tailed. finish-only d s tag _ (broken-finish d s tag (tail-broken s tailed));
   ad-key = λ set long d key size answer rounds next other κ e p. other (ap (λ (x : Outcome). x .answer) p ∙ rw (begun-sound set long d key size));
-  seal-piece-set = λ s piece out none answer rounds next other κ e p. other (ap (λ (x : Called). x .outcome .answer) p ∙ rw (no-set-broken s none));
-  seal-piece-key-tail = λ s piece out tailed answer rounds next other κ e p. other (ap (λ (x : Called). x .outcome .answer) p ∙ rw (tail-broken s tailed));
-  seal-piece-key = λ set long key size answer rounds next other κ e p. other (ap (λ (x : Called). x .outcome .answer) p ∙ rw (begun-sound set long Sealing key size));
-  check-set = λ s piece none answer rounds next other κ e p. other (ap (λ (x : Outcome). x .answer) p ∙ rw (no-set-broken s none));
-  check-key-tail = λ s piece tailed answer rounds next other κ e p. other (ap (λ (x : Outcome). x .answer) p ∙ rw (tail-broken s tailed));
-  check-key = λ set long key size answer rounds next other κ e p. other (ap (λ (x : Outcome). x .answer) p ∙ rw (begun-sound set long Checking key size));
-  finish-sealing-set = λ s tag none answer rounds next other κ e p. other (ap (λ (x : Called). x .outcome .answer) p ∙ rw (no-set-broken s none));
-  finish-sealing-key-tail = λ s tag tailed answer rounds next other κ e p. other (ap (λ (x : Called). x .outcome .answer) p ∙ rw (tail-broken s tailed));
-  finish-sealing-key = λ set long key size answer rounds next other κ e p. other (ap (λ (x : Called). x .outcome .answer) p ∙ rw (begun-sound set long Sealing key size, long-key set long));
-  finish-checking-set = λ s tag none answer rounds next other κ e p. other (ap (λ (x : Outcome). x .answer) p ∙ rw (no-set-broken s none));
-  finish-checking-key-tail = λ s tag tailed answer rounds next other κ e p. other (ap (λ (x : Outcome). x .answer) p ∙ rw (tail-broken s tailed));
-  finish-checking-key = λ set long key size answer rounds next other κ e p. other (ap (λ (x : Outcome). x .answer) p ∙ rw (begun-sound set long Checking key size, long-key set long));
+  text-key = λ set long d key size. text-only d (begunIn set d key) [] [] _
+      (each (λ d. textCall d (begunIn set d key) [] [] .outcome .answer ≡ Done)
+      (rw (begun-sound set long Sealing key size)) (rw (begun-sound set long Checking key size)) (rw (begun-sound set long Opening key size)) d);
+  finish-key = λ set long d key size. finish-only d (begunIn set d key) (zeros 15) _ (rw (begun-sound set long d key size, own-direction d, long-key set long));
+  ad-ended-else = λ s piece else answer rounds next other κ e p. other (ap (λ (x : Outcome). x .answer) p ∙ rw (ended-else-broken s else));
+  text-ended-else = λ d s piece out else. text-only d s piece out _ (broken-text d s piece out (ended-else-broken s else));
+  finish-ended-else = λ d s tag else. finish-only d s tag _ (broken-finish d s tag (ended-else-broken s else));
+  text-other = λ d s piece out sound other. text-only d s piece out _ (crossed-text d s piece out sound other);
+  finish-other = λ d s tag sound other. finish-only d s tag _ (crossed-finish d s tag sound other);
   ad-place-four = λ answer rounds next other κ e p. other (ap (λ (x : Outcome). x .answer) p);
   ad-place-eight = λ answer rounds next other κ e p. other (ap (λ (x : Outcome). x .answer) p);
   ad-place-three = λ answer rounds next other κ e p. other (ap (λ (x : Outcome). x .answer) p);
@@ -130,47 +264,46 @@ wrong = record {
   ad-unheld = λ answer rounds next other κ e p. other (ap (λ (x : Outcome). x .answer) p);
   ad-past = λ answer rounds next other κ e p. other (ap (λ (x : Outcome). x .answer) p);
   ad-limit-kept = λ answer rounds next other κ e p. other (ap (λ (x : Outcome). x .next .limit) p);
-  seal-piece-closes = λ answer rounds next closed κ e p. let phase : Text ≡ Ad = sym closed ∙ ap (λ (x : Called). x .outcome .next .phase) p in off (cc phase);
-  seal-piece-past-closes = λ answer rounds next closed κ e p. let phase : Text ≡ Ad = sym closed ∙ ap (λ (x : Called). x .outcome .next .phase) p in off (cc phase);
-  check-past-closes = λ answer rounds next closed κ e p. let phase : Text ≡ Ad = sym closed ∙ ap (λ (x : Outcome). x .next .phase) p in off (cc phase);
-  seal-piece-room = λ rounds next κ e p. let answer : NoRoom ≡ PastLimit = ap (λ (x : Called). x .outcome .answer) p in off (cc answer);
-  seal-piece-own = λ answer rounds next other κ e p. other (ap (λ (x : Called). x .outcome .answer) p);
-  check-own = λ answer rounds next other κ e p. other (ap (λ (x : Outcome). x .answer) p);
-  seal-piece-reaches = λ answer rounds next other κ e p. other (ap (λ (x : Called). x .outcome .answer) p);
-  check-reaches-largest = λ answer rounds next other κ e p. other (ap (λ (x : Outcome). x .answer) p);
-  check-at = λ answer rounds next other κ e p. other (ap (λ (x : Outcome). x .answer) p);
-  seal-piece-nought = λ answer rounds next other κ e p. other (ap (λ (x : Called). x .outcome .answer) p);
-  seal-piece-wraps = λ piece out long answer rounds next other κ e p.
-      let past : leb (1 + length piece) 200 ≡ false = lt-leb (1 + length piece) 200 (omega (arith, long)) in other (ap (λ (x : Called). x .outcome .answer) p ∙ rw past);
-  check-wraps = λ piece long answer rounds next other κ e p.
-      let past : leb (1 + length piece) 200 ≡ false = lt-leb (1 + length piece) 200 (omega (arith, long)) in other (ap (λ (x : Outcome). x .answer) p ∙ rw past);
-  seal-piece-resets = λ answer rounds next other κ e p. other (ap (λ (x : Called). x .outcome .next .limit) p);
-  check-resets = λ answer rounds next other κ e p. other (ap (λ (x : Outcome). x .next .limit) p);
-  seal-piece-first = λ answer rounds next other κ e p. other (ap (λ (x : Called). x .outcome .next .limit) p);
-  check-first = λ answer rounds next other κ e p. other (ap (λ (x : Outcome). x .next .limit) p);
-  seal-piece-past = λ answer rounds next other κ e p. other (ap (λ (x : Called). x .outcome .answer) p);
-  check-past = λ answer rounds next other κ e p. other (ap (λ (x : Outcome). x .answer) p);
-  seal-piece-wide = λ limit over answer rounds next other κ e p. let past : leb limit 1_048_576 ≡ false = lt-leb limit 1_048_576 over in other (ap (λ (x : Called). x .outcome .answer) p ∙ rw (le-leb 0 limit zero-le, past));
-  check-wide = λ limit over answer rounds next other κ e p. let past : leb limit 1_048_576 ≡ false = lt-leb limit 1_048_576 over in other (ap (λ (x : Outcome). x .answer) p ∙ rw (le-leb 0 limit zero-le, past));
-  check-plaintext = λ answer rounds next kept κ e p. let x0 : _≡_ {A = ℕ} 0x0100000000000000 0 = sym kept ∙ ap (λ (x : Outcome). getD (x .next .words) 0 0) p in absurd (omega (arith, x0));
-  check-closing = λ answer rounds next other κ e p. other (ap (λ (x : Outcome). x .rounds) p);
-  check-closing-three = λ answer rounds next other κ e p. other (ap (λ (x : Outcome). x .rounds) p);
-  check-closing-four = λ answer rounds next other κ e p. other (ap (λ (x : Outcome). x .rounds) p);
-  seal-piece-three = λ answer rounds next other κ e p. other (ap (λ (x : Called). x .outcome .next .words) p);
-  seal-piece-four = λ answer rounds next other κ e p. other (ap (λ (x : Called). x .outcome .next .words) p);
-  seal-piece-refused = λ κ p. let byte : _≡_ {A = ℕ} 1 0 = ap (λ (x : Called). getD (x .lent) 0 0) p in absurd (omega arith);
+  text-closes = λ d gives. text-only d (streamOf (zeros 5) d Ad 0 0 0 200) (0 ∷ []) [] _ (no-room d gives);
+  text-past-closes = text-each (λ d. streamOf (zeros 5) d Ad 0 0 0 0) (0 ∷ []) (0 ∷ []) (λ d o. o ≡ answering PastLimit 0 (streamOf (zeros 5) d Ad 0 0 0 0)) refl refl refl;
+  text-room = text-each (λ d. insideText d 200 200) (0 ∷ []) [] (λ d o. o .answer ≡ PastLimit) refl refl refl;
+  text-own = text-each (λ d. insideText d 200 200) (0 ∷ []) (0 ∷ []) (λ d o. o .answer ≡ PastLimit) refl refl refl;
+  text-reaches = text-each (λ d. insideText d 199 200) (0 ∷ []) (0 ∷ []) (λ d o. o .answer ≡ Done) refl refl refl;
+  text-reaches-largest = text-each (λ d. insideText d 1_048_575 1_048_576) (0 ∷ []) (0 ∷ []) (λ d o. o .answer ≡ Done) refl refl refl;
+  text-at = text-each (λ d. insideText d 200 200) [] [] (λ d o. o .answer ≡ Done) refl refl refl;
+  text-nought = text-each (λ d. streamOf (zeros 5) d Ad 0 0 0 0) [] [] (λ d o. o .answer ≡ Done) refl refl refl;
+  text-wraps = λ d piece out long. text-only d (insideText d 1 200) piece out _ (past-limit d piece out long);
+  text-resets = text-each (λ d. insideText d 76 77) (zeros 2) (zeros 2) (λ d o. o .next .limit ≡ 77) refl refl refl;
+  text-first = text-each (λ d. streamOf (zeros 5) d Ad 0 0 0 77) (0 ∷ []) (0 ∷ []) (λ d o. o .next .limit ≡ 77) refl refl refl;
+  text-past = text-each (λ d. insideText d 201 200) [] [] (λ d o. o .answer ≡ BrokenState) refl refl refl;
+  text-wide = λ d limit over. text-only d (insideText d 0 limit) [] [] _ (broken-text d (insideText d 0 limit) [] [] (wide-broken d limit over));
+  text-front = λ d compares. text-only d (fronted d) threeBytes (zeros 3) _
+      (each (λ d. givesTag d ≡ false → textCall d (fronted d) threeBytes (zeros 3) .outcome .next ≡ streamOf (0x1112130405060708 ∷ zeros 4) d Text 0 3 3 200)
+      (λ gives. absurd (true≢false gives)) (λ _. refl) (λ _. refl) d compares);
+  text-front-block = λ d compares. text-only d (fronted d) nineBytes (zeros 9) _
+      (each (λ d. givesTag d ≡ false → textCall d (fronted d) nineBytes (zeros 9) .outcome .next ≡ streamOf nineFronted d Text 0 9 1 200)
+      (λ gives. absurd (true≢false gives)) (λ _. refl) (λ _. refl) d compares);
+  sealed-front = text-only Sealing (fronted Sealing) threeBytes (zeros 3) _ refl;
+  open-hands-out = λ o left other κ p. other (ap (λ (x : Called). x .lent) p);
+  text-closing = text-each (λ d. streamOf (zeros 5) d Ad 1 0 1 200) [] [] (λ d o. o .rounds ≡ 6) refl refl refl;
+  text-closing-three = text-each (λ d. nineIn 3 d 1) [] [] (λ d o. o .rounds ≡ 6) refl refl refl;
+  text-closing-four = text-each (λ d. nineIn 4 d 9) [] [] (λ d o. o .rounds ≡ 8) refl refl refl;
+  text-three = text-only Sealing (textIn 3 Sealing 0 0) (replicate 9 1) (zeros 9) _ refl;
+  text-four = text-each (λ d. textIn 4 d 0 0) (replicate 9 1) (zeros 9) (λ d o. o .next .words ≡ 0x0101010101010101 ∷ 0x0100000000000000 ∷ zeros 3) refl refl refl;
+  text-refused = λ κ p. let byte : _≡_ {A = ℕ} 1 0 = ap (λ (x : Called). getD (x .lent) 0 0) p in absurd (omega arith);
+  open-piece-refused = λ κ p. let byte : _≡_ {A = ℕ} 1 0 = ap (λ (x : Called). getD (x .lent) 0 0) p in absurd (omega arith);
   ended-open = λ next begun κ e p. absurd (true≢false (sym begun ∙ ap (λ (x : Stream). isOpen (x .phase)) p));
   ended-set = λ next other κ e p. other (ap (λ (x : Stream). x .set) p);
+  ended-direction = λ next other κ e p. other (ap (λ (x : Stream). x .direction) p);
   ended-limit = λ next other κ e p. other (ap (λ (x : Stream). x .limit) p);
-  finish-sealing-limit = λ answer rounds next other κ e p. other (ap (λ (x : Called). x .outcome .next .limit) p);
-  finish-checking-limit = λ tag size answer rounds next other κ e p. other (ap (λ (x : Outcome). x .next .limit) p ∙ rw size);
-  finish-sealing-past = λ answer rounds next other κ e p. other (ap (λ (x : Called). x .outcome .answer) p);
-  finish-checking-past = λ answer rounds next other κ e p. other (ap (λ (x : Outcome). x .answer) p);
-  finish-sealing-wide = λ limit over answer rounds next other κ e p. let past : leb limit 1_048_576 ≡ false = lt-leb limit 1_048_576 over in other (ap (λ (x : Called). x .outcome .answer) p ∙ rw (le-leb 0 limit zero-le, past));
-  finish-checking-wide = λ limit over answer rounds next other κ e p. let past : leb limit 1_048_576 ≡ false = lt-leb limit 1_048_576 over in other (ap (λ (x : Outcome). x .answer) p ∙ rw (le-leb 0 limit zero-le, past));
-  finish-sealing-ended = λ rounds next κ e p. let answer : TagLength ≡ OutOfPhase = ap (λ (x : Called). x .outcome .answer) p in off (cc answer);
-  finish-checking-ended = λ rounds next κ e p. let answer : BrokenState ≡ OutOfPhase = ap (λ (x : Outcome). x .answer) p in off (cc answer);
-  finish-checking-last = λ rounds next κ e p. let answer : Done ≡ TagDiffers = ap (λ (x : Outcome). x .answer) p in off (cc answer);
-  finish-sealing-four = λ o tag other κ p. other (ap (λ (x : Called). x .lent) p);
-  finish-checking-four = λ answer rounds next other κ e p. other (ap (λ (x : Outcome). x .answer) p);
+  text-ended = λ d piece out. text-only d ended piece out _ (ended-text d piece out);
+  finish-ended = λ d tag. finish-only d ended tag _ (ended-finish d tag);
+  finish-limit = λ d tag size. finish-only d (insideText d 0 200) tag _ (ap (λ (o : Outcome). o .next .limit) (through d (insideText d 0 200) tag (inside-passed d tag size)));
+  finish-past = λ d. finish-only d (insideText d 201 200) (zeros 16) _ (broken-finish d (insideText d 201 200) (zeros 16) refl);
+  finish-wide = λ d limit over. finish-only d (insideText d 0 limit) (zeros 16) _ (broken-finish d (insideText d 0 limit) (zeros 16) (wide-broken d limit over));
+  finish-other-tag = λ d compares tag size other. finish-only d (insideText d 0 200) tag _ (compared d compares (insideText d 0 200) tag (inside-passed d tag size) zerosTag (zeros-own d) false (unlike tag zerosTag other));
+  finish-right-tag = λ d compares. finish-only d (insideText d 0 200) zerosTag _ (compared d compares (insideText d 0 200) zerosTag (inside-passed d zerosTag refl) zerosTag (zeros-own d) true (same-refl zerosTag));
+  finish-closing = λ d tag size. finish-only d (streamOf (zeros 5) d Ad 1 0 1 200) tag _ (let end = through d (streamOf (zeros 5) d Ad 1 0 1 200) tag (closing-passed d tag size) in (ap (λ (o : Outcome). o .rounds) end, ap (λ (o : Outcome). o .next) end));
+  finish-tag-four = λ o tag other κ p. other (ap (λ (x : Called). x .lent) p);
+  finish-yes-four = λ d compares. finish-only d (textIn 4 d 9 9) nineTag _ (ap (λ (o : Outcome). o .answer) (compared d compares (textIn 4 d 9 9) nineTag (four-passed d) nineTag (four-own d) true (same-refl nineTag)));
 }

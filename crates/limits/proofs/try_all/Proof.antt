@@ -8,7 +8,7 @@ abbrev Inv-loop : tie.InvT-loop
 Inv-loop key nonce bytes k₀ k = Unit {0}
 
 abbrev μ-loop : tie.MeasureT-loop
-μ-loop key nonce bytes k₀ k = 3360 - k
+μ-loop key nonce bytes k₀ k = 5040 - k
 
 loop-holds : tie.Need-loop-holds Inv-loop μ-loop
 loop-holds c = search needs

@@ -54,7 +54,7 @@ pub(crate) fn finish(set: &Set, state: &mut State, key: &[u8]) -> Vec<u8> {
 }
 
 /// Gives the bytewise exclusive or of two lists of the same length.
-fn combined(one: &[u8], other: &[u8]) -> Vec<u8> {
+pub(crate) fn combined(one: &[u8], other: &[u8]) -> Vec<u8> {
     assert_eq!(one.len(), other.len());
     one.iter().zip(other).map(|(a, b)| a ^ b).collect()
 }

@@ -5,20 +5,23 @@ use second::cipher::{set_numbers, set_of, Set, SETS};
 use second::permutation::{run, Words};
 use second::random::Random;
 use second::stream::{
-    ad, check, finish_checking, finish_sealing, is_broken, seal, start, Direction, Given, Phase,
-    Stream, ENDED,
+    ad, check, finish_checking, finish_opening, finish_sealing, is_broken, open, seal, start,
+    Direction, Given, Phase, Stream, ENDED,
 };
-use Direction::{Checking, Sealing};
+use Direction::{Checking, Opening, Sealing};
 
 /// The largest limit of text; the streams of most tests have it.
 pub const LARGEST: u64 = 1_048_576;
 
-/// How many kinds of streams there are.
-pub const KINDS: usize = SETS.len() * 2;
+/// All directions.
+pub const DIRECTIONS: [Direction; 3] = [Sealing, Checking, Opening];
 
-/// Gives the kinds of streams: each set in either direction.
+/// How many kinds of streams there are.
+pub const KINDS: usize = SETS.len() * 3;
+
+/// Gives the kinds of streams: each set in each direction.
 pub fn kinds() -> impl Iterator<Item = (u64, Direction)> {
-    set_numbers().flat_map(|set| [(set, Sealing), (set, Checking)])
+    set_numbers().flat_map(|set| DIRECTIONS.map(|direction| (set, direction)))
 }
 
 pub const TWELVE: [u64; 12] = [
@@ -192,16 +195,19 @@ pub fn closing(m: &Message) -> u64 {
     }
 }
 
-/// Makes one text call in either direction and gives its answer and what went out.
+/// Makes one text call in the stream's direction and gives its answer and what went out; of a checking
+/// stream, which lets nothing out, it gives the piece.
 pub fn text_call(s: Stream, piece: &[u8]) -> (Given, Vec<u8>) {
-    if s.direction == Checking {
-        return (check(s, piece), piece.to_vec());
-    }
+    let text = match s.direction {
+        Sealing => seal,
+        Checking => return (check(s, piece), piece.to_vec()),
+        Opening => open,
+    };
     let mut out = vec![0; piece.len()];
-    let given = seal(s, piece, &mut out);
+    let given = text(s, piece, &mut out);
     // Spare bytes after the piece's place stay as they were.
     let mut longer = vec![9; piece.len() + 3];
-    assert_eq!(seal(s, piece, &mut longer), given);
+    assert_eq!(text(s, piece, &mut longer), given);
     assert_eq!(longer, [&out[..], &[9; 3]].concat());
     (given, out)
 }
@@ -209,14 +215,26 @@ pub fn text_call(s: Stream, piece: &[u8]) -> (Given, Vec<u8>) {
 /// Says that the stream ends in its direction with the given tag and rounds.
 pub fn expect_end(s: Stream, tag: &[u8], rounds: u64) {
     let mut ours = tag.to_vec();
-    let given = if s.direction == Sealing {
-        ours.fill(0xa5);
-        finish_sealing(s, &mut ours)
-    } else {
-        finish_checking(s, tag)
+    let given = match s.direction {
+        Sealing => {
+            ours.fill(0xa5);
+            finish_sealing(s, &mut ours)
+        }
+        Checking => finish_checking(s, tag),
+        Opening => finish_opening(s, tag),
     };
     assert_eq!(given, (0, rounds, ENDED));
     assert_eq!(ours, tag);
+}
+
+/// Says that the stream, which compares tags, ends with 9 and the given rounds.
+pub fn expect_no(s: Stream, wrong: &[u8], rounds: u64) {
+    let given = match s.direction {
+        Sealing => panic!("a sealing stream compares no tags"),
+        Checking => finish_checking(s, wrong),
+        Opening => finish_opening(s, wrong),
+    };
+    assert_eq!(given, (9, rounds, ENDED));
 }
 
 /// Runs the message through a stream, cut as given, and compares all with the whole message.
@@ -253,14 +271,14 @@ pub fn run_cut(
         went.extend(out);
         expect_parts(m, &s, kind, Phase::Text, [taken, went.len()]);
     }
-    assert_eq!(went, m.cipher);
+    assert_eq!(went, came_out(m, direction));
 
     let last = 12 + if pieces.is_empty() { closing(m) } else { 0 };
     assert_eq!(sum + last, m.rounds);
     expect_end(s, &m.tag, last);
-    if direction == Checking {
+    if direction != Sealing {
         let wrong = flipped(&m.tag, random.below(m.set.key * 8));
-        assert_eq!(finish_checking(s, &wrong), (9, last, ENDED));
+        expect_no(s, &wrong, last);
     }
 }
 
@@ -268,7 +286,15 @@ pub fn run_cut(
 pub fn body(m: &Message, direction: Direction) -> &[u8] {
     match direction {
         Sealing => &m.text,
-        Checking => &m.cipher,
+        Checking | Opening => &m.cipher,
+    }
+}
+
+/// Gives what text calls of the direction give in all, as `text_call` tells it.
+pub fn came_out(m: &Message, direction: Direction) -> &[u8] {
+    match direction {
+        Sealing | Checking => &m.cipher,
+        Opening => &m.text,
     }
 }
 
@@ -304,22 +330,26 @@ pub fn cut_at(bytes: &[u8], places: &[usize]) -> Vec<Vec<u8>> {
     pairs.map(|(from, to)| bytes[from..to].to_vec()).collect()
 }
 
-/// The five calls on a state.
+/// The seven calls on a state.
 #[derive(Clone, Copy, Debug, PartialEq)]
 pub enum Call {
     Ad,
     Seal,
     Check,
+    Open,
     FinishSealing,
     FinishChecking,
+    FinishOpening,
 }
 
-pub const CALLS: [Call; 5] = [
+pub const CALLS: [Call; 7] = [
     Call::Ad,
     Call::Seal,
     Call::Check,
+    Call::Open,
     Call::FinishSealing,
     Call::FinishChecking,
+    Call::FinishOpening,
 ];
 
 /// Gives the text call and the finish call of a direction.
@@ -327,15 +357,22 @@ pub fn calls_of(direction: Direction) -> [Call; 2] {
     match direction {
         Sealing => [Call::Seal, Call::FinishSealing],
         Checking => [Call::Check, Call::FinishChecking],
+        Opening => [Call::Open, Call::FinishOpening],
     }
 }
 
-/// Gives the other direction.
-pub fn other(direction: Direction) -> Direction {
+/// Gives the other directions.
+pub fn others(direction: Direction) -> [Direction; 2] {
     match direction {
-        Sealing => Checking,
-        Checking => Sealing,
+        Sealing => [Checking, Opening],
+        Checking => [Sealing, Opening],
+        Opening => [Sealing, Checking],
     }
+}
+
+/// Gives the text calls and the finish calls of the other directions.
+pub fn calls_of_others(direction: Direction) -> Vec<Call> {
+    others(direction).map(calls_of).concat()
 }
 
 /// Makes the call with as much of the parts as belongs to it.
@@ -344,8 +381,10 @@ pub fn called(call: Call, s: Stream, piece: &[u8], out: &mut [u8], tag: &mut [u8
         Call::Ad => ad(s, piece),
         Call::Seal => seal(s, piece, out),
         Call::Check => check(s, piece),
+        Call::Open => open(s, piece, out),
         Call::FinishSealing => finish_sealing(s, tag),
         Call::FinishChecking => finish_checking(s, tag),
+        Call::FinishOpening => finish_opening(s, tag),
     }
 }
 
@@ -386,7 +425,7 @@ pub fn expect_sound(s: Stream) -> usize {
     1
 }
 
-/// Gives sound open states: all sets, both directions and phases, some counts of either kind.
+/// Gives sound open states: all sets and directions, both phases, some counts of either kind.
 pub fn open_states(random: &mut Random) -> Vec<Stream> {
     let mut states = Vec::new();
     for (number, direction) in kinds() {

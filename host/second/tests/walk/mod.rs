@@ -52,7 +52,7 @@ pub const ALL: [Numbers; 4] = [
 pub type Bytes = [u8; 40];
 
 /// Gives the five words of the state.
-fn words(state: &Bytes) -> [u64; 5] {
+pub fn words(state: &Bytes) -> [u64; 5] {
     let mut words = [0; 5];
     for (word, bytes) in words.iter_mut().zip(state.chunks(8)) {
         *word = u64::from_be_bytes(bytes.try_into().expect("eight bytes"));

@@ -1,23 +1,20 @@
--- `cuttings::checks` is safe and ends: the measure is the number of cuttings left.
+-- `cuttings::agreeing` is safe and ends: the measure is the number of cuttings left.
 use Prim.Native.Nat.{_-_}
 use borrow.Author.Needs.{needs}
-use Rattle.cuttings.proofs.checks.Statement.{statement}
-use Rattle.cuttings.proofs.checks.Tie as tie
+use Rattle.cuttings.proofs.agreeing.Statement.{statement}
+use Rattle.cuttings.proofs.agreeing.Tie as tie
 
 abbrev Inv-loop : tie.InvT-loop
-Inv-loop first start ad n answer cipher k₀ count₀ k count = Unit {0}
+Inv-loop direction kind first start sealed n k₀ count₀ k count = Unit {0}
 
 abbrev μ-loop : tie.MeasureT-loop
-μ-loop first start ad n answer cipher k₀ count₀ k count = 216 - k
+μ-loop direction kind first start sealed n k₀ count₀ k count = 216 - k
 
 loop-holds : tie.Need-loop-holds Inv-loop μ-loop
 loop-holds c = search needs
 
-slice-aggregate-walked : tie.Need-slice-aggregate-walked Inv-loop μ-loop
-slice-aggregate-walked c = search needs
-
-walked-requires : tie.Need-walked-requires Inv-loop μ-loop
-walked-requires c κs = search needs
+agrees-requires : tie.Need-agrees-requires Inv-loop μ-loop
+agrees-requires c κs = search needs
 
 counted-requires : tie.Need-counted-requires Inv-loop μ-loop
 counted-requires c κs = search needs
@@ -37,15 +34,14 @@ loop-again c = search needs
 returns : tie.Need-returns Inv-loop μ-loop
 returns c = search needs
 
-pub checks-spec : {M : Type 1} → statement M
-checks-spec =
+pub agreeing-spec : {M : Type 1} → statement M
+agreeing-spec =
     tie.close
     (tie.spec
     Inv-loop
     μ-loop
     loop-holds
-    slice-aggregate-walked
-    walked-requires
+    agrees-requires
     counted-requires
     wrapping-add-u64-requires
     add-k

@@ -1,4 +1,4 @@
--- `stream::Stream::finish_checking` meets its contract.
+-- `stream::Stream::compare` meets its contract.
 use mathlib.Core.Path.{_≡_, sym, ap, _∙_}
 use mathlib.Core.List.{List}
 use Prim.Native.Nat.{ℕ, _+_}
@@ -13,8 +13,8 @@ use Rattle.permutation.specs.Strings.{same}
 use Rattle.sets.proofs.Rows.{row-sizes}
 use Rattle.stream.specs.Calls.{ownTag, finishCall}
 use Rattle.stream.proofs.Tests.{closing-bound}
-use Rattle.stream.proofs.Stream.finish_checking.Statement.{statement}
-use Rattle.stream.proofs.Stream.finish_checking.Tie as tie
+use Rattle.stream.proofs.Stream.compare.Statement.{statement}
+use Rattle.stream.proofs.Stream.compare.Tie as tie
 
 finish-test-requires : tie.Need-finish-test-requires
 finish-test-requires c κs = search needs
@@ -76,7 +76,7 @@ unfolding finishCall
 returns-2 c =
     let k = c .before .before .before in
     let e = tested k in
-    rw (← e .before .before .finish-test .ensures, sym (e .before .is-done .ensures) ∙ not-false _ (e .if1 .left), compared (c .before) ∙ c .if2 .taken)
+    rw (← e .before .before .finish-test .ensures, sym (e .before .is-done .ensures) ∙ not-false _ (e .if1 .left), args-of e .pre, compared (c .before) ∙ c .if2 .taken)
     (λ j. record { answer = Done; rounds = k .before .before .before .closing-rounds .ensures j + 12; next = k .before .before .ended .ensures j })
 
 returns-3 : tie.Need-returns-3
@@ -84,8 +84,8 @@ unfolding finishCall
 returns-3 c =
     let k = c .before .before .before in
     let e = tested k in
-    rw (← e .before .before .finish-test .ensures, sym (e .before .is-done .ensures) ∙ not-false _ (e .if1 .left), compared (c .before) ∙ c .if2 .left)
+    rw (← e .before .before .finish-test .ensures, sym (e .before .is-done .ensures) ∙ not-false _ (e .if1 .left), args-of e .pre, compared (c .before) ∙ c .if2 .left)
     (λ j. record { answer = TagDiffers; rounds = k .before .before .before .closing-rounds .ensures j + 12; next = k .before .before .ended .ensures j })
 
-pub finish-checking-spec : {M : Type 1} → statement M
-finish-checking-spec = tie.close (tie.spec finish-test-requires is-done-requires refusal-requires returns closing-rounds-requires add-rounds ended-requires tag16-requires key-length-requires array-share-prefix-ours slice-aggregate-same-tag same-tag-requires returns-2 returns-3)
+pub compare-spec : {M : Type 1} → statement M
+compare-spec = tie.close (tie.spec finish-test-requires is-done-requires refusal-requires returns closing-rounds-requires add-rounds ended-requires tag16-requires key-length-requires array-share-prefix-ours slice-aggregate-same-tag same-tag-requires returns-2 returns-3)
