@@ -31,8 +31,8 @@
  *   definition runs for the whole message: at least 24.
  *
  * UNVERIFIED BYTES
- *   Nothing unverified is handed out here: kvistmaur_open leaves the text with answer 0 alone, and zeros with 9. The
- *   model also has opening streams, which this boundary does not offer yet. What those hand out, piece by piece, is
+ *   Nothing unverified is handed out here: kvistmaur_open puts the text into out only with answer 0, and zeros with 9.
+ *   The model also has opening streams, which this boundary does not offer yet. What those hand out, piece by piece, is
  *   unverified until their finish says done, and a 9 puts no zeros there.
  *
  * The protection is lost when two messages are sealed under one key and one nonce. Choosing nonces is the caller's part.

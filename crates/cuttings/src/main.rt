@@ -1,7 +1,7 @@
 // Seals, checks and opens one message under many cuttings, with refused calls in between, right and tampered with; finishes it at each of its points; and tries the
 // stream cases that the rules list to be run. The file `stdout` holds the second program's ciphertexts, tags and round counts.
 ghost use mathlib.Core.Path.{_≡_};
-ghost use Prim.Native.Nat.{_≤_};
+ghost use Prim.Native.Nat.{_≤_, _<_};
 ghost use lib.ListN.{length};
 use libc::STDOUT_FILENO;
 use stream::Direction;
@@ -13,6 +13,9 @@ const CUTTINGS: usize = 216;
 
 // The largest limit of a stream's text.
 const LIMIT: u64 = 1048576;
+
+// The bits of a byte.
+const BITS: [u8; 8] = [1, 2, 4, 8, 16, 32, 64, 128];
 
 // How many calls follow a start.
 const CALLS: u64 = 18;
@@ -160,7 +163,7 @@ fn say(name: &[u8], n: u64) {
     io::print_decimal(STDOUT_FILENO, n);
 }
 
-// A line of them.
+// Writes a name and a number, and ends the line.
 fn say_line(name: &[u8], n: u64) {
     say(name, n);
     io::write_all(STDOUT_FILENO, b"\n");
@@ -339,7 +342,7 @@ fn seal_part(stream: Stream, text: &[u8], from: usize, to: usize, out: &mut [u8]
     stream.seal(part(text, begin, end), &mut out[begin..end])
 }
 
-// And so is it opened.
+// The ciphertext from a place up to another is opened into the same places of `out`, unverified.
 fn open_part(stream: Stream, text: &[u8], from: usize, to: usize, out: &mut [u8]) -> Outcome {
     let end = earlier(to, out.len());
     let begin = earlier(from, end);
@@ -381,7 +384,7 @@ fn short_of(direction: Direction) -> Direction {
     }
 }
 
-// How it is refused.
+// The answer that it gets.
 fn short_answer(direction: Direction) -> u64 {
     match direction {
         Direction::Sealing => 6,
@@ -390,7 +393,7 @@ fn short_answer(direction: Direction) -> u64 {
     }
 }
 
-// Calls that an open stream refuses behind its first piece of text: data, a text that has no room or is not to be sealed, and any call in a broken state.
+// Calls that an open stream refuses behind its first piece of text: data; a text call without room, or of another direction; and data in a broken state.
 fn refused_in_text(direction: Direction, walk: Walk, text: &[u8]) -> Walk {
     let late = after(walk, walk.stream.ad(text), 7);
     let short = short_way(short_of(direction), late.stream, text);
@@ -409,11 +412,11 @@ fn with_text(direction: Direction, walk: Walk, text: &[u8], k: usize) -> Walk {
     piece(direction, second, text, u, text.len())
 }
 
-// The finish, which has to get an answer, with refused ones before and after it, those of the other directions among them.
+// The finish, which has to get an answer, with refused ones before and after it, those of the other directions among them, one with a tag of three bytes.
 fn with_finish(direction: Direction, walk: Walk, n: usize, answer: u64) -> Walk {
     let short = finish(direction, walk, 3, 4);
     let next = next_of(direction);
-    let crossed = finish(next_of(next), finish(next, short, n, 7), n, 7);
+    let crossed = finish(next_of(next), finish(next, short, 3, 7), n, 7);
     let done = finish(direction, crossed, n, answer);
     finish(direction, done, n, 7)
 }
@@ -486,28 +489,38 @@ fn seals(first: Walk, start: Walk, message: Message, n: usize) -> u64 {
     count
 }
 
-// Flips a bit of a byte of a string.
-fn flip(s: &mut [u8], place: usize) {
+// Flips one of the eight bits of a byte of a string, both by a number: the place below `places`, and the bit by the turns before it.
+fn flip(s: &mut [u8], k: usize, places: usize)
+    requires { ⌜ 0 < places ⌝ }
+{
+    let place = k % places;
     if place < s.len() {
-        s[place] = s[place] ^ 1;
+        s[place] = s[place] ^ BITS[k / places % 8];
     }
 }
 
-// A message with one bit flipped: by the kind, of its tag, of its text or of its data, or of none.
-fn tampered(message: Message, kind: u64, place: usize) -> Message {
+// As many places as a tag has bytes.
+fn tag_places(n: usize) -> usize
+    ensures { λ r. ⌜ 0 < r ⌝ }
+{
+    if n == 12 { 12 } else { 16 }
+}
+
+// A message with one bit flipped, by a number: by the kind, of its tag, which has n bytes, of its text or of its data, or of none.
+fn tampered(message: Message, kind: u64, k: usize, n: usize) -> Message {
     let mut ad = message.ad;
     let mut text = message.text;
     let mut tag = message.tag;
     match kind {
         0 => {}
-        1 => flip(&mut tag, place % 12),
-        2 => flip(&mut text, place % 53),
-        _ => flip(&mut ad, place % 37),
+        1 => flip(&mut tag, k, tag_places(n)),
+        2 => flip(&mut text, k, 53),
+        _ => flip(&mut ad, k, 37),
     }
     Message { ad, text, tag }
 }
 
-// Whether an opening gave the text out, which it has to where the tag alone was tampered with, or nothing was; a checking gives nothing out.
+// Whether an opening gave out the text where at most the tag was tampered with, and another one elsewhere; a checking gives nothing out.
 fn handed(direction: Direction, kind: u64, walk: Walk) -> bool {
     let out = walk.out;
     let same = check::same(&out, &TEXT);
@@ -529,14 +542,14 @@ fn agrees(
     n: usize,
 ) -> bool {
     let answer = counted(kind != 0, 9);
-    let w = walked(direction, start, tampered(sealed, kind, k), k, n, answer);
+    let w = walked(direction, start, tampered(sealed, kind, k, n), k, n, answer);
     if w.rounds != first.rounds {
         return false;
     }
     handed(direction, kind, w)
 }
 
-// How many cuttings do.
+// How many cuttings get their answer.
 fn agreeing(
     direction: Direction,
     kind: u64,
@@ -626,12 +639,13 @@ fn agrees_at(
     sealing: Walk,
     start: Walk,
     right: Message,
+    p: usize,
     a: usize,
     t: usize,
     n: usize,
 ) -> bool {
     let yes = pointed(direction, start, right, a, t, n, 0);
-    let nine = pointed(direction, start, tampered(right, 1, t), a, t, n, 9);
+    let nine = pointed(direction, start, tampered(right, 1, p, n), a, t, n, 9);
     if (yes.rounds != sealing.rounds) | (nine.rounds != sealing.rounds) {
         return false;
     }
@@ -658,8 +672,8 @@ fn try_point(p: usize, seal: Walk, check: Walk, open: Walk, sealed: Message, n: 
     let t = p - a;
     let w = pointed(Direction::Sealing, seal, plain(), a, t, n, 0);
     let right = sealed_at(sealed, w);
-    let checks = agrees_at(Direction::Checking, w, check, right, a, t, n);
-    let opens = agrees_at(Direction::Opening, w, open, right, a, t, n);
+    let checks = agrees_at(Direction::Checking, w, check, right, p, a, t, n);
+    let opens = agrees_at(Direction::Opening, w, open, right, p, a, t, n);
     say(b"point=", p as u64);
     say(b" rounds=", counted(checks & opens, w.rounds));
     say_tag(w, n);

@@ -53,7 +53,7 @@ CopiesLater m d =
     let leaves = m .text d (before .stream) piece out in
     (before .text ≡ [] → ⊥) → leaves .outcome .answer ≡ Done → take (length piece) (leaves .lent) ≡ piece
 
--- leaves what it is lent as it was at the first piece of one message, whatever that is: an opening that hands out nothing until the finish is such
+-- at the first piece of one message, leaves the lent place as it was, whatever it held: an opening that hands out nothing until the finish is such
 abbrev pub HoldsBack : Streams → Start → List ℕ → Type 0
 HoldsBack m start piece = (out : List ℕ) → m .text (start .direction) (m .start start .next) piece out .lent ≡ out
 
@@ -90,7 +90,7 @@ AgreesToTwo m start calls tag other =
     let finish = m .finish (start .direction) (after m (begun m start) calls .stream) in
     (tag ≡ other → ⊥) × (finish tag .outcome .answer ≡ Done) × (finish other .outcome .answer ≡ Done)
 
--- reports the same rounds for every message; for every start, every piece of text and every finish
+-- reports the same rounds for every message; for every start, and every piece of text and finish of a sealing
 abbrev pub SameRounds : messages.Model → ℕ → Type 0
 SameRounds m n = (set : ℕ) (K N A P out tag : List ℕ) → let outcome = m .seal set K N A P out tag .outcome in outcome .answer ≡ Done → outcome .rounds ≡ n
 

@@ -199,35 +199,45 @@ fn placeless(outcome: Outcome) -> Called {
     Called { outcome, lent: 0 }
 }
 
-// A sealing of a piece, with room for 255 bytes.
-fn seal(stream: Stream, piece: &[u8]) -> Called {
-    let mut out = [90u8; 255];
-    let outcome = stream.seal(piece, &mut out);
+// A sealing of a piece into a place.
+fn seal_into(stream: Stream, piece: &[u8], out: &mut [u8]) -> Called {
+    let outcome = stream.seal(piece, out);
     Called {
         outcome,
-        lent: mixed_bytes(&out),
+        lent: mixed_bytes(out),
     }
 }
 
-// An opening of a piece, with room for 255 bytes.
-fn open(stream: Stream, piece: &[u8]) -> Called {
-    let mut out = [90u8; 255];
-    let outcome = stream.open(piece, &mut out);
+// An opening of a piece into a place.
+fn open_into(stream: Stream, piece: &[u8], out: &mut [u8]) -> Called {
+    let outcome = stream.open(piece, out);
     Called {
         outcome,
-        lent: mixed_bytes(&out),
+        lent: mixed_bytes(out),
     }
 }
 
-// The text call of a direction.
-fn text(direction: usize, stream: Stream, piece: &[u8]) -> Called {
+// The text call of a direction, with a place for its output.
+fn text_into(direction: usize, stream: Stream, piece: &[u8], out: &mut [u8]) -> Called {
     if direction == 0 {
-        return seal(stream, piece);
+        return seal_into(stream, piece, out);
     }
     if direction == 1 {
         return placeless(stream.check(piece));
     }
-    open(stream, piece)
+    open_into(stream, piece, out)
+}
+
+// The text call of a direction, with room for 255 bytes.
+fn text(direction: usize, stream: Stream, piece: &[u8]) -> Called {
+    let mut out = [90u8; 255];
+    text_into(direction, stream, piece, &mut out)
+}
+
+// And with room for one.
+fn short_text(direction: usize, stream: Stream, piece: &[u8]) -> Called {
+    let mut out = [90u8; 1];
+    text_into(direction, stream, piece, &mut out)
 }
 
 // A stream with its direction changed to sealing.
@@ -408,8 +418,8 @@ fn try_other(mixture: u64, direction: usize, s: Stream, bytes: &[u8]) -> u64 {
     told_in(one, finish(direction, s, 0))
 }
 
-// The answers to calls on a state, and all that they gave, mixed: a byte of data; no byte of text, one, two, and 65,537; a byte behind two; the finish with the
-// right tag and with another; a byte of text and the finish for each of the other directions.
+// The answers to calls on a state, and all that they gave, mixed: a byte of data; no byte of text, one, two, and 65,537; a byte behind two; two with room for one;
+// the finish with the right tag, where its state breaks no rule, and with another; a byte of text and the finish for each of the other directions.
 fn try_calls(direction: usize, s: Stream, bytes: &[u8]) {
     io::write_all(STDOUT_FILENO, b" ");
     let data = told_in(0, placeless(s.ad(first_of(bytes, 1))));
@@ -418,7 +428,8 @@ fn try_calls(direction: usize, s: Stream, bytes: &[u8]) {
     let two = told_in(one, text(direction, s, first_of(bytes, 2)));
     let far = told_in(two, text(direction, s, first_of(bytes, 65537)));
     let behind = told_in(far, two_then_one(direction, s, bytes));
-    let right = told_in(behind, finish(direction, s, 0));
+    let short = told_in(behind, short_text(direction, s, first_of(bytes, 2)));
+    let right = told_in(short, finish(direction, s, 0));
     let wrong = told_in(right, finish(direction, s, 1));
     let next = try_other(wrong, (direction % 3 + 1) % 3, s, bytes);
     let last = try_other(next, (direction % 3 + 2) % 3, s, bytes);
@@ -516,6 +527,7 @@ fn try_all(key: &[u8], nonce: &[u8], bytes: &[u8]) {
     }
 }
 
+// All cases, under a key and a nonce that count up.
 fn main() {
     let bytes = [165u8; 65537];
     try_all(

@@ -1,5 +1,5 @@
 // Sealing, checking and opening streams. A state goes into each call and comes back from it; every call takes any state, any lengths and any order, and answers
-// with its listed number.
+// with its listed number. What an opening hands out is unverified until its finish says done.
 ghost use mathlib.Core.Bool.{true, false};
 ghost use mathlib.Core.Path.{_≡_};
 ghost use mathlib.Core.List.{[]};

@@ -96,8 +96,13 @@ fn placeless(given: Given) -> Called {
 
 /// The text call of a direction, of so many bytes; one that gives text has room for 255.
 fn text(direction: Direction, stream: Stream, length: usize) -> Called {
+    text_into(direction, stream, length, 255)
+}
+
+/// The text call of a direction, of so many bytes, with so much room where it gives text.
+fn text_into(direction: Direction, stream: Stream, length: usize, room: usize) -> Called {
     let piece = vec![BYTE; length];
-    let mut out = vec![LENT; 255];
+    let mut out = vec![LENT; room];
     match direction {
         Sealing => (seal(stream, &piece, &mut out), out),
         Checking => placeless(check(stream, &piece)),
@@ -210,6 +215,7 @@ fn tried(direction: Direction, stream: Stream) -> String {
         text(direction, stream, 2),
         text(direction, stream, 65_537),
         text(direction, text(direction, stream, 2).0 .2, 1),
+        text_into(direction, stream, 2, 1),
         finish(direction, stream, 0),
         finish(direction, stream, 1),
     ];

@@ -346,7 +346,7 @@ pub fn finish_checking(stream: Stream, tag: &[u8]) -> Given {
 
 /// Finishes an opening stream: done if the tag is that of what came, otherwise 9.
 ///
-/// Only when it is done are the pieces that the stream handed out, joined, the plaintext of the message.
+/// Done says that the pieces that the stream handed out, joined, are the plaintext of the message; 9 says nothing of them.
 pub fn finish_opening(stream: Stream, tag: &[u8]) -> Given {
     finish_by_comparing(stream, Direction::Opening, tag)
 }
