@@ -106,14 +106,16 @@ module _ (m : Streams) where
     pub rounds : length tag ≡ rowOf (start .set) .key
         → h .rounds + m .finish Checking (h .stream) tag .outcome .rounds ≡ messageRounds (rowOf (start .set)) (length A) (length C)
 
-  -- opening: what was given out, joined, is the published decryption of what came, and unverified so far. Whatever the tag's length, the finish says yes exactly where
-  -- the tag is the published one of that text, and then the ciphertext and the tag are its published sealing, and no other text's; where the length is the set's, all
-  -- the rounds add up and the stream is ended, yes or no
+  -- opening, whatever the tag's length
   pub record OpenedWhole (start : Start) (A C : List ℕ) (h : History) (tag : List ℕ) : Type 0 where
+    -- what was given out, joined, is the published decryption of what came: unverified, until the finish says yes
     pub unverified : h .out ≡ decrypted (rowOf (start .set)) (start .key) (start .nonce) A C .out
+    -- it says yes exactly where the tag is the published one of that text
     pub yes : (m .finish Opening (h .stream) tag .outcome .answer ≡ Done) ↔ (tag ≡ sealed (rowOf (start .set)) (start .key) (start .nonce) A (h .out) .tag)
+    -- it says yes, and P was given out, exactly where the ciphertext and the tag are P's published sealing
     pub plaintext : (P : List ℕ) → ((m .finish Opening (h .stream) tag .outcome .answer ≡ Done) × (h .out ≡ P))
         ↔ (sealed (rowOf (start .set)) (start .key) (start .nonce) A P ≡ record { cipher = C; tag = tag })
+    -- where the tag's length is the set's, all the rounds add up and the stream is ended, yes or no
     pub rounds : length tag ≡ rowOf (start .set) .key
         → h .rounds + m .finish Opening (h .stream) tag .outcome .rounds ≡ messageRounds (rowOf (start .set)) (length A) (length C)
     pub over : length tag ≡ rowOf (start .set) .key → m .finish Opening (h .stream) tag .outcome .next ≡ ended
