@@ -18,7 +18,7 @@ use Rattle.ascon.specs.Sets.{ParameterSet, rowOf, textLimit}
 use Rattle.ascon.specs.Mode.{p, Processed, beforeText, encrypted, decrypted, Sealed, sealed}
 use Rattle.ascon.specs.Bytewise.{at, opening, outs}
 use Rattle.ascon.proofs.Bytewise.{outs-append, length-outs}
-use Rattle.ascon.proofs.Sealing.{Fits, length-tag, decrypted-view, decrypt-encrypted, encrypt-decrypted}
+use Rattle.ascon.proofs.Sealing.{Fits, length-tag, decrypted-view, seal-decrypted, only-text, only-tag}
 use Rattle.sets.proofs.Rows.{row-fits}
 use Rattle.stream.specs.declared.Direction.{Direction}
 use Rattle.stream.specs.declared.Direction.the-variants.{Sealing, Checking, Opening}
@@ -26,7 +26,7 @@ use Rattle.stream.specs.declared.Phase.{Phase}
 use Rattle.stream.specs.declared.Phase.the-variants.{Ad, Text, Ended}
 use Rattle.stream.specs.State.{givesTag}
 use Rattle.stream.specs.Calls.{Start}
-use Rattle.history.specs.History.{Streams, ours, Call, History, begun, after, stateAt}
+use Rattle.history.specs.History.{Streams, ours, Call, begun, after, stateAt}
 use Rattle.history.specs.Cuts.{Message, MessageWithin, startTowards, streamTowards, finishAnswer, Whole, SealedWhole, CheckedWhole, OpenedWhole, CuttingDoesNotMatter, WalksAgree, CuttingBefore}
 use Rattle.history.proofs.History.{history-law, key}
 use Rattle.history.proofs.Cuts.{whole}
@@ -36,6 +36,7 @@ whole-in : (d : Direction) (start : Start) (A T : List ℕ) (calls : List Call) 
     → Whole ours (startTowards d start) A T (after ours (begun ours start) calls) tag
 whole-in d start A T calls tag e m = subst (λ (x : Direction). Whole ours (startTowards x start) A T (after ours (begun ours start) calls) tag) e (whole start A T calls m tag)
 
+-- sealing
 seals : (start : Start) (A P : List ℕ) (calls : List Call) (tag : List ℕ) → start .direction ≡ Sealing → Message ours start A P calls
     → length tag ≡ rowOf (start .set) .key → SealedWhole ours start A P (after ours (begun ours start) calls) tag
 seals start A P calls tag x m e =
@@ -48,73 +49,74 @@ yes-published d compares row published tag e =
     let none = none-holds (TagLength when not (eqb (length tag) (row .key)) ∷ TagDiffers when (not (givesTag d) && not (same tag published)) ∷ []) refl (ap isDone e) in
     same-eq tag published (not-false (same tag published) (ap (λ (t : Bool). not t && not (same tag published)) (sym compares) ∙ none .1 .0))
 
--- a ciphertext's decryption has that ciphertext, and its tag is the one that is right for it
+-- and to it, where that is a tag of the set's length
+yes-tag : (d : Direction) → givesTag d ≡ false → (set : ℕ) (published tag : List ℕ) → length published ≡ rowOf set .key
+    → (finishAnswer d (rowOf set) published tag ≡ Done) ↔ (tag ≡ published)
+yes-tag d compares set published tag size = (yes-published d compares (rowOf set) published tag, from)
+  where
+    from : tag ≡ published → finishAnswer d (rowOf set) published tag ≡ Done
+    from e = rw (eq-eqb (length tag) (rowOf set .key) (ap length e ∙ size), ap (same tag) (sym e) ∙ same-refl tag, compares)
+
+-- a message with a ciphertext C: what both directions say that are given one
 module _ (start : Start) (key : length (start .key) ≡ rowOf (start .set) .key) (A C tag : List ℕ) where
-  abbrev row′ : ParameterSet
-  row′ = rowOf (start .set)
-
+  -- what is sealed for a text
   abbrev sealing : List ℕ → Sealed
-  sealing P = sealed row′ (start .key) (start .nonce) A P
+  sealing P = sealed (rowOf (start .set)) (start .key) (start .nonce) A P
 
+  -- the ciphertext's decryption
   abbrev D : List ℕ
-  D = decrypted row′ (start .key) (start .nonce) A C .out
+  D = decrypted (rowOf (start .set)) (start .key) (start .nonce) A C .out
 
-  -- the ciphertext and a tag are its sealing where the tag is the published one
+  -- a finish that compares says yes to the tag of the decryption, and to no other
+  right-tag : (d : Direction) → givesTag d ≡ false → (finishAnswer d (rowOf (start .set)) (sealing D .tag) tag ≡ Done) ↔ (tag ≡ sealing D .tag)
+  unfolding sealed
+  right-tag d compares =
+      yes-tag d compares (start .set) (sealing D .tag) tag
+      (length-tag (rowOf (start .set)) (row-fits (start .set)) (start .key) key (encrypted (rowOf (start .set)) (start .key) (start .nonce) A D .state))
+
+  -- then the ciphertext and the tag are the decryption's sealing
   seals-back : tag ≡ sealing D .tag → sealing D ≡ record { cipher = C; tag = tag }
-  unfolding sealed
-  seals-back e = λ j. record { cipher = encrypt-decrypted row′ (row-fits (start .set)) (start .key) key (start .nonce) A C j .out; tag = sym e j }
+  seals-back = seal-decrypted (rowOf (start .set)) (row-fits (start .set)) (start .key) key (start .nonce) A C tag
 
-  -- a text whose sealing they are is the decryption
-  only-text : (P : List ℕ) → sealing P ≡ record { cipher = C; tag = tag } → D ≡ P
-  unfolding sealed
-  only-text P e =
-      ap (λ (w : Sealed). decrypted row′ (start .key) (start .nonce) A (w .cipher) .out) (sym e)
-      ∙ ap (λ (w : Processed). w .out) (decrypt-encrypted row′ (row-fits (start .set)) (start .key) key (start .nonce) A P)
+  -- and where they are some text's, that is the decryption, and the tag is its
+  text-is : (P : List ℕ) → sealing P ≡ record { cipher = C; tag = tag } → D ≡ P
+  text-is P = only-text (rowOf (start .set)) (row-fits (start .set)) (start .key) key (start .nonce) A P C tag
 
-  -- and the tag is the published one
-  only-tag : (P : List ℕ) → sealing P ≡ record { cipher = C; tag = tag } → tag ≡ sealing D .tag
-  only-tag P e = ap (λ (w : Sealed). w .tag) (sym e ∙ ap sealing (sym (only-text P e)))
+  tag-is : (P : List ℕ) → sealing P ≡ record { cipher = C; tag = tag } → tag ≡ sealing D .tag
+  tag-is P = only-tag (rowOf (start .set)) (row-fits (start .set)) (start .key) key (start .nonce) A P C tag
 
-  -- a finish that compares says yes to it, and to no other
-  yes-tag : (d : Direction) → givesTag d ≡ false → (finishAnswer d row′ (sealing D .tag) tag ≡ Done) ↔ (tag ≡ sealing D .tag)
-  unfolding sealed
-  yes-tag d compares = (yes-published d compares row′ (sealing D .tag) tag, from)
-    where
-      from : tag ≡ sealing D .tag → finishAnswer d row′ (sealing D .tag) tag ≡ Done
-      from e =
-          let size : length tag ≡ row′ .key = ap length e ∙ length-tag row′ (row-fits (start .set)) (start .key) key (encrypted row′ (start .key) (start .nonce) A D .state) in
-          rw (eq-eqb (length tag) (row′ .key) size, ap (same tag) (sym e) ∙ same-refl tag, compares)
-
+-- checking
 checks : (start : Start) (A C : List ℕ) (calls : List Call) (tag : List ℕ) → start .direction ≡ Checking → Message ours start A C calls
     → CheckedWhole ours start A C (after ours (begun ours start) calls) tag
 checks start A C calls tag x m =
     let w = whole-in Checking start A C calls tag x m in
     let k = key start (m .started) in
-    let right = yes-tag start k A C tag Checking refl in
+    let right = right-tag start k A C tag Checking refl in
     record {
       yes = (
         λ y. (D start k A C tag, seals-back start k A C tag (right .0 (sym (w .answer) ∙ y))),
-        λ z. w .answer ∙ right .1 (only-tag start k A C tag (z .0) (z .1)),
+        λ z. w .answer ∙ right .1 (tag-is start k A C tag (z .0) (z .1)),
       );
       rounds = w .rounds;
     }
 
+-- opening
 opens : (start : Start) (A C : List ℕ) (calls : List Call) (tag : List ℕ) → start .direction ≡ Opening → Message ours start A C calls
     → OpenedWhole ours start A C (after ours (begun ours start) calls) tag
 opens start A C calls tag x m =
     let w = whole-in Opening start A C calls tag x m in
-    let h : History = after ours (begun ours start) calls in
     let k = key start (m .started) in
-    let right = yes-tag start k A C tag Opening refl in
+    let right = right-tag start k A C tag Opening refl in
+    let tag-of : List ℕ → List ℕ = λ P. sealing start k A C tag P .tag in
     record {
       unverified = w .out;
       yes = (
-        λ y. right .0 (sym (w .answer) ∙ y) ∙ ap (λ (P : List ℕ). sealing start k A C tag P .tag) (sym (w .out)),
-        λ z. w .answer ∙ right .1 (z ∙ ap (λ (P : List ℕ). sealing start k A C tag P .tag) (w .out)),
+        λ y. right .0 (sym (w .answer) ∙ y) ∙ ap tag-of (sym (w .out)),
+        λ z. w .answer ∙ right .1 (z ∙ ap tag-of (w .out)),
       );
       plaintext = λ P. (
         λ (y, e). ap (sealing start k A C tag) (sym e ∙ w .out) ∙ seals-back start k A C tag (right .0 (sym (w .answer) ∙ y)),
-        λ z. (w .answer ∙ right .1 (only-tag start k A C tag P z), w .out ∙ only-text start k A C tag P z),
+        λ z. (w .answer ∙ right .1 (tag-is start k A C tag P z), w .out ∙ text-is start k A C tag P z),
       );
       rounds = w .rounds;
       over = w .over;
@@ -165,7 +167,7 @@ walks-agree =
             found .1,
             whole (startTowards Opening start) A C other o tag .out
                 ∙ decrypted-first (rowOf (start .set)) (row-fits (start .set)) (start .key) k (start .nonce) A C rest
-                ∙ ap (take (length C)) (only-text start k A (C ++ rest) tag (found .0) (found .1)),
+                ∙ ap (take (length C)) (text-is start k A (C ++ rest) tag (found .0) (found .1)),
           );
       states = λ start begins begins′ calls other b c phase ad text.
           let h = after ours (begun ours (startTowards Checking start)) calls in
@@ -177,6 +179,7 @@ walks-agree =
           ∙ ap (streamTowards Opening) (sym (history-law (startTowards Opening start) begins′ other c .state));
     }
   where
+    -- the state of each walk, but for its direction
     same-walk : (start : Start) (phase : Phase) (A T : List ℕ)
         → streamTowards Opening (stateAt (startTowards Checking start) phase A T) ≡ streamTowards Opening (stateAt (startTowards Opening start) phase A T)
     same-walk start Ad A T = refl

@@ -41,7 +41,7 @@ start-tested start e = go (isDone (limitedStartTest (start .set) (length (start 
     go true f = refl
     go false f = let no : isDone (startCall start .answer) ≡ false = rw f f in absurd (false≢true (sym no ∙ e))
 
--- a choice between no bytes and none
+-- no bytes, whichever is chosen
 no-bytes : (t : Bool) → cond {A = List ℕ} t [] [] ≡ []
 no-bytes true = refl
 no-bytes false = refl
@@ -125,7 +125,7 @@ module _ (start : Start) (begins : Started ours start) where
   abbrev outAt : List ℕ → List ℕ → List ℕ
   outAt A T = cond (givesText direction) (outs (row .block) (p (row .between)) (keepOf way) (at (S₁ A) 0) T) []
 
-  -- no text gave out nothing
+  -- an empty text gave out nothing
   nothing-out : (A : List ℕ) → outAt A [] ≡ []
   nothing-out A = no-bytes (givesText direction)
 
@@ -287,7 +287,7 @@ module _ (start : Start) (begins : Started ours start) where
       → h .out ++ outOf ours (h .stream) call ≡ outAt (h .ad) (h .text ++ piece)
   text-out h call piece o e = ap₂ (λ (y z : List ℕ). y ++ z) (o .out-is) e ∙ go (givesText direction)
     where
-      -- from the place where the text stands
+      -- what a text gives out from the start
       before : List ℕ → List ℕ
       before T = outs (row .block) (p (row .between)) (keepOf way) (at (S₁ (h .ad)) 0) T
 

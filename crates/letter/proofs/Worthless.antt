@@ -23,7 +23,7 @@ use Rattle.answers.proofs.Order.{none-holds}
 use Rattle.ascon.specs.Sets.{table, isSet, rowOf}
 use Rattle.ascon.specs.Mode.{p, count, pad, beforeKey, initialise, separate, beforeText, encrypted, decrypted, finalise, Processed, Sealed, sealed, opened}
 use Rattle.ascon.specs.Rounds.{adBlocks, textBlocks, messageRounds}
-use Rattle.ascon.proofs.Sealing.{decrypt-encrypted, open-sealed, length-decrypted}
+use Rattle.ascon.proofs.Sealing.{open-sealed, only-text, only-tag, length-decrypted}
 use Rattle.sets.proofs.Rows.{row-fits, row-sizes}
 use Rattle.stream.specs.declared.Direction.{Direction}
 use Rattle.stream.specs.declared.Direction.the-variants.{Sealing, Checking, Opening}
@@ -75,27 +75,16 @@ row-one = refl
 
 -- ---- whole messages
 
--- a text, from its ciphertext
-text-of : (set : ℕ) (K N A P : List ℕ) → length K ≡ rowOf set .key → decrypted (rowOf set) K N A (sealed (rowOf set) K N A P .cipher) .out ≡ P
-unfolding sealed
-text-of set K N A P key = ap (λ (w : Processed). w .out) (decrypt-encrypted (rowOf set) (row-fits set) K key N A P)
-
--- two tags of one ciphertext are one
-one-tag : (set : ℕ) (K N A C P Q T U : List ℕ) → length K ≡ rowOf set .key → sealed (rowOf set) K N A P ≡ record { cipher = C; tag = T }
-    → sealed (rowOf set) K N A Q ≡ record { cipher = C; tag = U } → T ≡ U
-one-tag set K N A C P Q T U key e f =
-    let from : (X Y : List ℕ) → sealed (rowOf set) K N A X ≡ record { cipher = C; tag = Y } → decrypted (rowOf set) K N A C .out ≡ X = λ X Y h.
-    ap (λ (w : Sealed). decrypted (rowOf set) K N A (w .cipher) .out) (sym h) ∙ text-of set K N A X key in
-    ap (λ (w : Sealed). w .tag) (sym e ∙ ap (sealed (rowOf set) K N A) (sym (from P T e) ∙ from Q U f) ∙ f)
-
--- so no ciphertext has every tag of the set's length
+-- no ciphertext has every tag of the set's length
 no-every-tag : (set : ℕ) (K N A C : List ℕ) → length K ≡ rowOf set .key
     → ((T : List ℕ) → length T ≡ rowOf set .key → (P : List ℕ) × (sealed (rowOf set) K N A P ≡ record { cipher = C; tag = T })) → ⊥
 no-every-tag set K N A C key found =
     let k : ℕ = rowOf set .key in
+    let tag-of : (P T : List ℕ) → sealed (rowOf set) K N A P ≡ record { cipher = C; tag = T } → T ≡ sealed (rowOf set) K N A (decrypted (rowOf set) K N A C .out) .tag =
+    λ P T e. only-tag (rowOf set) (row-fits set) K key N A P C T e in
     let nought = found (of 0 k) (length-replicate k 0) in
     let one = found (of 1 k) (length-replicate k 1) in
-    differ k (row-sizes set .some-key) (one-tag set K N A C (nought .0) (one .0) (of 0 k) (of 1 k) key (nought .1) (one .1))
+    differ k (row-sizes set .some-key) (tag-of (nought .0) (of 0 k) (nought .1) ∙ sym (tag-of (one .0) (of 1 k) (one .1)))
   where
     -- a tag of one byte, again and again
     of : ℕ → ℕ → List ℕ
@@ -236,7 +225,7 @@ message m l d T calls b few cut = record {
 
 -- the two zeros, from their ciphertext
 zeros-back : decrypted (rowOf 1) sixteen sixteen [] zeros-cipher .out ≡ zeros 2
-zeros-back = ap (λ (w : Sealed). decrypted (rowOf 1) sixteen sixteen [] (w .cipher) .out) (sym sealed-zeros) ∙ text-of 1 sixteen sixteen [] (zeros 2) row-one
+zeros-back = only-text (rowOf 1) (row-fits 1) sixteen row-one sixteen [] (zeros 2) zeros-cipher zeros-tag sealed-zeros
 
 -- two bytes of text under zeros in a direction that has an output, the two that they give out, of which the second is another, and their tag
 record Two (d : Direction) : Type 0 where

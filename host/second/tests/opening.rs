@@ -453,14 +453,8 @@ fn records_opened() {
 fn expect_refused(came: &Came) -> Vec<u8> {
     let w = walked(came);
     assert_ne!(w.tag, came.tag);
-    let Came {
-        set,
-        key,
-        nonce,
-        ad,
-        ..
-    } = came;
-    let again = seal_published(set, key, nonce, ad, &w.plain);
+    let (set, ad) = (came.set, &came.ad);
+    let again = seal_published(set, &came.key, &came.nonce, ad, &w.plain);
     assert_eq!((&again.cipher, &again.tag), (&came.cipher, &w.tag));
     let rounds = rounds_by_formula(set, ad.len(), came.cipher.len());
     assert_eq!((w.rounds, again.rounds), (rounds, rounds));
@@ -1033,16 +1027,10 @@ fn a_long_order_by_a_second_walk() {
 
 /// Opens what came as a whole message and gives the answer and the output.
 fn opened_whole(came: &Came) -> (Answer, Vec<u8>) {
-    let Came {
-        set,
-        key,
-        nonce,
-        ad,
-        cipher,
-        tag,
-    } = came;
-    let mut out = vec![0x77; cipher.len()];
-    let answer = calls::open(set.number, key, nonce, ad, cipher, tag, &mut out);
+    let mut out = vec![0x77; came.cipher.len()];
+    let (key, nonce) = (&came.key, &came.nonce);
+    let (ad, cipher, tag) = (&came.ad, &came.cipher, &came.tag);
+    let answer = calls::open(came.set.number, key, nonce, ad, cipher, tag, &mut out);
     (answer, out)
 }
 
