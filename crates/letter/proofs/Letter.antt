@@ -34,6 +34,7 @@ use Rattle.letter.proofs.First.{first-demand}
 use Rattle.letter.proofs.Second.{second-demand}
 use Rattle.letter.proofs.Third.{third-demand}
 use Rattle.letter.proofs.Walk.{second-walk}
+use Rattle.letter.proofs.Nines.{nines-alike, one-plaintext, opens-once}
 use Rattle.letter.proofs.Worthless.{worthless}
 
 pub letter : Letter
@@ -44,6 +45,9 @@ letter =
       second = second-demand;
       third = third-demand;
       second-walk = second-walk;
+      nines-alike = nines-alike;
+      one-plaintext = one-plaintext;
+      opens-once = opens-once;
       history = of-kept (λ m. HistoryLaw (m .streams)) history-law;
       third-before = cutting-before;
       streams-before = as-before;

@@ -1,21 +1,25 @@
 -- Whole messages and their C boundary: what is said of their calls holds.
 use mathlib.Core.Path.{_≡_, refl, sym, ap, _∙_}
-use mathlib.Core.Bool.{Bool, true, false, cond, false≢true}
+use mathlib.Core.Bool.{Bool, true, false, cond, not, false≢true}
 use mathlib.Core.List.{List, [], _∷_, _++_}
 use mathlib.Core.Logic.{inl, inr}
 use mathlib.Core.Option.{Option, some, none}
 use Prim.Native.Nat.{ℕ, _≤_}
 use native.Mathlib.Omega.{arith}
+use lib.Dec.{eqb}
 use lib.ListN.{length, drop}
+use borrow.Author.Tests.{eq-eqb, le-leb}
 use Rattle.answers.specs.declared.Answer.{Answer}
-use Rattle.answers.specs.declared.Answer.the-variants.{Done, TagDiffers}
+use Rattle.answers.specs.declared.Answer.the-variants.{Done, TagLength, TagDiffers}
 use Rattle.answers.specs.Numbers.{numberOf, isDone}
 use Rattle.answers.specs.Order.{first, Choice, _when_}
 use Rattle.answers.proofs.Numbers.{done-is}
-use Rattle.ascon.specs.Sets.{rowOf}
-use Rattle.permutation.specs.Strings.{zeros}
-use Rattle.ascon.specs.Mode.{opened}
+use Rattle.ascon.specs.Sets.{isSet, rowOf, adLimit, textLimit}
+use Rattle.permutation.specs.Strings.{zeros, same}
+use Rattle.ascon.specs.Mode.{Processed, decrypted, finalise, sealed, opened}
 use Rattle.ascon.specs.Rounds.{messageRounds}
+use Rattle.ascon.proofs.Sealing.{encrypt-decrypted}
+use Rattle.sets.proofs.Rows.{row-fits}
 use Rattle.sets.specs.Start.{startFaults, startTest}
 use Rattle.message.specs.Message.{faults, messageTest, SealLeaves, sealCall, OpenLeaves, openLeaves, judged, openCall, isNone}
 use Rattle.message.proofs.Answered.{test-small, seal-answer, seal-refused, seal-given, open-answer, open-refused, open-differs}
@@ -82,6 +86,36 @@ listed =
       seal-word = λ set K N A P out tag. refl;
       open-word = λ set K N A C T out. refl;
     }
+
+-- nothing is opened exactly where the tag is not the one that the document gives the decryption
+none-opened : (set : ℕ) (K N A C T : List ℕ) → length K ≡ rowOf set .key
+    → isNone (opened (rowOf set) K N A C T) ≡ not (same T (sealed (rowOf set) K N A (decrypted (rowOf set) K N A C .out) .tag))
+unfolding opened sealed
+none-opened set K N A C T key =
+    go (same T (finalise (rowOf set) K (decrypted (rowOf set) K N A C .state)))
+    ∙ ap (λ (w : Processed). not (same T (finalise (rowOf set) K (w .state)))) (sym (encrypt-decrypted (rowOf set) (row-fits set) K key N A C))
+  where
+    go : (t : Bool) → isNone (cond t (some (decrypted (rowOf set) K N A C .out)) none) ≡ not t
+    go true = refl
+    go false = refl
+
+-- an opening whose other parts fit is answered by its tag: 4 for one of another length than the set's, 9 for one that is not the published one of the decryption
+pub by-tag : (m : Model) → Listed m → (set : ℕ) (K N A C T out : List ℕ) → isSet set ≡ true → length K ≡ rowOf set .key → length N ≡ rowOf set .key
+    → length A ≤ adLimit → length C ≤ textLimit → length C ≤ length out
+    → m .unseal set K N A C T out .outcome .answer
+    ≡ first Done
+    (TagLength when not (eqb (length T) (rowOf set .key)) ∷ TagDiffers when not (same T (sealed (rowOf set) K N A (decrypted (rowOf set) K N A C .out) .tag)) ∷ [])
+by-tag m l set K N A C T out known key nonce ad cipher room =
+    l .unseal set K N A C T out
+    ∙ rw (
+      known,
+      eq-eqb (length K) (rowOf set .key) key,
+      eq-eqb (length N) (rowOf set .key) nonce,
+      le-leb (length A) adLimit ad,
+      le-leb (length C) textLimit cipher,
+      le-leb (length C) (length out) room,
+      none-opened set K N A C T key,
+    )
 
 -- ---- what they leave
 

@@ -1,19 +1,16 @@
 -- The second walk agrees with the first, and with the opening of the whole message: from the second and the third demand, and what is listed and reported.
-use mathlib.Core.Path.{_≡_, refl, sym, ap, _∙_, subst}
+use mathlib.Core.Path.{_≡_, refl, sym, _∙_, subst}
 use mathlib.Core.Bool.{Bool, true, false, cond, not}
 use mathlib.Core.List.{List}
 use mathlib.Core.Logic.{inl, inr}
-use mathlib.Core.Option.{some, none}
 use Prim.Native.Nat.{ℕ, _≤_}
 use native.Mathlib.Omega.{arith}
 use lib.ListN.{length}
-use borrow.Author.Tests.{eq-eqb, le-leb}
+use borrow.Author.Tests.{eq-eqb}
 use Rattle.answers.specs.declared.Answer.the-variants.{Done, TagDiffers}
 use Rattle.permutation.specs.Strings.{same}
-use Rattle.ascon.specs.Sets.{rowOf, adLimit, textLimit}
-use Rattle.ascon.specs.Mode.{Processed, decrypted, finalise, sealed, opened}
-use Rattle.ascon.proofs.Sealing.{encrypt-decrypted}
-use Rattle.sets.proofs.Rows.{row-fits}
+use Rattle.ascon.specs.Sets.{rowOf}
+use Rattle.ascon.specs.Mode.{decrypted, sealed}
 use Rattle.stream.specs.declared.Direction.the-variants.{Opening}
 use Rattle.stream.specs.Calls.{Start}
 use Rattle.history.specs.History.{Call, History, begun, after}
@@ -22,26 +19,13 @@ use Rattle.history.specs.Cuts.{startTowards, finishAnswer, Message}
 use Rattle.history.proofs.History.{passed}
 use Rattle.history.proofs.Cuts.{whole}
 use Rattle.history.proofs.Directions.{cutting-does-not-matter, walks-agree}
-use Rattle.message.specs.Message.{isNone}
 use Rattle.letter.specs.Calls.{Through}
 use Rattle.letter.specs.Messages as messages
 use Rattle.letter.specs.Model.{Model, ours, Keeps}
 use Rattle.letter.specs.Walk.{SecondWalk}
-use Rattle.letter.proofs.Messages.{listed, reported}
+use Rattle.letter.proofs.Messages.{listed, by-tag, reported}
 use Rattle.letter.proofs.Second.{unrefused, second-demand}
 use Rattle.letter.proofs.Model.{keeps, of-kept}
-
--- nothing is opened exactly where the tag is not the one that the document gives the decryption
-none-opened : (set : ℕ) (K N A C T : List ℕ) → length K ≡ rowOf set .key
-    → isNone (opened (rowOf set) K N A C T) ≡ not (same T (sealed (rowOf set) K N A (decrypted (rowOf set) K N A C .out) .tag))
-unfolding opened sealed
-none-opened set K N A C T key =
-    go (same T (finalise (rowOf set) K (decrypted (rowOf set) K N A C .state)))
-    ∙ ap (λ (w : Processed). not (same T (finalise (rowOf set) K (w .state)))) (sym (encrypt-decrypted (rowOf set) (row-fits set) K key N A C))
-  where
-    go : (t : Bool) → isNone (cond t (some (decrypted (rowOf set) K N A C .out)) none) ≡ not t
-    go true = refl
-    go false = refl
 
 module _ (start : Start) (A C : List ℕ) (calls : List Call) (tag out : List ℕ) (m : Message histories.ours (startTowards Opening start) A C calls) (room : length C ≤ length out) where
   abbrev set : ℕ
@@ -57,17 +41,8 @@ module _ (start : Start) (A C : List ℕ) (calls : List Call) (tag out : List �
   whole-answer : messages.ours .unseal set (start .key) (start .nonce) A C tag out .outcome .answer ≡ finishAnswer Opening (rowOf set) published tag
   whole-answer =
       let ok = passed (startTowards Opening start) (m .started) in
-      let short : length C ≤ textLimit = omega (arith, m .text-within, ok .within) in
-      listed .unseal set (start .key) (start .nonce) A C tag out
-      ∙ rw (
-        ok .start .known,
-        eq-eqb (length (start .key)) (rowOf set .key) (ok .start .key-fits),
-        eq-eqb (length (start .nonce)) (rowOf set .key) (ok .start .nonce-fits),
-        le-leb (length A) adLimit (m .ad-within),
-        le-leb (length C) textLimit short,
-        le-leb (length C) (length out) room,
-        none-opened set (start .key) (start .nonce) A C tag (ok .start .key-fits),
-      )
+      by-tag messages.ours listed set (start .key) (start .nonce) A C tag out (ok .start .known) (ok .start .key-fits) (ok .start .nonce-fits) (m .ad-within)
+      (omega (arith, m .text-within, ok .within)) room
 
   -- with a tag of the set's length it is done, or 9
   through : length tag ≡ rowOf set .key → Through (finishAnswer Opening (rowOf set) published tag)

@@ -3,7 +3,7 @@ use mathlib.Core.Path.{_≡_, refl, sym, ap, _∙_, subst}
 use mathlib.Core.Bool.{Bool, true, false, cond, not, _&&_, true≢false, false≢true, and-eq-true-iff}
 use mathlib.Core.Logic.{inl, inr}
 use mathlib.Core.List.{List, [], _∷_, _++_, append-nil}
-use Prim.Native.Nat.{ℕ, zero, suc, _+_, _-_, _^_, _≤_, _<_}
+use Prim.Native.Nat.{ℕ, zero, suc, _+_, _-_, _≤_, _<_}
 use native.Mathlib.Nat.{le-refl}
 use native.Mathlib.Omega.{arith}
 use lib.Dec.{leb, lit≤, lit<}
@@ -21,7 +21,7 @@ use Rattle.answers.specs.Numbers.{numberOf, isDone}
 use Rattle.answers.proofs.Numbers.{done-is}
 use Rattle.answers.proofs.Order.{none-holds}
 use Rattle.ascon.specs.Sets.{table, isSet, rowOf}
-use Rattle.ascon.specs.Mode.{p, count, pad, beforeKey, initialise, separate, beforeText, encrypted, decrypted, finalise, Processed, Sealed, sealed, opened}
+use Rattle.ascon.specs.Mode.{p, count, pad, beforeKey, initialise, separate, beforeText, encrypted, decrypted, finalise, Sealed, sealed, opened}
 use Rattle.ascon.specs.Rounds.{adBlocks, textBlocks, messageRounds}
 use Rattle.ascon.proofs.Sealing.{open-sealed, only-text, only-tag, length-decrypted}
 use Rattle.sets.proofs.Rows.{row-fits, row-sizes}
@@ -38,7 +38,6 @@ use Rattle.history.specs.Cuts.{TextCut, TextCut.text-end, TextCut.text-piece, C
 use Rattle.history.proofs.Directions.{yes-published}
 use Rattle.message.specs.Message.{SealLeaves, isNone}
 use Rattle.answers.specs.Order.{Choice, _when_, first}
-use Rattle.message.proofs.Answered.{one-text}
 use Rattle.message.proofs.Promise.{length-cipher}
 use Rattle.letter.specs.Messages as messages
 use Rattle.letter.specs.Streams as streams
@@ -47,6 +46,8 @@ use Rattle.letter.specs.Second.{Unrefused, Second}
 use Rattle.letter.specs.Third.{Third}
 use Rattle.letter.specs.Worthless.{NeverSeals, NeverOpens, NeverStarts, SealsBlindly, Copies, CopiesOpenings, CopiesLater, HoldsBack, CrossesText, CrossesFinish, EmptyEnds, ForgetsText, PassesLimit, ForgetsLimit, OpensAnyTag, AgreesToTwo, SameRounds, SameStreamRounds, ReportsLate, StaysOpen, OpenOnNine, SilentNine, WritesBeyond, Worthless}
 use Rattle.letter.proofs.Second.{unrefused}
+use Rattle.letter.proofs.Nines.{one-plaintext}
+use Rattle.letter.proofs.Telling.{other, other-differs, bytes-other, leaves-plaintext, leaves-difference, rounds-by-tag, rounds-by-key, finish-by-tag, keeps-key, opens-to-place}
 
 -- a key, a nonce and a place for a tag, of set 1
 abbrev sixteen : List ℕ
@@ -126,29 +127,6 @@ opens-zeros m l =
 refuses-openings : (m : messages.Model) → NeverOpens m → messages.Listed m → ⊥
 refuses-openings m undone l = undone 1 sixteen sixteen [] _ _ (zeros 2) (opens-zeros m l)
 
--- another byte
-other : ℕ → ℕ
-other zero = 1
-other (suc byte) = 0
-
-other-differs : (byte : ℕ) → byte ≡ other byte → ⊥
-unfolding other
-other-differs zero e = omega (arith, e)
-other-differs (suc byte) e = omega (arith, e)
-
--- with another first byte, bytes stay bytes
-bytes-other : (byte : ℕ) (rest : List ℕ) → Bytes (byte ∷ rest) → Bytes (other byte ∷ rest)
-unfolding other
-bytes-other byte rest b = record { at = go byte }
-  where
-    small : (byte : ℕ) → other byte < 2 ^ 8
-    small zero = lit< tt
-    small (suc byte) = lit< tt
-
-    go : (byte i : ℕ) → getD (other byte ∷ rest) i 0 < 2 ^ 8
-    go byte zero = small byte
-    go byte (suc i) = b .at (suc i)
-
 -- two texts that differ have no sealing in common
 answers-same : (m : messages.Model) (same : ℕ → ℕ → ℕ → ℕ → ℕ → List ℕ → List ℕ → SealLeaves) → SealsBlindly m same
     → (set : ℕ) (K N A : List ℕ) (byte : ℕ) (rest out tag : List ℕ) → Bytes (byte ∷ rest) → length K ≡ rowOf set .key
@@ -164,7 +142,7 @@ answers-same m same always set K N A byte rest out tag bytes key done s =
       cipher = (sym (p .0) ∙ ap (λ (x : SealLeaves). take (length P) (x .out)) one ∙ q .0) j;
       tag = (sym (p .1) ∙ ap (λ (x : SealLeaves). x .tag) one ∙ q .1) j;
     } in
-    other-differs byte (ap (λ (x : List ℕ). getD x 0 0) (one-text set K N A P Q key both))
+    other-differs byte (ap (λ (x : List ℕ). getD x 0 0) (one-plaintext .sealing set K N A _ _ _ P Q key both refl .0))
 
 -- two zeros are not their own ciphertext
 copies : (m : messages.Model) → Copies m → messages.Listed m → Second m → ⊥
@@ -582,4 +560,11 @@ worthless =
       forgets-limit = forgets-limit;
       makes-up = makes-up;
       makes-up-streams = makes-up-streams;
+      leaves-plaintext = leaves-plaintext;
+      leaves-difference = leaves-difference;
+      rounds-by-tag = rounds-by-tag;
+      rounds-by-key = rounds-by-key;
+      finish-by-tag = finish-by-tag;
+      keeps-key = keeps-key;
+      opens-to-place = opens-to-place;
     }

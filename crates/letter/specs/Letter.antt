@@ -31,6 +31,7 @@ use Rattle.letter.specs.First.{First}
 use Rattle.letter.specs.Second.{Second}
 use Rattle.letter.specs.Third.{Third}
 use Rattle.letter.specs.Walk.{SecondWalk}
+use Rattle.letter.specs.Nines.{NinesAlike, OnePlaintext, OpensOnce}
 use Rattle.letter.specs.Worthless.{Worthless}
 
 pub record Letter : Type 2 where
@@ -42,7 +43,12 @@ pub record Letter : Type 2 where
   pub third : (m : Model) → Keeps m → Third (m .streams)
   -- whether a second walk, which opens, agrees with the first, which checked, and with the opening of the whole message
   pub second-walk : (m : Model) → Keeps m → SecondWalk m
-  -- behind it: after any calls, also refused ones, the state, with its counts, is that of the start, the phase, and what was taken
+  -- what a refused opening gives away: those that are answered 9 are alike, of whole messages and of streams
+  pub nines-alike : (m : Model) → Keeps m → NinesAlike m
+  -- and no ciphertext and tag open to two plaintexts: of the definitions, and of the calls
+  pub one-plaintext : OnePlaintext
+  pub opens-once : (m : Model) → Keeps m → OpensOnce m
+  -- behind the third demand: after any calls, also refused ones, the state, with its counts, is that of the start, the phase, and what was taken
   pub history : (m : Model) → Keeps m → HistoryLaw (m .streams)
   -- what the third demand said of cuttings before a start chose a limit is its case of the largest one, and so are the tests of a start, of an open state and of text
   pub third-before : (m : Streams) → CuttingDoesNotMatter m → CuttingBefore m

@@ -13,6 +13,7 @@ pub mod First
 pub mod Second
 pub mod Third
 pub mod Walk
+pub mod Nines
 pub mod Worthless
 pub mod Wrong
 pub mod Letter

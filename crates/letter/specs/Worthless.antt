@@ -1,13 +1,14 @@
 -- Worthless versions, and what each of them breaks. A version is any model that does what is said of it, whatever else it does.
-use mathlib.Core.Bool.{true, false}
+use mathlib.Core.Bool.{true, false, cond}
 use mathlib.Core.List.{List, [], _∷_}
 use mathlib.Core.Path.{_≡_}
-use Prim.Native.Nat.{ℕ, _+_, _≤_, _<_}
+use Prim.Native.Nat.{ℕ, suc, _+_, _≤_, _<_}
+use lib.Dec.{eqb}
 use lib.ListN.{length, getD, take}
 use Rattle.answers.specs.declared.Answer.the-variants.{Done, TagDiffers}
-use Rattle.permutation.specs.Strings.{Bytes}
-use Rattle.ascon.specs.Sets.{rowOf}
-use Rattle.ascon.specs.Mode.{sealed}
+use Rattle.permutation.specs.Strings.{Bytes, zeros}
+use Rattle.ascon.specs.Sets.{isSet, rowOf, adLimit, textLimit}
+use Rattle.ascon.specs.Mode.{_⊕_, decrypted, sealed}
 use Rattle.stream.specs.declared.Direction.{Direction}
 use Rattle.stream.specs.declared.Direction.the-variants.{Sealing}
 use Rattle.stream.specs.declared.Phase.the-variants.{Ended}
@@ -15,13 +16,15 @@ use Rattle.stream.specs.declared.Stream.{Stream}
 use Rattle.stream.specs.State.{givesText, givesTag, isOpen}
 use Rattle.stream.specs.Calls.{Start}
 use Rattle.history.specs.History.{Streams, Call, begun, after, Started}
-use Rattle.history.specs.Cuts.{Message}
+use Rattle.history.specs.Cuts.{Message, publishedTag}
 use Rattle.message.specs.Message.{SealLeaves}
 use Rattle.letter.specs.Calls.{Through}
 use Rattle.letter.specs.Messages as messages
 use Rattle.letter.specs.Streams as streams
+use Rattle.letter.specs.Model.{Model}
 use Rattle.letter.specs.Second.{Unrefused, Second}
 use Rattle.letter.specs.Third.{Third}
+use Rattle.letter.specs.Nines.{NinesAlike, OpensOnce}
 
 -- ---- the versions
 
@@ -121,6 +124,66 @@ WritesBeyond m d s piece out index =
     let leaves = m .text d s piece out in
     (leaves .outcome .answer ≡ Done) × (length piece ≤ index) × (getD (leaves .lent) index 0 ≡ getD out index 0 → ⊥)
 
+-- ---- those that give something away with a 9
+
+-- what an opening is handed beside its tag fits, so that the tag decides
+pub record Fitting (set : ℕ) (K N A C out : List ℕ) : Type 0 where
+  pub known : isSet set ≡ true
+  pub key : length K ≡ rowOf set .key
+  pub key-bytes : Bytes K
+  pub nonce : length N ≡ rowOf set .key
+  pub ad : length A ≤ adLimit
+  pub cipher : length C ≤ textLimit
+  pub room : length C ≤ length out
+
+-- the tag under which the document opens a ciphertext
+abbrev pub rightTag : ℕ → List ℕ → List ℕ → List ℕ → List ℕ → List ℕ
+rightTag set K N A C = sealed (rowOf set) K N A (decrypted (rowOf set) K N A C .out) .tag
+
+-- how many bytes of a tag are right before its first wrong one
+abbrev pub rightBytes : List ℕ → List ℕ → ℕ
+rightBytes [] right = 0
+rightBytes (byte ∷ tag) [] = 0
+rightBytes (byte ∷ tag) (b ∷ right) = cond (eqb byte b) (suc (rightBytes tag right)) 0
+
+-- with each 9 in a set, under one key, nonce and data and with one place, leaves the first byte that the wrong ciphertext decrypts to
+abbrev pub LeavesPlaintext : messages.Model → ℕ → List ℕ → List ℕ → List ℕ → List ℕ → Type 0
+LeavesPlaintext m set K N A out =
+    (C T : List ℕ) → Bytes C → Bytes T → 0 < length C → let leaves = m .unseal set K N A C T out in
+    leaves .outcome .answer ≡ TagDiffers → getD (leaves .out) 0 0 ≡ getD (decrypted (rowOf set) K N A C .out) 0 0
+
+-- with each 9 to one ciphertext, leaves the difference of the right tag and the wrong one, at least of their first bytes
+abbrev pub LeavesDifference : messages.Model → ℕ → List ℕ → List ℕ → List ℕ → List ℕ → List ℕ → Type 0
+LeavesDifference m set K N A C out =
+    (T : List ℕ) → Bytes T → let leaves = m .unseal set K N A C T out in
+    leaves .outcome .answer ≡ TagDiffers → getD (leaves .out) 0 0 ≡ getD (rightTag set K N A C ⊕ T) 0 0
+
+-- with each 9 to one ciphertext, reports rounds by how far the tag was right: a number, and one more for each right byte
+abbrev pub RoundsByTag : messages.Model → ℕ → List ℕ → List ℕ → List ℕ → List ℕ → List ℕ → ℕ → Type 0
+RoundsByTag m set K N A C out base =
+    (T : List ℕ) → Bytes T → let outcome = m .unseal set K N A C T out .outcome in
+    outcome .answer ≡ TagDiffers → outcome .rounds ≡ base + rightBytes T (rightTag set K N A C)
+
+-- with each 9 to one ciphertext, reports rounds by the first byte of the key
+abbrev pub RoundsByKey : messages.Model → ℕ → List ℕ → List ℕ → List ℕ → List ℕ → ℕ → Type 0
+RoundsByKey m set N A C out base =
+    (K T : List ℕ) → Bytes K → Bytes T → let outcome = m .unseal set K N A C T out .outcome in
+    outcome .answer ≡ TagDiffers → outcome .rounds ≡ base + getD K 0 0
+
+-- with each 9 of a finish, after one cut message, reports rounds by how far the tag was right
+abbrev pub FinishByTag : Streams → Start → List ℕ → List ℕ → List Call → ℕ → Type 0
+FinishByTag m start A C calls base =
+    (T : List ℕ) → Bytes T → let outcome = m .finish (start .direction) (after m (begun m start) calls .stream) T .outcome in
+    outcome .answer ≡ TagDiffers → outcome .rounds ≡ base + rightBytes T (publishedTag start A C)
+
+-- with each 9 of a finish in a direction, leaves the stream's key in the state
+abbrev pub KeepsKey : Streams → Direction → Type 0
+KeepsKey m d = (s : Stream) (tag : List ℕ) → let outcome = m .finish d s tag .outcome in outcome .answer ≡ TagDiffers → outcome .next .key ≡ s .key
+
+-- says done to one ciphertext and tag, and hands out what the place held before, whatever that was
+abbrev pub OpensToPlace : messages.Model → ℕ → List ℕ → List ℕ → List ℕ → List ℕ → List ℕ → Type 0
+OpensToPlace m set K N A C T = (out : List ℕ) → let leaves = m .unseal set K N A C T out in leaves .outcome .answer ≡ Done → leaves .out ≡ out
+
 -- ---- what they break
 
 pub record Worthless : Type 0 where
@@ -166,3 +229,19 @@ pub record Worthless : Type 0 where
   pub forgets-limit : (m : Streams) (d : Direction) (s : Stream) (piece out : List ℕ) → ForgetsLimit m d s piece out → streams.Reported m → ⊥
   pub stays-open : (m : Streams) (d : Direction) (s : Stream) (tag : List ℕ) → StaysOpen m d s tag → streams.Reported m → ⊥
   pub writes-beyond : (m : Streams) (d : Direction) (s : Stream) (piece out : List ℕ) (index : ℕ) → WritesBeyond m d s piece out index → streams.Reported m → ⊥
+  -- that two openings, or two finishes, that are answered 9 are alike, in every set; the listed conditions, or the third demand, only say which are
+  pub leaves-plaintext : (m : Model) (set : ℕ) (K N A out : List ℕ) → Fitting set K N A (0 ∷ []) out → LeavesPlaintext (m .messages) set K N A out
+      → messages.Listed (m .messages) → NinesAlike m → ⊥
+  pub leaves-difference : (m : Model) (set : ℕ) (K N A C out : List ℕ) → Fitting set K N A C out → LeavesDifference (m .messages) set K N A C out
+      → messages.Listed (m .messages) → NinesAlike m → ⊥
+  pub rounds-by-tag : (m : Model) (set : ℕ) (K N A C out : List ℕ) (base : ℕ) → Fitting set K N A C out → RoundsByTag (m .messages) set K N A C out base
+      → messages.Listed (m .messages) → NinesAlike m → ⊥
+  pub rounds-by-key : (m : Model) (set byte : ℕ) (rest N A C out : List ℕ) (base : ℕ) → Fitting set (byte ∷ rest) N A C out
+      → RoundsByKey (m .messages) set N A C out base → messages.Listed (m .messages) → NinesAlike m → ⊥
+  pub keeps-key : (m : Model) (d : Direction) → givesTag d ≡ false → KeepsKey (m .streams) d → streams.Listed (m .streams) → NinesAlike m → ⊥
+  pub finish-by-tag : (m : Model) (start : Start) (A C : List ℕ) (calls : List Call) (base : ℕ) → givesTag (start .direction) ≡ false
+      → length (start .key) ≡ rowOf (start .set) .key → Message (m .streams) start A C calls → FinishByTag (m .streams) start A C calls base → Third (m .streams) → NinesAlike m → ⊥
+  -- that a ciphertext and tag open to one plaintext
+  pub opens-to-place : (m : Model) (set : ℕ) (K N A : List ℕ) (byte : ℕ) (rest : List ℕ) → let published = sealed (rowOf set) K N A (byte ∷ rest) in
+      Fitting set K N A (published .cipher) (zeros (length (byte ∷ rest))) → OpensToPlace (m .messages) set K N A (published .cipher) (published .tag)
+      → messages.Listed (m .messages) → OpensOnce m → ⊥

@@ -166,12 +166,3 @@ module _ (set : ℕ) (K N A C T out : List ℕ) where
     open-of x =
         let found = judged-some (opened (rowOf set) K N A C T) (sym (ap (λ (s : OpenLeaves). s .outcome .answer) (open-passed done)) ∙ x) in
         (found .0, seal-opened (rowOf set) (row-fits set) K key N A (found .0) C T (found .1))
-
--- no two texts have one sealing
-pub one-text : (set : ℕ) (K N A P Q : List ℕ) → length K ≡ rowOf set .key → sealed (rowOf set) K N A P ≡ sealed (rowOf set) K N A Q → P ≡ Q
-one-text set K N A P Q key e =
-    let same : some P ≡ some Q =
-    sym (open-sealed (rowOf set) (row-fits set) K key N A P)
-    ∙ ap (λ (w : Sealed). opened (rowOf set) K N A (w .cipher) (w .tag)) e
-    ∙ open-sealed (rowOf set) (row-fits set) K key N A Q in
-    cc

@@ -41,5 +41,6 @@ wrong = record {
   kvistmaur-seal-four = λ other differs κ e p. differs (p .0);
   kvistmaur-open-three = λ other differs κ e p. differs (p .0);
   kvistmaur-open-four = λ other differs κ e p. differs (p .0);
+  kvistmaur-open-nine = (λ n x differs κ p. differs p, λ n x differs κ p. differs p, λ n x differs κ p. differs p, λ n x differs κ p. differs p);
   kvistmaur-open-key = λ κ e p. off (cc (p .0));
 }

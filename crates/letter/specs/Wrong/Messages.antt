@@ -22,6 +22,15 @@ SealsOnly set K N A P cipher tag =
     (o : Outcome) (out left : List ℕ) → ((out ≡ cipher) × (left ≡ tag) → ⊥)
     → NeverLeaves message.seal.Reads.Learnt (whole set K N A P (zeros (length cipher)) (zeros (length tag))) o (whole set K N A P out left)
 
+-- through the C boundary an opening returns nothing but this number, and leaves nothing but this
+abbrev pub OpensOnly : ℕ → List ℕ → List ℕ → List ℕ → List ℕ → List ℕ → List ℕ → ℕ → List ℕ → Type 0
+OpensOnly set K N A C tag out number left =
+    (n : ℕ) (x : List ℕ) → ((n ≡ number) × (x ≡ left) → ⊥) → NeverLeaves gateway.kvistmaur_open.Reads.Learnt (whole set K N A C tag out) n (whole set K N A C tag x)
+
+-- so it answers a byte under a tag of zeros, where key and nonce are zeros of so many bytes: 24 rounds and 9, and the byte is cleared
+abbrev pub NineTo : ℕ → ℕ → Type 0
+NineTo set size = OpensOnly set (zeros size) (zeros size) [] (0 ∷ []) (zeros size) (0xff ∷ 0xff ∷ []) 393 (0 ∷ 0xff ∷ [])
+
 pub record Wrong : Type 0 where
   -- answer 1 comes before all others, for every number that no set has, whatever else is handed over
   pub start-test-set : (set key nonce : ℕ) → NoSet set → Only sets.start_test.Reads.Learnt (set, (key, (nonce, tt))) UnknownSet
@@ -75,5 +84,7 @@ pub record Wrong : Type 0 where
   pub kvistmaur-seal-four : Only gateway.kvistmaur_seal.Reads.Learnt (whole 4 counting counting [] [] [] (zeros 16)) 384
   pub kvistmaur-open-three : Only gateway.kvistmaur_open.Reads.Learnt (whole 3 counting counting [] [] (bytesOf 16 0xe355159f292911f794cb1432a0103a8a) []) 384
   pub kvistmaur-open-four : Only gateway.kvistmaur_open.Reads.Learnt (whole 4 counting counting [] [] (bytesOf 16 0x7a834e6f09210957067b10fd831f0078) []) 384
+  -- a wrong tag is the number of 24 rounds and 9 in each set, and nothing of the plaintext is left
+  pub kvistmaur-open-nine : NineTo 1 16 × NineTo 2 12 × NineTo 3 16 × NineTo 4 16
   -- a key of 15 with a wrong nonce is the word 2, and not 3
   pub kvistmaur-open-key : Never gateway.kvistmaur_open.Reads.Learnt (1, (lent (zeros 15), (lent [], (lent [], (lent [], (lent [], (lent [], tt))))))) 3

@@ -1,0 +1,109 @@
+-- What a refused opening gives away: two that are answered 9 are alike in all that their caller sees; and no ciphertext and tag open to two plaintexts. Of every set.
+use mathlib.Core.List.{List}
+use mathlib.Core.Option.{some}
+use mathlib.Core.Path.{_≡_}
+use Prim.Native.Nat.{ℕ, _+_, _%_}
+use lib.ListN.{length, take}
+use Rattle.answers.specs.declared.Answer.the-variants.{Done, TagDiffers}
+use Rattle.ascon.specs.Sets.{rowOf}
+use Rattle.ascon.specs.Mode.{sealed, opened}
+use Rattle.message.specs.Message.{OpenLeaves}
+use Rattle.stream.specs.declared.Direction.{Direction}
+use Rattle.stream.specs.declared.Direction.the-variants.{Opening}
+use Rattle.stream.specs.declared.Stream.{Stream}
+use Rattle.stream.specs.Calls.{Start}
+use Rattle.history.specs.History.{Call, begun, after}
+use Rattle.history.specs.Cuts.{Message}
+use Rattle.letter.specs.Messages as messages
+use Rattle.letter.specs.Model.{Model}
+
+-- ---- two openings
+
+-- what an opening is handed, beside its set and the place for the plaintext
+pub record Handed : Type 0 where
+  pub key : List ℕ
+  pub nonce : List ℕ
+  pub ad : List ℕ
+  pub cipher : List ℕ
+  pub tag : List ℕ
+
+-- two of the same lengths, whatever their contents
+pub record SameLengths (one other : Handed) : Type 0 where
+  pub key : length (one .key) ≡ length (other .key)
+  pub nonce : length (one .nonce) ≡ length (other .nonce)
+  pub ad : length (one .ad) ≡ length (other .ad)
+  pub cipher : length (one .cipher) ≡ length (other .cipher)
+  pub tag : length (one .tag) ≡ length (other .tag)
+
+-- its opening in a set, with a place that holds `out` before
+abbrev pub unsealed : messages.Model → ℕ → Handed → List ℕ → OpenLeaves
+unsealed m set x out = m .unseal set (x .key) (x .nonce) (x .ad) (x .cipher) (x .tag) out
+
+-- the same through the C boundary
+abbrev pub unsealedWord : messages.Model → ℕ → Handed → List ℕ → messages.OpenWord
+unsealedWord m set x out = m .openWord set (x .key) (x .nonce) (x .ad) (x .cipher) (x .tag) out
+
+-- two streams of one set and direction, in the same phase and with the same counts of data and text, whatever their words, keys and limits
+pub record SameCounts (one other : Stream) : Type 0 where
+  pub set : one .set ≡ other .set
+  pub direction : one .direction ≡ other .direction
+  pub phase : one .phase ≡ other .phase
+  pub ad : one .ad ≡ other .ad
+  pub text : one .text ≡ other .text
+
+pub record NinesAlike (m : Model) : Type 0 where
+  -- two openings of one set, with the same lengths and the same output before: answered 9, they report the same rounds and leave the same output
+  pub opening : (set : ℕ) (one other : Handed) (out : List ℕ) → SameLengths one other → let x = unsealed (m .messages) set one out in
+      let y = unsealed (m .messages) set other out in
+      x .outcome .answer ≡ TagDiffers → y .outcome .answer ≡ TagDiffers → (x .outcome .rounds ≡ y .outcome .rounds) × (x .out ≡ y .out)
+  -- through the C boundary, where the answer is the remainder of the number by 16: they return the same number and leave the same output
+  pub boundary : (set : ℕ) (one other : Handed) (out : List ℕ) → SameLengths one other → let x = unsealedWord (m .messages) set one out in
+      let y = unsealedWord (m .messages) set other out in
+      x .word % 16 ≡ 9 → y .word % 16 ≡ 9 → (x .word ≡ y .word) × (x .out ≡ y .out)
+  -- two finishes, of checking or opening streams, with whatever tags: answered 9, they report the same rounds and end in the same state
+  pub finish : (d : Direction) (one other : Stream) (tag tag' : List ℕ) → SameCounts one other → let x = m .streams .finish d one tag .outcome in
+      let y = m .streams .finish d other tag' .outcome in
+      x .answer ≡ TagDiffers → y .answer ≡ TagDiffers → (x .rounds ≡ y .rounds) × (x .next ≡ y .next)
+  -- two cut messages of one set and direction, with data and text of the same lengths, however each was cut: their finishes answered 9, all their rounds add up to the same,
+  -- and they end in the same state
+  pub walk : (start start' : Start) (A A' C C' : List ℕ) (calls calls' : List Call) (tag tag' : List ℕ)
+      → start .set ≡ start' .set → start .direction ≡ start' .direction → length A ≡ length A' → length C ≡ length C'
+      → Message (m .streams) start A C calls → Message (m .streams) start' A' C' calls' → let h = after (m .streams) (begun (m .streams) start) calls in
+      let k = after (m .streams) (begun (m .streams) start') calls' in
+      let x = m .streams .finish (start .direction) (h .stream) tag .outcome in
+      let y = m .streams .finish (start' .direction) (k .stream) tag' .outcome in
+      x .answer ≡ TagDiffers → y .answer ≡ TagDiffers → (h .rounds + x .rounds ≡ k .rounds + y .rounds) × (x .next ≡ y .next)
+  -- and two openings of which neither is done are alike, whatever they are answered: 1 to 6 are told by the set and the lengths alone
+  pub undone : (set : ℕ) (one other : Handed) (out : List ℕ) → SameLengths one other → let x = unsealed (m .messages) set one out in
+      let y = unsealed (m .messages) set other out in
+      (x .outcome .answer ≡ Done → ⊥) → (y .outcome .answer ≡ Done → ⊥) → x ≡ y
+
+-- ---- one plaintext, under one set, key, nonce and data
+
+-- of the published definitions
+pub record OnePlaintext : Type 0 where
+  -- a ciphertext is the sealing of one text at most, under one tag; the key has the set's length, as in every call that is not refused with 2
+  pub sealing : (set : ℕ) (K N A C T T' P P' : List ℕ) → length K ≡ rowOf set .key
+      → sealed (rowOf set) K N A P ≡ record { cipher = C; tag = T } → sealed (rowOf set) K N A P' ≡ record { cipher = C; tag = T' } → (P ≡ P') × (T ≡ T')
+  -- and is opened to one text at most, under one tag
+  pub opening : (set : ℕ) (K N A C T T' P P' : List ℕ)
+      → opened (rowOf set) K N A C T ≡ some P → opened (rowOf set) K N A C T' ≡ some P' → (P ≡ P') × (T ≡ T')
+
+-- of the calls, with whatever places and limits
+pub record OpensOnce (m : Model) : Type 0 where
+  -- the opening of a whole message
+  pub opening : (set : ℕ) (K N A C T T' out out' : List ℕ) → let x = m .messages .unseal set K N A C T out in
+      let y = m .messages .unseal set K N A C T' out' in
+      x .outcome .answer ≡ Done → y .outcome .answer ≡ Done → (take (length C) (x .out) ≡ take (length C) (y .out)) × (T ≡ T')
+  -- through the C boundary
+  pub boundary : (set : ℕ) (K N A C T T' out out' : List ℕ) → let x = m .messages .openWord set K N A C T out in
+      let y = m .messages .openWord set K N A C T' out' in
+      x .word % 16 ≡ 0 → y .word % 16 ≡ 0 → (take (length C) (x .out) ≡ take (length C) (y .out)) × (T ≡ T')
+  -- opening streams, however the message was cut
+  pub stream : (set limit limit' : ℕ) (K N A C T T' : List ℕ) (calls calls' : List Call)
+      → let start : Start = record { direction = Opening; set = set; limit = limit; key = K; nonce = N } in
+      let start' : Start = record { direction = Opening; set = set; limit = limit'; key = K; nonce = N } in
+      Message (m .streams) start A C calls → Message (m .streams) start' A C calls' → let h = after (m .streams) (begun (m .streams) start) calls in
+      let k = after (m .streams) (begun (m .streams) start') calls' in
+      m .streams .finish Opening (h .stream) T .outcome .answer ≡ Done → m .streams .finish Opening (k .stream) T' .outcome .answer ≡ Done
+      → (h .out ≡ k .out) × (T ≡ T')
