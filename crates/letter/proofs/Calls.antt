@@ -1,16 +1,17 @@
 -- Laws of any call: its one outcome, its listed answer.
-use mathlib.Core.Path.{_≡_, refl, sym, _∙_}
-use mathlib.Core.Bool.{false}
+use mathlib.Core.Path.{_≡_, refl, sym, ap, _∙_}
+use mathlib.Core.Bool.{false, false≢true}
 use mathlib.Core.List.{[]}
 use mathlib.Core.Logic.{inl, inr}
-use Prim.Native.Nat.{ℕ, zero, suc}
+use Prim.Native.Nat.{ℕ, zero, suc, _≤_}
 use native.Mathlib.Omega.{arith}
 use borrow.Author.Tests.{le-leb, lt-leb}
 use contract.Lifetimes.{Lfts}
 use Rattle.answers.specs.declared.Answer.{Answer}
 use Rattle.answers.specs.declared.Answer.the-variants.{Done}
+use Rattle.answers.specs.Numbers.{numberOf, isDone}
 use Rattle.ascon.specs.Sets.{table, isSet}
-use Rattle.letter.specs.Calls.{Answered, NoSet, Refused}
+use Rattle.letter.specs.Calls.{Answered, NoSet, Refused, Through}
 
 -- some lifetimes
 abbrev pub lifetimes : (n : ℕ) → Lfts n
@@ -36,6 +37,11 @@ done-says answer Kept e = record { is = e; kept = λ r. absurd (r .0 e) }
 -- where something was kept
 pub says : (answer : Answer) (Kept : Type 0) → Kept → Says answer answer Kept
 says answer Kept k = record { is = refl; kept = λ _. k }
+
+-- a refusal with 1 to 8 is neither done nor 9
+pub stopped : (answer : Answer) → isDone answer ≡ false → numberOf answer ≤ 8 → Through answer → ⊥
+stopped answer f small (inl e) = false≢true (sym f ∙ ap isDone e)
+stopped answer f small (inr e) = let nine : numberOf answer ≡ 9 = ap numberOf e in omega (arith, nine, small)
 
 -- a number that no set has is not taken for one
 pub no-set : (set : ℕ) → NoSet set → isSet set ≡ false

@@ -1,8 +1,7 @@
 -- Whole messages and their C boundary: what is said of their calls holds.
 use mathlib.Core.Path.{_≡_, refl, sym, ap, _∙_}
-use mathlib.Core.Bool.{Bool, true, false, cond, not, false≢true}
+use mathlib.Core.Bool.{Bool, true, false, cond, not}
 use mathlib.Core.List.{List, [], _∷_, _++_}
-use mathlib.Core.Logic.{inl, inr}
 use mathlib.Core.Option.{Option, some, none}
 use Prim.Native.Nat.{ℕ, _≤_}
 use native.Mathlib.Omega.{arith}
@@ -28,7 +27,7 @@ use Rattle.message.proofs as message
 use Rattle.gateway.proofs as gateway
 use Rattle.letter.specs.Calls.{lent, Refused, Through}
 use Rattle.letter.specs.Messages.{Model, ours, sealWord, openWord, Keeps, EveryCall, Listed, Unchanged, Mismatch, Reported}
-use Rattle.letter.proofs.Calls.{answered, lifetimes}
+use Rattle.letter.proofs.Calls.{answered, lifetimes, stopped}
 
 -- ---- the calls
 
@@ -88,7 +87,7 @@ listed =
     }
 
 -- nothing is opened exactly where the tag is not the one that the document gives the decryption
-none-opened : (set : ℕ) (K N A C T : List ℕ) → length K ≡ rowOf set .key
+pub none-opened : (set : ℕ) (K N A C T : List ℕ) → length K ≡ rowOf set .key
     → isNone (opened (rowOf set) K N A C T) ≡ not (same T (sealed (rowOf set) K N A (decrypted (rowOf set) K N A C .out) .tag))
 unfolding opened sealed
 none-opened set K N A C T key =
@@ -207,8 +206,7 @@ open-message-reports set K N A C T out =
             Through (outcome .answer) → outcome .rounds ≡ rounds
         by true f (some P) t = refl
         by true f none t = refl
-        by false f o (inl e) = absurd (false≢true (sym f ∙ ap isDone e))
-        by false f o (inr e) = absurd (let nine : numberOf answer ≡ 9 = ap numberOf e in omega (arith, nine, small))
+        by false f o t = absurd (stopped answer f (omega (arith, small)) t)
 
 -- what each reports
 pub reported : Reported ours

@@ -2,7 +2,6 @@
 use mathlib.Core.Path.{_≡_, refl, sym, ap, _∙_, subst}
 use mathlib.Core.Bool.{Bool, true, false, cond, not, _&&_, false≢true}
 use mathlib.Core.List.{List, [], _++_}
-use mathlib.Core.Logic.{inl, inr}
 use Prim.Native.Nat.{ℕ, _+_, _-_, _≤_}
 use native.Mathlib.Omega.{arith}
 use lib.ListN.{length, drop, length-append, length-drop}
@@ -30,7 +29,7 @@ use Rattle.history.specs.History.{Streams, ours}
 use Rattle.stream.proofs as stream
 use Rattle.letter.specs.Calls.{lent, Through}
 use Rattle.letter.specs.Streams.{Keeps, EveryCall, Listed, Unchanged, Mismatch, Reported}
-use Rattle.letter.proofs.Calls.{answered, lifetimes, Says, says}
+use Rattle.letter.proofs.Calls.{answered, lifetimes, Says, says, stopped}
 
 -- ---- the calls
 
@@ -279,11 +278,6 @@ text-reports d s piece out = go (isDone (textTest d s (length piece) (length out
         × (drop (length piece) (leaves .lent) ≡ drop (length piece) out)
     go true f e = let kept-all = given-keeps d s piece out f in (refl, refl, refl, kept-all .0, kept-all .1)
     go false f e = absurd (false≢true (sym f ∙ ap isDone e))
-
--- a refused finish is not through
-stopped : (answer : Answer) → isDone answer ≡ false → numberOf answer ≤ 8 → Through answer → ⊥
-stopped answer f small (inl e) = false≢true (sym f ∙ ap isDone e)
-stopped answer f small (inr e) = let nine : numberOf answer ≡ 9 = ap numberOf e in omega (arith, nine, small)
 
 -- the end of a stream
 finish-reports : (d : Direction) (s : Stream) (tag : List ℕ) → let leaves = finishCall d s tag in

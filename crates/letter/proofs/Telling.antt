@@ -1,23 +1,28 @@
 -- Versions that give something away with a 9 are refuted: of two wrong tags, one wrong from its first byte on and one not, they say different things.
-use mathlib.Core.Path.{_≡_, refl, sym, ap, _∙_}
-use mathlib.Core.Bool.{true, false}
+use mathlib.Core.Path.{_≡_, refl, sym, ap, _∙_, subst}
+use mathlib.Core.Bool.{Bool, true, false, cond, not}
 use mathlib.Core.List.{List, [], _∷_}
 use Prim.Native.Nat.{ℕ, zero, suc, _^_, _≤_, _<_}
 use native.Mathlib.Omega.{arith}
 use lib.Bits.{bitXor}
-use lib.Dec.{lit<}
-use lib.ListN.{length, getD, take, replicate, length-replicate}
-use borrow.Author.Tests.{eq-eqb, ne-eqb}
+use lib.Dec.{eqb, lit<}
+use lib.ListN.{length, getD, take}
+use borrow.Author.Tests.{eq-eqb, ne-eqb, eqb-true, not-false}
+use Rattle.answers.specs.declared.Answer.{Answer}
 use Rattle.answers.specs.declared.Answer.the-variants.{Done, TagDiffers}
+use Rattle.answers.specs.Numbers.{numberOf, isDone}
+use Rattle.answers.specs.Order.{Choice, first}
+use Rattle.answers.proofs.Numbers.{done-is}
+use Rattle.answers.proofs.Order.{NoneHolds, none-holds, first-append, first-most}
 use Rattle.permutation.specs.Strings.{Bytes, zeros, same}
-use Rattle.permutation.proofs.Strings.{bytes-none, bytes-cons, bytes-tail, bytes-zeros, same-refl}
+use Rattle.permutation.proofs.Strings.{bytes-none, bytes-cons, bytes-tail, bytes-zeros}
 use Rattle.ascon.specs.Sets.{table, isSet, rowOf}
-use Rattle.ascon.specs.Mode.{_⊕_, Processed, encrypted, decrypted, sealed}
+use Rattle.ascon.specs.Mode.{_⊕_, Processed, encrypted, decrypted, sealed, opened}
 use Rattle.ascon.specs.Bytewise.{closed}
 use Rattle.ascon.proofs.Strings.{xor-cancel}
-use Rattle.ascon.proofs.Sealing.{length-tag, bytes-tag, length-decrypted, encrypt-decrypted, only-tag}
+use Rattle.ascon.proofs.Sealing.{length-tag, bytes-tag, length-decrypted, encrypt-decrypted}
 use Rattle.sets.proofs.Rows.{row-fits, row-sizes}
-use Rattle.message.proofs.Promise.{length-cipher}
+use Rattle.message.specs.Message.{faults, openFaults}
 use Rattle.sponge.specs.Sponge.{frontOf, tagOf}
 use Rattle.stream.specs.State.{givesTag, isSound, isSoundOpen}
 use Rattle.stream.specs.declared.Direction.{Direction}
@@ -27,13 +32,15 @@ use Rattle.stream.specs.Calls.{Start, textWords, ownTag}
 use Rattle.stream.proofs.Tests.{own-direction}
 use Rattle.history.specs.History.{Streams, Call, begun, after}
 use Rattle.history.specs.Cuts.{Message, publishedTag, plainOf}
+use Rattle.letter.specs.Calls.{Through}
 use Rattle.letter.specs.Messages as messages
 use Rattle.letter.specs.Streams as streams
 use Rattle.letter.specs.Model.{Model}
 use Rattle.letter.specs.Third.{Third}
 use Rattle.letter.specs.Nines.{Handed, NinesAlike, OpensOnce}
-use Rattle.letter.specs.Worthless.{Fitting, rightTag, rightBytes, LeavesPlaintext, LeavesDifference, RoundsByTag, RoundsByKey, FinishByTag, KeepsKey, OpensToPlace}
-use Rattle.letter.proofs.Messages.{by-tag}
+use Rattle.letter.specs.Worthless.{rightTag, rightBytes, LeavesPlaintext, LeavesDifference, RoundsByTag, RoundsByKey, FinishByTag, KeepsKey, OpensToPlace}
+use Rattle.letter.proofs.Calls.{stopped}
+use Rattle.letter.proofs.Messages.{none-opened}
 
 -- ---- another byte
 
@@ -106,86 +113,107 @@ tag-size set K N A P key = length-tag (rowOf set) (row-fits set) K key (encrypte
 
 -- ---- whole messages
 
-module _ (m : Model) (l : messages.Listed (m .messages)) (set : ℕ) (K N A C out : List ℕ) (f : Fitting set K N A C out) where
-  -- with a wrong tag of the set's length, the answer is 9
-  nine : (T : List ℕ) → length T ≡ rowOf set .key → same T (rightTag set K N A C) ≡ false → m .messages .unseal set K N A C T out .outcome .answer ≡ TagDiffers
-  nine T size wrong =
-      by-tag (m .messages) l set K N A C T out (f .known) (f .key) (f .nonce) (f .ad) (f .cipher) (f .room)
-      ∙ rw (eq-eqb (length T) (rowOf set .key) size, wrong)
+-- an opening that is done, or 9, passed the tests of its lengths
+got-through : (m : messages.Model) → messages.Listed m → (set : ℕ) (K N A C T out : List ℕ) → Through (m .unseal set K N A C T out .outcome .answer)
+    → first Done (faults set (length K) (length N) (length T) (length A) (length C) (length out)) ≡ Done
+got-through m l set K N A C T out came = go (isDone (first Done tests)) refl
+  where
+    tests : List (Choice Answer)
+    tests = faults set (length K) (length N) (length T) (length A) (length C) (length out)
+
+    behind : List (Choice Answer)
+    behind = openFaults (opened (rowOf set) K N A C T)
+
+    go : (b : Bool) → isDone (first Done tests) ≡ b → first Done tests ≡ Done
+    go true e = done-is (first Done tests) e
+    go false e =
+        let most : numberOf (first Done tests) ≤ 6 = first-most 6 tests refl in
+        let answer = l .unseal set K N A C T out ∙ first-append tests behind refl ∙ ap (λ (b : Bool). cond b (first Done behind) (first Done tests)) e in
+        absurd (stopped (first Done tests) e (omega (arith, most)) (subst Through answer came))
+
+module _ (m : Model) (l : messages.Listed (m .messages)) (set : ℕ) (K N A C T out : List ℕ) (b : Bytes K)
+    (passed : first Done (faults set (length K) (length N) (length T) (length A) (length C) (length out)) ≡ Done) where
+  -- where they are passed, key and tag have the set's length
+  none : NoneHolds (faults set (length K) (length N) (length T) (length A) (length C) (length out))
+  none = none-holds (faults set (length K) (length N) (length T) (length A) (length C) (length out)) refl (ap isDone passed)
+
+  key-size : length K ≡ rowOf set .key
+  key-size = eqb-true (length K) (rowOf set .key) (not-false (eqb (length K) (rowOf set .key)) (none .1 .0))
+
+  right-size : length (rightTag set K N A C) ≡ length T
+  right-size =
+      tag-size set K N A (decrypted (rowOf set) K N A C .out) key-size ∙ sym (eqb-true (length T) (rowOf set .key) (not-false (eqb (length T) (rowOf set .key)) (none .1 .1 .1 .0)))
 
   -- two wrong tags
   wrongs : TwoWrong (rightTag set K N A C)
-  wrongs = wrong-tags set K N A (decrypted (rowOf set) K N A C .out) (f .key) (f .key-bytes)
+  wrongs = wrong-tags set K N A (decrypted (rowOf set) K N A C .out) key-size b
 
-  right-size : length (rightTag set K N A C) ≡ rowOf set .key
-  right-size = tag-size set K N A (decrypted (rowOf set) K N A C .out) (f .key)
+  -- with a wrong one, the answer is 9
+  nine : (U : List ℕ) → length U ≡ length (rightTag set K N A C) → same U (rightTag set K N A C) ≡ false → m .messages .unseal set K N A C U out .outcome .answer ≡ TagDiffers
+  nine U size wrong =
+      let tests : ℕ → List (Choice Answer) = λ n. faults set (length K) (length N) n (length A) (length C) (length out) in
+      l .unseal set K N A C U out
+      ∙ first-append (tests (length U)) (openFaults (opened (rowOf set) K N A C U)) refl
+      ∙ ap (λ (answer : Answer). cond (isDone answer) (first Done (openFaults (opened (rowOf set) K N A C U))) answer)
+      (ap (λ (n : ℕ). first Done (tests n)) (size ∙ right-size) ∙ passed)
+      ∙ ap (λ (t : Bool). cond t TagDiffers Done) (none-opened set K N A C U key-size ∙ ap not wrong)
 
   soon-nine : m .messages .unseal set K N A C (wrongs .soon) out .outcome .answer ≡ TagDiffers
-  soon-nine = nine (wrongs .soon) (wrongs .soon-size ∙ right-size) (wrongs .soon-wrong)
+  soon-nine = nine (wrongs .soon) (wrongs .soon-size) (wrongs .soon-wrong)
 
   late-nine : m .messages .unseal set K N A C (wrongs .late) out .outcome .answer ≡ TagDiffers
-  late-nine = nine (wrongs .late) (wrongs .late-size ∙ right-size) (wrongs .late-wrong)
+  late-nine = nine (wrongs .late) (wrongs .late-size) (wrongs .late-wrong)
 
-  -- they are alike
+  -- both are alike
   soon-late : NinesAlike m → let x = m .messages .unseal set K N A C (wrongs .soon) out in
       let y = m .messages .unseal set K N A C (wrongs .late) out in
       (x .outcome .rounds ≡ y .outcome .rounds) × (x .out ≡ y .out)
   soon-late alike =
-      let handed : List ℕ → Handed = λ T. record { key = K; nonce = N; ad = A; cipher = C; tag = T } in
+      let handed : List ℕ → Handed = λ U. record { key = K; nonce = N; ad = A; cipher = C; tag = U } in
       alike .opening set (handed (wrongs .soon)) (handed (wrongs .late)) out
       (record { key = refl; nonce = refl; ad = refl; cipher = refl; tag = wrongs .soon-size ∙ sym (wrongs .late-size) }) soon-nine late-nine
 
--- their differences are not
-pub leaves-difference : (m : Model) (set : ℕ) (K N A C out : List ℕ) → Fitting set K N A C out → LeavesDifference (m .messages) set K N A C out
-    → messages.Listed (m .messages) → NinesAlike m → ⊥
-leaves-difference m set K N A C out f told l alike =
-    let w = wrongs m l set K N A C out f in
+-- the differences of two wrong tags are not one
+pub leaves-difference : (m : Model) (set : ℕ) (K N A C T out : List ℕ) → Bytes K → Through (m .messages .unseal set K N A C T out .outcome .answer)
+    → LeavesDifference (m .messages) set K N A C out → messages.Listed (m .messages) → NinesAlike m → ⊥
+leaves-difference m set K N A C T out b came told l alike =
+    let e = got-through (m .messages) l set K N A C T out came in
+    let w = wrongs m l set K N A C T out b e in
     w .differences
-    (sym (told (w .soon) (w .soon-bytes) (soon-nine m l set K N A C out f))
-    ∙ ap (λ (x : List ℕ). getD x 0 0) (soon-late m l set K N A C out f alike .1)
-    ∙ told (w .late) (w .late-bytes) (late-nine m l set K N A C out f))
+    (sym (told (w .soon) (w .soon-bytes) (soon-nine m l set K N A C T out b e))
+    ∙ ap (λ (x : List ℕ). getD x 0 0) (soon-late m l set K N A C T out b e alike .1)
+    ∙ told (w .late) (w .late-bytes) (late-nine m l set K N A C T out b e))
 
 -- nor is how far they are right
-pub rounds-by-tag : (m : Model) (set : ℕ) (K N A C out : List ℕ) (base : ℕ) → Fitting set K N A C out → RoundsByTag (m .messages) set K N A C out base
-    → messages.Listed (m .messages) → NinesAlike m → ⊥
-rounds-by-tag m set K N A C out base f told l alike =
-    let w = wrongs m l set K N A C out f in
-    let x = told (w .soon) (w .soon-bytes) (soon-nine m l set K N A C out f) in
-    let y = told (w .late) (w .late-bytes) (late-nine m l set K N A C out f) in
-    let one = soon-late m l set K N A C out f alike .0 in
+pub rounds-by-tag : (m : Model) (set : ℕ) (K N A C T out : List ℕ) (base : ℕ) → Bytes K → Through (m .messages .unseal set K N A C T out .outcome .answer)
+    → RoundsByTag (m .messages) set K N A C out base → messages.Listed (m .messages) → NinesAlike m → ⊥
+rounds-by-tag m set K N A C T out base b came told l alike =
+    let e = got-through (m .messages) l set K N A C T out came in
+    let w = wrongs m l set K N A C T out b e in
+    let x = told (w .soon) (w .soon-bytes) (soon-nine m l set K N A C T out b e) in
+    let y = told (w .late) (w .late-bytes) (late-nine m l set K N A C T out b e) in
+    let one = soon-late m l set K N A C T out b e alike .0 in
     omega (arith, x, y, one, w .none-right, w .one-right)
 
 -- nor are two keys
-pub rounds-by-key : (m : Model) (set byte : ℕ) (rest N A C out : List ℕ) (base : ℕ) → Fitting set (byte ∷ rest) N A C out
+pub rounds-by-key : (m : Model) (set byte : ℕ) (rest N A C T out : List ℕ) (base : ℕ) → Bytes (byte ∷ rest)
+    → Through (m .messages .unseal set (byte ∷ rest) N A C T out .outcome .answer)
     → RoundsByKey (m .messages) set N A C out base → messages.Listed (m .messages) → NinesAlike m → ⊥
-rounds-by-key m set byte rest N A C out base f told l alike =
-    let g : Fitting set (other byte ∷ rest) N A C out = record {
-      known = f .known;
-      key = f .key;
-      key-bytes = bytes-other byte rest (f .key-bytes);
-      nonce = f .nonce;
-      ad = f .ad;
-      cipher = f .cipher;
-      room = f .room;
-    } in
-    let w = wrongs m l set (byte ∷ rest) N A C out f in
-    let v = wrongs m l set (other byte ∷ rest) N A C out g in
-    let x = soon-nine m l set (byte ∷ rest) N A C out f in
-    let y = soon-nine m l set (other byte ∷ rest) N A C out g in
-    let handed : List ℕ → List ℕ → Handed = λ K T. record { key = K; nonce = N; ad = A; cipher = C; tag = T } in
+rounds-by-key m set byte rest N A C T out base b came told l alike =
+    let c = bytes-other byte rest b in
+    let e = got-through (m .messages) l set (byte ∷ rest) N A C T out came in
+    let w = wrongs m l set (byte ∷ rest) N A C T out b e in
+    let v = wrongs m l set (other byte ∷ rest) N A C T out c e in
+    let x = soon-nine m l set (byte ∷ rest) N A C T out b e in
+    let y = soon-nine m l set (other byte ∷ rest) N A C T out c e in
+    let size : length (w .soon) ≡ length (v .soon) =
+    w .soon-size ∙ right-size m l set (byte ∷ rest) N A C T out b e ∙ sym (v .soon-size ∙ right-size m l set (other byte ∷ rest) N A C T out c e) in
+    let handed : List ℕ → List ℕ → Handed = λ K U. record { key = K; nonce = N; ad = A; cipher = C; tag = U } in
     let one = alike .opening set (handed (byte ∷ rest) (w .soon)) (handed (other byte ∷ rest) (v .soon)) out
-    (record {
-      key = refl;
-      nonce = refl;
-      ad = refl;
-      cipher = refl;
-      tag = w .soon-size ∙ right-size m l set (byte ∷ rest) N A C out f ∙ sym (v .soon-size ∙ right-size m l set (other byte ∷ rest) N A C out g);
-    })
-    x y .0 in
-    let a = told (byte ∷ rest) (w .soon) (f .key-bytes) (w .soon-bytes) x in
-    let b = told (other byte ∷ rest) (v .soon) (g .key-bytes) (v .soon-bytes) y in
-    let bytes : byte ≡ other byte = omega (arith, a, b, one) in
-    other-differs byte bytes
+    (record { key = refl; nonce = refl; ad = refl; cipher = refl; tag = size }) x y .0 in
+    let here = told (byte ∷ rest) (w .soon) b (w .soon-bytes) x in
+    let there = told (other byte ∷ rest) (v .soon) c (v .soon-bytes) y in
+    other-differs byte (omega (arith, here, there, one))
 
 -- strings of one byte are the same where it is
 one-byte : (x y : List ℕ) → length x ≡ 1 → length y ≡ 1 → getD x 0 0 ≡ getD y 0 0 → x ≡ y
@@ -196,78 +224,64 @@ one-byte (a ∷ []) [] s t e = absurd (omega (arith, t))
 one-byte (a ∷ []) (b ∷ (b' ∷ y)) s t e = absurd (omega (arith, t))
 
 -- two ciphertexts of a byte have two decryptions
-pub leaves-plaintext : (m : Model) (set : ℕ) (K N A out : List ℕ) → Fitting set K N A (0 ∷ []) out → LeavesPlaintext (m .messages) set K N A out
-    → messages.Listed (m .messages) → NinesAlike m → ⊥
-leaves-plaintext m set K N A out f told l alike =
-    let g : Fitting set K N A (1 ∷ []) out =
-    record { known = f .known; key = f .key; key-bytes = f .key-bytes; nonce = f .nonce; ad = f .ad; cipher = f .cipher; room = f .room } in
-    let w = wrongs m l set K N A (0 ∷ []) out f in
-    let v = wrongs m l set K N A (1 ∷ []) out g in
-    let x = soon-nine m l set K N A (0 ∷ []) out f in
-    let y = soon-nine m l set K N A (1 ∷ []) out g in
-    let handed : List ℕ → List ℕ → Handed = λ C T. record { key = K; nonce = N; ad = A; cipher = C; tag = T } in
-    let left = alike .opening set (handed (0 ∷ []) (w .soon)) (handed (1 ∷ []) (v .soon)) out
-    (record {
-      key = refl;
-      nonce = refl;
-      ad = refl;
-      cipher = refl;
-      tag = w .soon-size ∙ right-size m l set K N A (0 ∷ []) out f ∙ sym (v .soon-size ∙ right-size m l set K N A (1 ∷ []) out g);
-    })
-    x y .1 in
-    let byte : getD (D (0 ∷ [])) 0 0 ≡ getD (D (1 ∷ [])) 0 0 =
-    sym (told (0 ∷ []) (w .soon) (bytes-cons (lit< tt) bytes-none) (w .soon-bytes) (lit< tt) x)
+pub leaves-plaintext : (m : Model) (set : ℕ) (K N A : List ℕ) (byte : ℕ) (T out : List ℕ) → Bytes K
+    → Through (m .messages .unseal set K N A (byte ∷ []) T out .outcome .answer)
+    → LeavesPlaintext (m .messages) set K N A out → messages.Listed (m .messages) → NinesAlike m → ⊥
+leaves-plaintext m set K N A byte T out b came told l alike =
+    let w = wrongs m l set K N A nought T out b e in
+    let v = wrongs m l set K N A one T out b e in
+    let x = soon-nine m l set K N A nought T out b e in
+    let y = soon-nine m l set K N A one T out b e in
+    let size : length (w .soon) ≡ length (v .soon) =
+    w .soon-size ∙ right-size m l set K N A nought T out b e ∙ sym (v .soon-size ∙ right-size m l set K N A one T out b e) in
+    let handed : List ℕ → List ℕ → Handed = λ C U. record { key = K; nonce = N; ad = A; cipher = C; tag = U } in
+    let left = alike .opening set (handed nought (w .soon)) (handed one (v .soon)) out
+    (record { key = refl; nonce = refl; ad = refl; cipher = refl; tag = size }) x y .1 in
+    let first-byte : getD (D nought) 0 0 ≡ getD (D one) 0 0 =
+    sym (told nought (w .soon) (bytes-cons (lit< tt) bytes-none) (w .soon-bytes) (lit< tt) x)
     ∙ ap (λ (o : List ℕ). getD o 0 0) left
-    ∙ told (1 ∷ []) (v .soon) (bytes-cons (lit< tt) bytes-none) (v .soon-bytes) (lit< tt) y in
-    let one : D (0 ∷ []) ≡ D (1 ∷ []) = one-byte _ _ (size (0 ∷ [])) (size (1 ∷ [])) byte in
-    let bytes : _≡_ {A = ℕ} 0 1 =
-    ap (λ (o : List ℕ). getD o 0 0) (sym (back (0 ∷ [])) ∙ ap (λ (P : List ℕ). encrypted (rowOf set) K N A P .out) one ∙ back (1 ∷ [])) in
+    ∙ told one (v .soon) (bytes-cons (lit< tt) bytes-none) (v .soon-bytes) (lit< tt) y in
+    let all : D nought ≡ D one = one-byte _ _ (as-long nought) (as-long one) first-byte in
+    let bytes : _≡_ {A = ℕ} 0 1 = ap (λ (o : List ℕ). getD o 0 0) (sym (back nought) ∙ ap (λ (P : List ℕ). encrypted (rowOf set) K N A P .out) all ∙ back one) in
     omega (arith, bytes)
   where
+    nought : List ℕ
+    nought = 0 ∷ []
+
+    one : List ℕ
+    one = 1 ∷ []
+
+    e : first Done (faults set (length K) (length N) (length T) (length A) 1 (length out)) ≡ Done
+    e = got-through (m .messages) l set K N A (byte ∷ []) T out came
+
     D : List ℕ → List ℕ
     D C = decrypted (rowOf set) K N A C .out
 
-    size : (C : List ℕ) → length (D C) ≡ length C
-    size C = length-decrypted (rowOf set) (row-fits set) K (f .key) N A C
+    key : length K ≡ rowOf set .key
+    key = key-size m l set K N A nought T out b e
+
+    as-long : (C : List ℕ) → length (D C) ≡ length C
+    as-long C = length-decrypted (rowOf set) (row-fits set) K key N A C
 
     back : (C : List ℕ) → encrypted (rowOf set) K N A (D C) .out ≡ C
-    back C = ap (λ (w : Processed). w .out) (encrypt-decrypted (rowOf set) (row-fits set) K (f .key) N A C)
+    back C = ap (λ (w : Processed). w .out) (encrypt-decrypted (rowOf set) (row-fits set) K key N A C)
 
--- what a place held is not the text
-pub opens-to-place : (m : Model) (set : ℕ) (K N A : List ℕ) (byte : ℕ) (rest : List ℕ) → let published = sealed (rowOf set) K N A (byte ∷ rest) in
-    Fitting set K N A (published .cipher) (replicate (length (byte ∷ rest)) 0) → OpensToPlace (m .messages) set K N A (published .cipher) (published .tag)
-    → messages.Listed (m .messages) → OpensOnce m → ⊥
-opens-to-place m set K N A byte rest f held l once =
-    let bytes : _≡_ {A = ℕ} 0 1 =
-    sym (byte-of 0)
-    ∙ ap (λ (o : List ℕ). getD o 0 0)
-    (sym (ap (take (length C)) (held (place 0) (done 0))) ∙ once .opening set K N A C T T (place 0) (place 1) (done 0) (done 1) .0 ∙ ap (take (length C)) (held (place 1) (done 1)))
-    ∙ byte-of 1 in
-    omega (arith, bytes)
-  where
-    C : List ℕ
-    C = sealed (rowOf set) K N A (byte ∷ rest) .cipher
+-- the first byte of a beginning that is not empty
+first-of : (n byte : ℕ) (rest : List ℕ) → 0 < n → getD (take n (byte ∷ rest)) 0 0 ≡ byte
+first-of zero byte rest some = absurd (omega (arith, some))
+first-of (suc n) byte rest some = refl
 
-    T : List ℕ
-    T = sealed (rowOf set) K N A (byte ∷ rest) .tag
-
-    -- a place that holds a number again and again
-    place : ℕ → List ℕ
-    place v = replicate (length (byte ∷ rest)) v
-
-    size : length C ≡ length (byte ∷ rest)
-    size = length-cipher set K N A (byte ∷ rest) (f .key)
-
-    right : same T (rightTag set K N A C) ≡ true
-    right = ap (same T) (sym (only-tag (rowOf set) (row-fits set) K (f .key) N A (byte ∷ rest) C T refl)) ∙ same-refl T
-
-    done : (v : ℕ) → m .messages .unseal set K N A C T (place v) .outcome .answer ≡ Done
-    done v =
-        by-tag (m .messages) l set K N A C T (place v) (f .known) (f .key) (f .nonce) (f .ad) (f .cipher) (omega (arith, size, length-replicate (length (byte ∷ rest)) v))
-        ∙ rw (eq-eqb (length T) (rowOf set .key) (tag-size set K N A (byte ∷ rest) (f .key)), right)
-
-    byte-of : (v : ℕ) → getD (take (length C) (place v)) 0 0 ≡ v
-    byte-of v = ap (λ (n : ℕ). getD (take n (place v)) 0 0) size
+-- what two places held is not one text
+pub opens-to-place : (m : Model) (set : ℕ) (K N A C T : List ℕ) (byte : ℕ) (rest : List ℕ) → 0 < length C
+    → m .messages .unseal set K N A C T (byte ∷ rest) .outcome .answer ≡ Done
+    → OpensToPlace (m .messages) set K N A C T → messages.Listed (m .messages) → OpensOnce m → ⊥
+opens-to-place m set K N A C T byte rest some done held l once =
+    let done' = l .unseal set K N A C T (other byte ∷ rest) ∙ sym (l .unseal set K N A C T (byte ∷ rest)) ∙ done in
+    let texts = once .opening set K N A C T T (byte ∷ rest) (other byte ∷ rest) done done' .0 in
+    other-differs byte
+    (sym (first-of (length C) byte rest some)
+    ∙ ap (λ (o : List ℕ). getD o 0 0) (sym (ap (take (length C)) (held (byte ∷ rest) done)) ∙ texts ∙ ap (take (length C)) (held (other byte ∷ rest) done'))
+    ∙ first-of (length C) (other byte) rest some)
 
 -- ---- streams
 

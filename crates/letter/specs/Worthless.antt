@@ -6,8 +6,8 @@ use Prim.Native.Nat.{ℕ, suc, _+_, _≤_, _<_}
 use lib.Dec.{eqb}
 use lib.ListN.{length, getD, take}
 use Rattle.answers.specs.declared.Answer.the-variants.{Done, TagDiffers}
-use Rattle.permutation.specs.Strings.{Bytes, zeros}
-use Rattle.ascon.specs.Sets.{isSet, rowOf, adLimit, textLimit}
+use Rattle.permutation.specs.Strings.{Bytes}
+use Rattle.ascon.specs.Sets.{rowOf}
 use Rattle.ascon.specs.Mode.{_⊕_, decrypted, sealed}
 use Rattle.stream.specs.declared.Direction.{Direction}
 use Rattle.stream.specs.declared.Direction.the-variants.{Sealing}
@@ -126,16 +126,6 @@ WritesBeyond m d s piece out index =
 
 -- ---- those that give something away with a 9
 
--- what an opening is handed beside its tag fits, so that the tag decides
-pub record Fitting (set : ℕ) (K N A C out : List ℕ) : Type 0 where
-  pub known : isSet set ≡ true
-  pub key : length K ≡ rowOf set .key
-  pub key-bytes : Bytes K
-  pub nonce : length N ≡ rowOf set .key
-  pub ad : length A ≤ adLimit
-  pub cipher : length C ≤ textLimit
-  pub room : length C ≤ length out
-
 -- the tag under which the document opens a ciphertext
 abbrev pub rightTag : ℕ → List ℕ → List ℕ → List ℕ → List ℕ → List ℕ
 rightTag set K N A C = sealed (rowOf set) K N A (decrypted (rowOf set) K N A C .out) .tag
@@ -229,19 +219,23 @@ pub record Worthless : Type 0 where
   pub forgets-limit : (m : Streams) (d : Direction) (s : Stream) (piece out : List ℕ) → ForgetsLimit m d s piece out → streams.Reported m → ⊥
   pub stays-open : (m : Streams) (d : Direction) (s : Stream) (tag : List ℕ) → StaysOpen m d s tag → streams.Reported m → ⊥
   pub writes-beyond : (m : Streams) (d : Direction) (s : Stream) (piece out : List ℕ) (index : ℕ) → WritesBeyond m d s piece out index → streams.Reported m → ⊥
-  -- that two openings, or two finishes, that are answered 9 are alike, in every set; the listed conditions, or the third demand, only say which are
-  pub leaves-plaintext : (m : Model) (set : ℕ) (K N A out : List ℕ) → Fitting set K N A (0 ∷ []) out → LeavesPlaintext (m .messages) set K N A out
-      → messages.Listed (m .messages) → NinesAlike m → ⊥
-  pub leaves-difference : (m : Model) (set : ℕ) (K N A C out : List ℕ) → Fitting set K N A C out → LeavesDifference (m .messages) set K N A C out
-      → messages.Listed (m .messages) → NinesAlike m → ⊥
-  pub rounds-by-tag : (m : Model) (set : ℕ) (K N A C out : List ℕ) (base : ℕ) → Fitting set K N A C out → RoundsByTag (m .messages) set K N A C out base
-      → messages.Listed (m .messages) → NinesAlike m → ⊥
-  pub rounds-by-key : (m : Model) (set byte : ℕ) (rest N A C out : List ℕ) (base : ℕ) → Fitting set (byte ∷ rest) N A C out
+  -- that two openings that are answered 9 are alike, of every set, key, nonce and data with which an opening gets as far as its tag; the listed conditions only say which are
+  pub leaves-plaintext : (m : Model) (set : ℕ) (K N A : List ℕ) (byte : ℕ) (T out : List ℕ) → Bytes K
+      → Through (m .messages .unseal set K N A (byte ∷ []) T out .outcome .answer)
+      → LeavesPlaintext (m .messages) set K N A out → messages.Listed (m .messages) → NinesAlike m → ⊥
+  pub leaves-difference : (m : Model) (set : ℕ) (K N A C T out : List ℕ) → Bytes K → Through (m .messages .unseal set K N A C T out .outcome .answer)
+      → LeavesDifference (m .messages) set K N A C out → messages.Listed (m .messages) → NinesAlike m → ⊥
+  pub rounds-by-tag : (m : Model) (set : ℕ) (K N A C T out : List ℕ) (base : ℕ) → Bytes K → Through (m .messages .unseal set K N A C T out .outcome .answer)
+      → RoundsByTag (m .messages) set K N A C out base → messages.Listed (m .messages) → NinesAlike m → ⊥
+  pub rounds-by-key : (m : Model) (set byte : ℕ) (rest N A C T out : List ℕ) (base : ℕ) → Bytes (byte ∷ rest)
+      → Through (m .messages .unseal set (byte ∷ rest) N A C T out .outcome .answer)
       → RoundsByKey (m .messages) set N A C out base → messages.Listed (m .messages) → NinesAlike m → ⊥
-  pub keeps-key : (m : Model) (d : Direction) → givesTag d ≡ false → KeepsKey (m .streams) d → streams.Listed (m .streams) → NinesAlike m → ⊥
+  -- that two finishes are
   pub finish-by-tag : (m : Model) (start : Start) (A C : List ℕ) (calls : List Call) (base : ℕ) → givesTag (start .direction) ≡ false
-      → length (start .key) ≡ rowOf (start .set) .key → Message (m .streams) start A C calls → FinishByTag (m .streams) start A C calls base → Third (m .streams) → NinesAlike m → ⊥
+      → length (start .key) ≡ rowOf (start .set) .key → Message (m .streams) start A C calls → FinishByTag (m .streams) start A C calls base
+      → Third (m .streams) → NinesAlike m → ⊥
+  pub keeps-key : (m : Model) (d : Direction) → givesTag d ≡ false → KeepsKey (m .streams) d → streams.Listed (m .streams) → NinesAlike m → ⊥
   -- that a ciphertext and tag open to one plaintext
-  pub opens-to-place : (m : Model) (set : ℕ) (K N A : List ℕ) (byte : ℕ) (rest : List ℕ) → let published = sealed (rowOf set) K N A (byte ∷ rest) in
-      Fitting set K N A (published .cipher) (zeros (length (byte ∷ rest))) → OpensToPlace (m .messages) set K N A (published .cipher) (published .tag)
-      → messages.Listed (m .messages) → OpensOnce m → ⊥
+  pub opens-to-place : (m : Model) (set : ℕ) (K N A C T : List ℕ) (byte : ℕ) (rest : List ℕ) → 0 < length C
+      → m .messages .unseal set K N A C T (byte ∷ rest) .outcome .answer ≡ Done
+      → OpensToPlace (m .messages) set K N A C T → messages.Listed (m .messages) → OpensOnce m → ⊥

@@ -6,6 +6,8 @@ use crate::harness::Harness;
 use crate::message::{fitting, opening, sealing};
 use gateway::{DATA_LIMIT, TEXT_LIMIT};
 use second::cipher::{Set, SETS};
+use second::formula::rounds_by_formula;
+use second::random::Random;
 
 /// A class: what it is, how many calls it makes, and what makes them.
 pub struct Class {
@@ -16,7 +18,7 @@ pub struct Class {
 
 /// All classes; the numbers are written down so that a class that shrinks is noticed.
 #[rustfmt::skip]
-pub const CLASSES: [Class; 16] = [
+pub const CLASSES: [Class; 17] = [
     Class { name: "data and text around the first block edges", calls: 3_200, run: near_edges },
     Class { name: "data or text around far block edges", calls: 136, run: far_edges },
     Class { name: "at a limit", calls: 36, run: at_limits },
@@ -33,6 +35,7 @@ pub const CLASSES: [Class; 16] = [
     Class { name: "each bit of the data", calls: 416, run: |h| bits(h, |call| &mut call.data) },
     Class { name: "more room than text", calls: 960, run: longer_rooms },
     Class { name: "empty slices behind a pointer to nothing", calls: 512, run: dangling },
+    Class { name: "answered 9 with the same lengths", calls: 1_120, run: alike },
 ];
 
 /// Seals a message of the given lengths and opens it again.
@@ -250,4 +253,51 @@ fn dangling(harness: &mut Harness) {
             harness.expect(&call, answer);
         }
     });
+}
+
+/// A right opening with every byte of one part changed, for each part that is not empty, and with every byte of all parts.
+fn wrong_ones(random: &mut Random, right: &Call) -> Vec<Call> {
+    let parts: [fn(&mut Call) -> &mut Vec<u8>; 5] = [
+        |call| &mut call.key,
+        |call| &mut call.nonce,
+        |call| &mut call.data,
+        |call| &mut call.body,
+        |call| &mut call.tag,
+    ];
+    let mut other = |byte: &mut u8| *byte ^= 1 + random.below(255) as u8;
+    let mut all = right.clone();
+    let mut wrong = Vec::new();
+    for part in parts {
+        let mut call = right.clone();
+        if !part(&mut call).is_empty() {
+            part(&mut call).iter_mut().for_each(&mut other);
+            wrong.push(call);
+        }
+        part(&mut all).iter_mut().for_each(&mut other);
+    }
+    wrong.push(all);
+    wrong
+}
+
+/// Openings of the same lengths, with the same output before, that are answered 9: whatever else differs, they return the same number and leave the same output.
+fn alike(harness: &mut Harness) {
+    for set in &SETS {
+        for data in [0, 1, set.block - 1, set.block, 3 * set.block] {
+            for text in [0, 1, set.block - 1, set.block, 40] {
+                for more in [0, 3] {
+                    let mut right = opening(&sealing(&mut harness.random, set, data, text));
+                    right.room += more;
+                    let number = 16 * rounds_by_formula(set, data, text) + 9;
+                    let before = right.memory(|| 0);
+                    let zeros = [&vec![0; text], &before.output()[text..]].concat();
+                    for call in wrong_ones(&mut harness.random, &right) {
+                        let mut memory = call.memory(|| 0);
+                        assert_eq!(memory.output(), before.output());
+                        let returned = harness.compare_in(&call, &mut memory);
+                        assert_eq!((returned, memory.output()), (number, &zeros[..]));
+                    }
+                }
+            }
+        }
+    }
 }

@@ -1,6 +1,6 @@
 //! Runs calls on both programs, compares all that they leave, and counts.
 
-use crate::call::{Call, Direction};
+use crate::call::{Call, Direction, Memory};
 use crate::program::{MODEL, SECOND};
 use second::random::Random;
 use std::collections::BTreeMap;
@@ -41,10 +41,15 @@ impl Harness {
 
     /// Runs a call on both programs, panics unless answer, rounds and all bytes agree, and gives the answer.
     pub fn compare(&mut self, call: &Call) -> u64 {
-        let mut model = call.memory(|| self.random.below(8));
+        let mut memory = call.memory(|| self.random.below(8));
+        self.compare_in(call, &mut memory) % 16
+    }
+
+    /// The same with a given memory, which the model leaves as it does; gives the number that is returned.
+    pub fn compare_in(&mut self, call: &Call, model: &mut Memory) -> u64 {
         let mut second = model.clone();
         let wanted = call.run(&SECOND, &mut second);
-        let given = call.run(&MODEL, &mut model);
+        let given = call.run(&MODEL, model);
 
         let shown = format!("call {}: {}", self.calls + 1, call.shown());
         assert_eq!(
@@ -65,7 +70,7 @@ impl Harness {
         if self.calls.is_multiple_of(STEP) {
             say(&format!("{} calls agree", self.calls));
         }
-        answer
+        wanted
     }
 
     /// How often a direction gave an answer.
