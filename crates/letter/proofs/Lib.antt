@@ -14,7 +14,6 @@ pub mod Second
 pub mod Third
 pub mod Walk
 pub mod Nines
-pub mod Telling
 pub mod Worthless
 pub mod Wrong
 pub mod Letter

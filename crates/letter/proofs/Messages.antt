@@ -5,28 +5,29 @@ use mathlib.Core.List.{List, [], _∷_, _++_}
 use mathlib.Core.Option.{Option, some, none}
 use Prim.Native.Nat.{ℕ, _≤_}
 use native.Mathlib.Omega.{arith}
-use lib.Dec.{eqb}
 use lib.ListN.{length, drop}
-use borrow.Author.Tests.{eq-eqb, le-leb}
+use borrow.Author.Tests.{eqb-false}
 use Rattle.answers.specs.declared.Answer.{Answer}
-use Rattle.answers.specs.declared.Answer.the-variants.{Done, TagLength, TagDiffers}
+use Rattle.answers.specs.declared.Answer.the-variants.{Done, TagDiffers}
 use Rattle.answers.specs.Numbers.{numberOf, isDone}
 use Rattle.answers.specs.Order.{first, Choice, _when_}
 use Rattle.answers.proofs.Numbers.{done-is}
-use Rattle.ascon.specs.Sets.{isSet, rowOf, adLimit, textLimit}
+use Rattle.answers.proofs.Order.{first-append, first-most}
+use Rattle.ascon.specs.Sets.{rowOf}
 use Rattle.permutation.specs.Strings.{zeros, same}
 use Rattle.ascon.specs.Mode.{Processed, decrypted, finalise, sealed, opened}
 use Rattle.ascon.specs.Rounds.{messageRounds}
 use Rattle.ascon.proofs.Sealing.{encrypt-decrypted}
 use Rattle.sets.proofs.Rows.{row-fits}
 use Rattle.sets.specs.Start.{startFaults, startTest}
-use Rattle.message.specs.Message.{faults, messageTest, SealLeaves, sealCall, OpenLeaves, openLeaves, judged, openCall, isNone}
+use Rattle.message.specs.Message.{faults, messageTest, SealLeaves, sealCall, OpenLeaves, openLeaves, judged, openFaults, openCall, isNone}
 use Rattle.message.proofs.Answered.{test-small, seal-answer, seal-refused, seal-given, open-answer, open-refused, open-differs}
 use Rattle.sets.proofs as sets
 use Rattle.message.proofs as message
 use Rattle.gateway.proofs as gateway
 use Rattle.letter.specs.Calls.{lent, Refused, Through}
 use Rattle.letter.specs.Messages.{Model, ours, sealWord, openWord, Keeps, EveryCall, Listed, Unchanged, Mismatch, Reported}
+use Rattle.letter.specs.Second.{Unrefused}
 use Rattle.letter.proofs.Calls.{answered, lifetimes, stopped}
 
 -- ---- the calls
@@ -98,23 +99,26 @@ none-opened set K N A C T key =
     go true = refl
     go false = refl
 
--- an opening whose other parts fit is answered by its tag: 4 for one of another length than the set's, 9 for one that is not the published one of the decryption
-pub by-tag : (m : Model) → Listed m → (set : ℕ) (K N A C T out : List ℕ) → isSet set ≡ true → length K ≡ rowOf set .key → length N ≡ rowOf set .key
-    → length A ≤ adLimit → length C ≤ textLimit → length C ≤ length out
-    → m .unseal set K N A C T out .outcome .answer
-    ≡ first Done
-    (TagLength when not (eqb (length T) (rowOf set .key)) ∷ TagDiffers when not (same T (sealed (rowOf set) K N A (decrypted (rowOf set) K N A C .out) .tag)) ∷ [])
-by-tag m l set K N A C T out known key nonce ad cipher room =
-    l .unseal set K N A C T out
-    ∙ rw (
-      known,
-      eq-eqb (length K) (rowOf set .key) key,
-      eq-eqb (length N) (rowOf set .key) nonce,
-      le-leb (length A) adLimit ad,
-      le-leb (length C) textLimit cipher,
-      le-leb (length C) (length out) room,
-      none-opened set K N A C T key,
-    )
+-- an opening with no refusal 1 to 6 passed the tests of its lengths
+pub tests-passed : (m : Model) → Listed m → (set : ℕ) (K N A C T out : List ℕ) → Unrefused (m .unseal set K N A C T out .outcome .answer)
+    → isDone (messageTest set (length K) (length N) (length T) (length A) (length C) (length out)) ≡ true
+unfolding messageTest
+tests-passed m l set K N A C T out u = go (isDone (first Done tests)) refl
+  where
+    tests : List (Choice Answer)
+    tests = faults set (length K) (length N) (length T) (length A) (length C) (length out)
+
+    behind : List (Choice Answer)
+    behind = openFaults (opened (rowOf set) K N A C T)
+
+    go : (b : Bool) → isDone (first Done tests) ≡ b → isDone (first Done tests) ≡ true
+    go true e = e
+    go false e =
+        let number : numberOf (m .unseal set K N A C T out .outcome .answer) ≡ numberOf (first Done tests) =
+        ap numberOf (l .unseal set K N A C T out ∙ first-append tests behind refl ∙ ap (λ (b : Bool). cond b (first Done behind) (first Done tests)) e) in
+        let some : numberOf (first Done tests) ≡ 0 → ⊥ = eqb-false (numberOf (first Done tests)) 0 e in
+        let most : numberOf (first Done tests) ≤ 6 = first-most 6 tests refl in
+        absurd (u (omega (arith, number, some), omega (arith, number, most)))
 
 -- ---- what they leave
 

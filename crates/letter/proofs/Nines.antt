@@ -2,19 +2,19 @@
 use mathlib.Core.Path.{_≡_, refl, sym, ap, _∙_}
 use mathlib.Core.Bool.{Bool, true, false, cond, not, _&&_}
 use mathlib.Core.List.{List, [], _∷_, _++_}
-use mathlib.Core.Logic.{inr}
+use mathlib.Core.Logic.{inl, inr}
 use mathlib.Core.Option.{Option, some, none}
 use Prim.Native.Nat.{ℕ, _+_, _*_, _%_, _≤_}
 use native.Mathlib.Omega.{arith}
 use lib.Dec.{eqb}
 use lib.ListN.{length, take, drop}
-use borrow.Author.Tests.{eqb-true, not-false}
+use borrow.Author.Tests.{eqb-true}
 use Rattle.answers.specs.declared.Answer.{Answer}
 use Rattle.answers.specs.declared.Answer.the-variants.{Done, TagLength, TagDiffers}
 use Rattle.answers.specs.Numbers.{numberOf, isDone}
 use Rattle.answers.specs.Order.{_when_, first}
 use Rattle.answers.proofs.Numbers.{done-is}
-use Rattle.answers.proofs.Order.{none-holds, first-most}
+use Rattle.answers.proofs.Order.{first-most}
 use Rattle.permutation.specs.Runs.{roundsOf}
 use Rattle.permutation.specs.Strings.{zeros, same}
 use Rattle.permutation.proofs.Strings.{same-eq}
@@ -24,6 +24,7 @@ use Rattle.ascon.specs.Rounds.{messageRounds}
 use Rattle.ascon.proofs.Sealing.{only-text, only-tag}
 use Rattle.sets.proofs.Rows.{row-fits}
 use Rattle.message.specs.Message.{faults, messageTest, OpenLeaves, openLeaves, judged, openFaults, openCall}
+use Rattle.message.proofs.Tests.{message-passed}
 use Rattle.stream.specs.declared.Direction.{Direction}
 use Rattle.stream.specs.declared.Stream.{Stream}
 use Rattle.stream.specs.State.{isAd, givesTag, ended}
@@ -36,8 +37,8 @@ use Rattle.history.proofs.Cuts.{whole}
 use Rattle.history.proofs.Directions.{cutting-does-not-matter}
 use Rattle.letter.specs.Messages as messages
 use Rattle.letter.specs.Model.{Model, ours, Keeps}
-use Rattle.letter.specs.Nines.{Handed, SameLengths, unsealed, unsealedWord, SameCounts, NinesAlike, OnePlaintext, OpensOnce}
-use Rattle.letter.proofs.Messages.{listed}
+use Rattle.letter.specs.Nines.{Handed, SameLengths, unsealed, unsealedWord, SameData, NinesAlike, OnePlaintext, OpensOnce}
+use Rattle.letter.proofs.Messages.{listed, tests-passed}
 use Rattle.letter.proofs.Streams.{reported}
 use Rattle.letter.proofs.Model.{keeps, of-kept}
 use Rattle.letter.proofs.Second.{unrefused, second-demand}
@@ -77,8 +78,11 @@ undone-alike set one other out s u v =
     ∙ sym (undone-is set (other .key) (other .nonce) (other .ad) (other .cipher) (other .tag) out v)
 
 -- 9 is not done
+nine-not : _≡_ {A = ℕ} 9 0 → ⊥
+nine-not e = omega (arith, e)
+
 nine-undone : (answer : Answer) → answer ≡ TagDiffers → answer ≡ Done → ⊥
-nine-undone answer e f = let nine : _≡_ {A = ℕ} 9 0 = ap numberOf (sym e ∙ f) in omega (arith, nine)
+nine-undone answer e f = nine-not (ap numberOf (sym e ∙ f))
 
 -- what is left of an opening's number by 16 is its answer
 answer-left : (set : ℕ) (K N A C T out : List ℕ) → let outcome = openCall set K N A C T out .outcome in
@@ -90,14 +94,12 @@ answer-left set K N A C T out =
     (first-most 9 (faults set (length K) (length N) (length T) (length A) (length C) (length out) ++ openFaults (opened (rowOf set) K N A C T)) refl) in
     omega (arith, most)
 
--- so where that is 9, it is not done
-nine-word : (set : ℕ) (x : Handed) (out : List ℕ) → unsealedWord messages.ours set x out .word % 16 ≡ 9 → unsealed messages.ours set x out .outcome .answer ≡ Done → ⊥
-nine-word set x out nine done =
-    let nought : _≡_ {A = ℕ} 9 0 = sym nine ∙ answer-left set (x .key) (x .nonce) (x .ad) (x .cipher) (x .tag) out ∙ ap numberOf done in
-    omega (arith, nought)
+-- so where that is not 0, it is not done
+word-undone : (set : ℕ) (x : Handed) (out : List ℕ) → (unsealedWord messages.ours set x out .word % 16 ≡ 0 → ⊥) → unsealed messages.ours set x out .outcome .answer ≡ Done → ⊥
+word-undone set x out left done = left (answer-left set (x .key) (x .nonce) (x .ad) (x .cipher) (x .tag) out ∙ ap numberOf done)
 
--- two streams with the same counts have the same rounds to close their data
-closing-same : (one other : Stream) → SameCounts one other → closingRounds one ≡ closingRounds other
+-- two streams of one set and phase with the same count of data have the same rounds to close it
+closing-same : (one other : Stream) → SameData one other → closingRounds one ≡ closingRounds other
 unfolding closingRounds
 closing-same one other s = λ j. cond (isAd (s .phase j)) (cond (eqb (s .ad j) 0) 0 (roundsOf (rowOf (s .set j) .between))) 0
 
@@ -120,33 +122,29 @@ nine-walk start A C calls tag m e =
     let size = nine-size (start .direction) (rowOf (start .set)) (publishedTag start A C) tag (sym (w .answer) ∙ e) in
     (w .rounds size, w .over size)
 
--- which the lengths tell
-walks-alike : (start start' : Start) (A A' C C' : List ℕ) (calls calls' : List Call) (tag tag' : List ℕ)
-    → start .set ≡ start' .set → start .direction ≡ start' .direction → length A ≡ length A' → length C ≡ length C'
-    → Message histories.ours start A C calls → Message histories.ours start' A' C' calls' → let h = after histories.ours (begun histories.ours start) calls in
-    let k = after histories.ours (begun histories.ours start') calls' in
-    let x = histories.ours .finish (start .direction) (h .stream) tag .outcome in
-    let y = histories.ours .finish (start' .direction) (k .stream) tag' .outcome in
-    x .answer ≡ TagDiffers → y .answer ≡ TagDiffers → (h .rounds + x .rounds ≡ k .rounds + y .rounds) × (x .next ≡ y .next)
-walks-alike start start' A A' C C' calls calls' tag tag' set direction ad cipher m m' e f =
-    let x = nine-walk start A C calls tag m e in
-    let y = nine-walk start' A' C' calls' tag' m' f in
-    (x .0 ∙ (λ j. messageRounds (rowOf (set j)) (ad j) (cipher j)) ∙ sym (y .0), x .1 ∙ sym (y .1))
+-- what the boundary returns and leaves, by the opening
+worded : OpenLeaves → messages.OpenWord
+worded x = messages.openWord (16 * x .outcome .rounds + numberOf (x .outcome .answer)) (x .out)
 
 alike : NinesAlike ours
+unfolding worded
 alike = record {
   opening = λ set one other out s e f.
       let same = undone-alike set one other out s (nine-undone _ e) (nine-undone _ f) in
       (ap (λ (x : OpenLeaves). x .outcome .rounds) same, ap (λ (x : OpenLeaves). x .out) same);
-  boundary = λ set one other out s e f.
-      let same = undone-alike set one other out s (nine-word set one out e) (nine-word set other out f) in
-      (ap (λ (x : OpenLeaves). 16 * x .outcome .rounds + numberOf (x .outcome .answer)) same, ap (λ (x : OpenLeaves). x .out) same);
-  finish = λ d one other tag tag' s e f.
-      let x = reported .finish d one tag (inr e) in
-      let y = reported .finish d other tag' (inr f) in
-      (x .0 ∙ ap (λ (n : ℕ). n + 12) (closing-same one other s) ∙ sym (y .0), x .1 ∙ sym (y .1));
-  walk = walks-alike;
   undone = undone-alike;
+  boundary = λ set one other out s e f.
+      let same = undone-alike set one other out s (word-undone set one out (λ z. nine-not (sym e ∙ z))) (word-undone set other out (λ z. nine-not (sym f ∙ z))) in
+      (ap (λ (x : OpenLeaves). worded x .word) same, ap (λ (x : OpenLeaves). x .out) same);
+  boundary-undone = λ set one other out s u v. ap worded (undone-alike set one other out s (word-undone set one out u) (word-undone set other out v));
+  finish = λ d d' one other tag tag' s e f.
+      let x = reported .finish d one tag (inr e) in
+      let y = reported .finish d' other tag' (inr f) in
+      (x .0 ∙ ap (λ (n : ℕ). n + 12) (closing-same one other s) ∙ sym (y .0), x .1 ∙ sym (y .1));
+  walk = λ start start' A A' C C' calls calls' tag tag' set ad cipher m m' e f.
+      let x = nine-walk start A C calls tag m e in
+      let y = nine-walk start' A' C' calls' tag' m' f in
+      (x .0 ∙ (λ j. messageRounds (rowOf (set j)) (ad j) (cipher j)) ∙ sym (y .0), x .1 ∙ sym (y .1));
 }
 
 pub nines-alike : (m : Model) → Keeps m → NinesAlike m
@@ -185,14 +183,12 @@ one-plaintext = record {
 -- an opening that is done had a key of the set's length
 done-key : (set : ℕ) (K N A C T out : List ℕ) → openCall set K N A C T out .outcome .answer ≡ Done → length K ≡ rowOf set .key
 done-key set K N A C T out d =
-    let none = none-holds (faults set (length K) (length N) (length T) (length A) (length C) (length out) ++ openFaults (opened (rowOf set) K N A C T)) refl
-    (ap isDone (sym (listed .unseal set K N A C T out) ∙ d)) in
-    eqb-true (length K) (rowOf set .key) (not-false (eqb (length K) (rowOf set .key)) (none .1 .0))
+    message-passed set (length K) (length N) (length T) (length A) (length C) (length out) (tests-passed messages.ours listed set K N A C T out (unrefused _ (inl d))) .key-fits
 
 -- and ciphertext and tag are the sealing of what it hands out
 done-sealed : (set : ℕ) (K N A C T out : List ℕ) → let leaves = openCall set K N A C T out in
     leaves .outcome .answer ≡ Done → sealed (rowOf set) K N A (take (length C) (leaves .out)) ≡ record { cipher = C; tag = T }
-done-sealed set K N A C T out d = second-demand ours keeps .opens set K N A C T out (unrefused _ d) _ .0 (d, refl)
+done-sealed set K N A C T out d = second-demand ours keeps .opens set K N A C T out (unrefused _ (inl d)) _ .0 (d, refl)
 
 -- what is left of its number by 16 is 0
 done-word : (set : ℕ) (K N A C T out : List ℕ) → messages.ours .openWord set K N A C T out .word % 16 ≡ 0 → openCall set K N A C T out .outcome .answer ≡ Done

@@ -2,13 +2,12 @@
 use mathlib.Core.Path.{_≡_, refl, sym, ap, _∙_}
 use mathlib.Core.Bool.{Bool, true, false, cond}
 use mathlib.Core.List.{List}
-use mathlib.Core.Logic.{_↔_}
+use mathlib.Core.Logic.{_↔_, inl, inr}
 use mathlib.Core.Option.{Option, some, none}
-use Prim.Native.Nat.{ℕ, _≤_}
+use Prim.Native.Nat.{ℕ}
 use native.Mathlib.Omega.{arith}
 use lib.ListN.{length, take, drop, length-replicate}
 use lib.Seq.{take-at, drop-at}
-use borrow.Author.Tests.{eqb-false}
 use Rattle.answers.specs.declared.Answer.{Answer}
 use Rattle.answers.specs.declared.Answer.the-variants.{Done}
 use Rattle.answers.specs.Numbers.{numberOf, isDone}
@@ -22,11 +21,13 @@ use Rattle.sets.proofs.Rows.{row-fits}
 use Rattle.message.specs.Message.{faults, messageTest, SealLeaves, sealCall, OpenLeaves, openLeaves, judged, openCall}
 use Rattle.answers.specs.Order.{first}
 use Rattle.message.proofs.Tests.{message-passed}
-use Rattle.message.proofs.Answered.{test-first, test-small, seal-answer, seal-given, open-refused, open-hands, open-of}
+use Rattle.message.proofs.Answered.{test-first, seal-answer, seal-given, open-hands, open-of}
 use Rattle.message.proofs.Promise.{length-cipher}
+use Rattle.letter.specs.Calls.{Through}
 use Rattle.letter.specs.Messages.{ours}
 use Rattle.letter.specs.Model.{Model, Keeps}
 use Rattle.letter.specs.Second.{Unrefused, Second}
+use Rattle.letter.proofs.Messages.{listed, tests-passed}
 use Rattle.letter.proofs.Model.{of-kept}
 
 -- ---- sealing
@@ -51,9 +52,10 @@ module _ (set : ℕ) (K N A P out tag : List ℕ) where
 
 -- ---- opening
 
--- done is no refusal
-pub unrefused : (answer : Answer) → answer ≡ Done → Unrefused answer
-unrefused answer e r = let none : numberOf answer ≡ 0 = ap numberOf e in omega (arith, r .0, none)
+-- neither done nor 9 is a refusal 1 to 6
+pub unrefused : (answer : Answer) → Through answer → Unrefused answer
+unrefused answer (inl e) r = let none : numberOf answer ≡ 0 = ap numberOf e in omega (arith, r .0, none)
+unrefused answer (inr e) r = let nine : numberOf answer ≡ 9 = ap numberOf e in omega (arith, r .1, nine)
 
 module _ (set : ℕ) (K N A C T out : List ℕ) where
   -- the opening's tests
@@ -68,17 +70,7 @@ module _ (set : ℕ) (K N A C T out : List ℕ) where
   -- with no refusal 1 to 6 the tests passed
   passed : Unrefused (openCall set K N A C T out .outcome .answer) → isDone test ≡ true
   unfolding test
-  passed u = go (isDone test) refl
-    where
-      go : (b : Bool) → isDone test ≡ b → isDone test ≡ true
-      go true e = e
-      go false e =
-          let stopped : openCall set K N A C T out .outcome .answer ≡ test =
-          ap (λ (x : OpenLeaves). x .outcome .answer) (open-refused set K N A C T out test (sym test-is) e) in
-          let number : numberOf (openCall set K N A C T out .outcome .answer) ≡ numberOf test = ap numberOf stopped in
-          let some : numberOf test ≡ 0 → ⊥ = eqb-false (numberOf test) 0 e in
-          let most : numberOf test ≤ 6 = test-small set (length K) (length N) (length T) (length A) (length C) (length out) in
-          absurd (u (omega (arith, number, some), omega (arith, number, most)))
+  passed = tests-passed ours listed set K N A C T out
 
   -- where they passed, a text is as long as its ciphertext
   as-long : isDone test ≡ true → (P : List ℕ) → sealed (rowOf set) K N A P ≡ record { cipher = C; tag = T } → length P ≡ length C

@@ -6,10 +6,10 @@ use mathlib.Core.Logic.{inl, inr}
 use Prim.Native.Nat.{ℕ, _≤_}
 use native.Mathlib.Omega.{arith}
 use lib.ListN.{length}
-use borrow.Author.Tests.{eq-eqb}
+use borrow.Author.Tests.{eq-eqb, le-leb}
 use Rattle.answers.specs.declared.Answer.the-variants.{Done, TagDiffers}
 use Rattle.permutation.specs.Strings.{same}
-use Rattle.ascon.specs.Sets.{rowOf}
+use Rattle.ascon.specs.Sets.{rowOf, adLimit, textLimit}
 use Rattle.ascon.specs.Mode.{decrypted, sealed}
 use Rattle.stream.specs.declared.Direction.the-variants.{Opening}
 use Rattle.stream.specs.Calls.{Start}
@@ -23,7 +23,7 @@ use Rattle.letter.specs.Calls.{Through}
 use Rattle.letter.specs.Messages as messages
 use Rattle.letter.specs.Model.{Model, ours, Keeps}
 use Rattle.letter.specs.Walk.{SecondWalk}
-use Rattle.letter.proofs.Messages.{listed, by-tag, reported}
+use Rattle.letter.proofs.Messages.{listed, none-opened, reported}
 use Rattle.letter.proofs.Second.{unrefused, second-demand}
 use Rattle.letter.proofs.Model.{keeps, of-kept}
 
@@ -41,8 +41,17 @@ module _ (start : Start) (A C : List ℕ) (calls : List Call) (tag out : List �
   whole-answer : messages.ours .unseal set (start .key) (start .nonce) A C tag out .outcome .answer ≡ finishAnswer Opening (rowOf set) published tag
   whole-answer =
       let ok = passed (startTowards Opening start) (m .started) in
-      by-tag messages.ours listed set (start .key) (start .nonce) A C tag out (ok .start .known) (ok .start .key-fits) (ok .start .nonce-fits) (m .ad-within)
-      (omega (arith, m .text-within, ok .within)) room
+      let short : length C ≤ textLimit = omega (arith, m .text-within, ok .within) in
+      listed .unseal set (start .key) (start .nonce) A C tag out
+      ∙ rw (
+        ok .start .known,
+        eq-eqb (length (start .key)) (rowOf set .key) (ok .start .key-fits),
+        eq-eqb (length (start .nonce)) (rowOf set .key) (ok .start .nonce-fits),
+        le-leb (length A) adLimit (m .ad-within),
+        le-leb (length C) textLimit short,
+        le-leb (length C) (length out) room,
+        none-opened set (start .key) (start .nonce) A C tag (ok .start .key-fits),
+      )
 
   -- with a tag of the set's length it is done, or 9
   through : length tag ≡ rowOf set .key → Through (finishAnswer Opening (rowOf set) published tag)
@@ -64,7 +73,7 @@ second-walk =
           let o = cutting-does-not-matter .opens (startTowards Opening start) A C calls tag refl m in (
             answer ∙ sym (w .answer),
             λ done.
-                second-demand ours keeps .opens (start .set) (start .key) (start .nonce) A C tag out (unrefused _ (answer ∙ sym (w .answer) ∙ done))
+                second-demand ours keeps .opens (start .set) (start .key) (start .nonce) A C tag out (unrefused _ (inl (answer ∙ sym (w .answer) ∙ done)))
                 (h start A C calls tag out m room .out) .1 (o .plaintext _ .0 (done, refl)) .1,
             λ e.
                 reported .unseal (start .set) (start .key) (start .nonce) A C tag out (subst Through (sym answer) (through start A C calls tag out m room e)) ∙ sym (w .rounds e),

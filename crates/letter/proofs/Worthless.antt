@@ -1,4 +1,5 @@
 -- Worthless versions are refuted, each by the demand that it breaks.
+pub mod Nines
 use mathlib.Core.Path.{_≡_, refl, sym, ap, _∙_, subst}
 use mathlib.Core.Bool.{Bool, true, false, cond, not, _&&_, true≢false, false≢true, and-eq-true-iff}
 use mathlib.Core.Logic.{inl, inr}
@@ -47,7 +48,7 @@ use Rattle.letter.specs.Third.{Third}
 use Rattle.letter.specs.Worthless.{NeverSeals, NeverOpens, NeverStarts, SealsBlindly, Copies, CopiesOpenings, CopiesLater, HoldsBack, CrossesText, CrossesFinish, EmptyEnds, ForgetsText, PassesLimit, ForgetsLimit, OpensAnyTag, AgreesToTwo, SameRounds, SameStreamRounds, ReportsLate, StaysOpen, OpenOnNine, SilentNine, WritesBeyond, Worthless}
 use Rattle.letter.proofs.Second.{unrefused}
 use Rattle.letter.proofs.Nines.{one-plaintext}
-use Rattle.letter.proofs.Telling.{other, other-differs, bytes-other, leaves-plaintext, leaves-difference, rounds-by-tag, rounds-by-key, finish-by-tag, keeps-key, opens-to-place}
+use Rattle.letter.proofs.Worthless.Nines.{other, other-differs, bytes-other, leaves-plaintext, leaves-difference, rounds-by-tag, number-by-tag, rounds-by-key, finish-by-tag, leaves-keys, refuses-by-content, opens-to-place, opens-two-tags}
 
 -- a key, a nonce and a place for a tag, of set 1
 abbrev sixteen : List ℕ
@@ -158,7 +159,7 @@ copies m copied l s =
 copies-openings : (m : messages.Model) → CopiesOpenings m → messages.Listed m → Second m → ⊥
 copies-openings m copied l s =
     let done = opens-zeros m l in
-    let text = s .opens 1 sixteen sixteen [] zeros-cipher _ (zeros 2) (unrefused _ done) (zeros 2) .1 sealed-zeros .1 in
+    let text = s .opens 1 sixteen sixteen [] zeros-cipher _ (zeros 2) (unrefused _ (inl done)) (zeros 2) .1 sealed-zeros .1 in
     let differ : _≡_ {A = ℕ} 0x27 0 = ap (λ (x : List ℕ). getD x 0 0) (sym (copied 1 sixteen sixteen [] _ _ (zeros 2) done) ∙ text) in
     omega arith
 
@@ -166,7 +167,7 @@ copies-openings m copied l s =
 takes-every-tag : (m : messages.Model) (set : ℕ) (K N A C out : List ℕ) → length K ≡ rowOf set .key → OpensAnyTag m set K N A C out → Second m → ⊥
 takes-every-tag m set K N A C out key done s =
     no-every-tag set K N A C key (λ T size.
-    (take (length C) (m .unseal set K N A C T out .out), s .opens set K N A C T out (unrefused _ (done T size)) _ .0 (done T size, refl)))
+    (take (length C) (m .unseal set K N A C T out .out), s .opens set K N A C T out (unrefused _ (inl (done T size))) _ .0 (done T size, refl)))
 
 -- a published sealing is opened where it is not refused
 takes-no-tag : (m : messages.Model) (set : ℕ) (K N A P out : List ℕ) → let published = sealed (rowOf set) K N A P in
@@ -563,8 +564,11 @@ worthless =
       leaves-plaintext = leaves-plaintext;
       leaves-difference = leaves-difference;
       rounds-by-tag = rounds-by-tag;
+      number-by-tag = number-by-tag;
       rounds-by-key = rounds-by-key;
       finish-by-tag = finish-by-tag;
-      keeps-key = keeps-key;
+      leaves-keys = leaves-keys;
+      refuses-by-content = refuses-by-content;
       opens-to-place = opens-to-place;
+      opens-two-tags = opens-two-tags;
     }

@@ -1,4 +1,5 @@
--- What a refused opening gives away: two that are answered 9 are alike in all that their caller sees; and no ciphertext and tag open to two plaintexts. Of every set.
+-- What a refused opening gives away, in every set: two openings, or two finishes, that are answered 9 report the same rounds and leave the same bytes, or the same
+-- state; and no ciphertext and tag open to two plaintexts.
 use mathlib.Core.List.{List}
 use mathlib.Core.Option.{some}
 use mathlib.Core.Path.{_≡_}
@@ -35,7 +36,7 @@ pub record SameLengths (one other : Handed) : Type 0 where
   pub cipher : length (one .cipher) ≡ length (other .cipher)
   pub tag : length (one .tag) ≡ length (other .tag)
 
--- its opening in a set, with a place that holds `out` before
+-- what a model answers and leaves when it opens these, in a set, into a place that held `out`
 abbrev pub unsealed : messages.Model → ℕ → Handed → List ℕ → OpenLeaves
 unsealed m set x out = m .unseal set (x .key) (x .nonce) (x .ad) (x .cipher) (x .tag) out
 
@@ -43,53 +44,56 @@ unsealed m set x out = m .unseal set (x .key) (x .nonce) (x .ad) (x .cipher) (x 
 abbrev pub unsealedWord : messages.Model → ℕ → Handed → List ℕ → messages.OpenWord
 unsealedWord m set x out = m .openWord set (x .key) (x .nonce) (x .ad) (x .cipher) (x .tag) out
 
--- two streams of one set and direction, in the same phase and with the same counts of data and text, whatever their words, keys and limits
-pub record SameCounts (one other : Stream) : Type 0 where
+-- two streams of one set, in the same phase and with the same count of data; nothing is supposed of their directions, text counts, words, keys and limits
+pub record SameData (one other : Stream) : Type 0 where
   pub set : one .set ≡ other .set
-  pub direction : one .direction ≡ other .direction
   pub phase : one .phase ≡ other .phase
   pub ad : one .ad ≡ other .ad
-  pub text : one .text ≡ other .text
 
 pub record NinesAlike (m : Model) : Type 0 where
   -- two openings of one set, with the same lengths and the same output before: answered 9, they report the same rounds and leave the same output
   pub opening : (set : ℕ) (one other : Handed) (out : List ℕ) → SameLengths one other → let x = unsealed (m .messages) set one out in
       let y = unsealed (m .messages) set other out in
       x .outcome .answer ≡ TagDiffers → y .outcome .answer ≡ TagDiffers → (x .outcome .rounds ≡ y .outcome .rounds) × (x .out ≡ y .out)
-  -- through the C boundary, where the answer is the remainder of the number by 16: they return the same number and leave the same output
+  -- behind it: where neither is done, they are the same in answer, rounds and output; so 1 to 6 depend on the set and the lengths alone
+  pub undone : (set : ℕ) (one other : Handed) (out : List ℕ) → SameLengths one other → let x = unsealed (m .messages) set one out in
+      let y = unsealed (m .messages) set other out in
+      (x .outcome .answer ≡ Done → ⊥) → (y .outcome .answer ≡ Done → ⊥) → x ≡ y
+  -- through the C boundary, where the answer is the remainder of the number by 16: answered 9, they return the same number and leave the same output
   pub boundary : (set : ℕ) (one other : Handed) (out : List ℕ) → SameLengths one other → let x = unsealedWord (m .messages) set one out in
       let y = unsealedWord (m .messages) set other out in
       x .word % 16 ≡ 9 → y .word % 16 ≡ 9 → (x .word ≡ y .word) × (x .out ≡ y .out)
-  -- two finishes, of checking or opening streams, with whatever tags: answered 9, they report the same rounds and end in the same state
-  pub finish : (d : Direction) (one other : Stream) (tag tag' : List ℕ) → SameCounts one other → let x = m .streams .finish d one tag .outcome in
-      let y = m .streams .finish d other tag' .outcome in
+  -- and so where neither is done
+  pub boundary-undone : (set : ℕ) (one other : Handed) (out : List ℕ) → SameLengths one other → let x = unsealedWord (m .messages) set one out in
+      let y = unsealedWord (m .messages) set other out in
+      (x .word % 16 ≡ 0 → ⊥) → (y .word % 16 ≡ 0 → ⊥) → x ≡ y
+  -- two finishes, of checking or opening streams, with any tags: answered 9, they report the same rounds and end in the same state; what an opening stream handed out
+  -- before is not meant, and is the decryption of what came (`OpenedWhole`, `unverified`)
+  pub finish : (d d' : Direction) (one other : Stream) (tag tag' : List ℕ) → SameData one other → let x = m .streams .finish d one tag .outcome in
+      let y = m .streams .finish d' other tag' .outcome in
       x .answer ≡ TagDiffers → y .answer ≡ TagDiffers → (x .rounds ≡ y .rounds) × (x .next ≡ y .next)
-  -- two cut messages of one set and direction, with data and text of the same lengths, however each was cut: their finishes answered 9, all their rounds add up to the same,
-  -- and they end in the same state
+  -- two messages of one set, with data and text of the same lengths, however each was cut: their finishes answered 9, the rounds of all calls add up to the same, and they
+  -- end in the same state
   pub walk : (start start' : Start) (A A' C C' : List ℕ) (calls calls' : List Call) (tag tag' : List ℕ)
-      → start .set ≡ start' .set → start .direction ≡ start' .direction → length A ≡ length A' → length C ≡ length C'
+      → start .set ≡ start' .set → length A ≡ length A' → length C ≡ length C'
       → Message (m .streams) start A C calls → Message (m .streams) start' A' C' calls' → let h = after (m .streams) (begun (m .streams) start) calls in
       let k = after (m .streams) (begun (m .streams) start') calls' in
       let x = m .streams .finish (start .direction) (h .stream) tag .outcome in
       let y = m .streams .finish (start' .direction) (k .stream) tag' .outcome in
       x .answer ≡ TagDiffers → y .answer ≡ TagDiffers → (h .rounds + x .rounds ≡ k .rounds + y .rounds) × (x .next ≡ y .next)
-  -- and two openings of which neither is done are alike, whatever they are answered: 1 to 6 are told by the set and the lengths alone
-  pub undone : (set : ℕ) (one other : Handed) (out : List ℕ) → SameLengths one other → let x = unsealed (m .messages) set one out in
-      let y = unsealed (m .messages) set other out in
-      (x .outcome .answer ≡ Done → ⊥) → (y .outcome .answer ≡ Done → ⊥) → x ≡ y
 
 -- ---- one plaintext, under one set, key, nonce and data
 
 -- of the published definitions
 pub record OnePlaintext : Type 0 where
-  -- a ciphertext is the sealing of one text at most, under one tag; the key has the set's length, as in every call that is not refused with 2
+  -- a ciphertext is the sealing of one text at most, with one tag; the key has the set's length, as in every call that is done
   pub sealing : (set : ℕ) (K N A C T T' P P' : List ℕ) → length K ≡ rowOf set .key
       → sealed (rowOf set) K N A P ≡ record { cipher = C; tag = T } → sealed (rowOf set) K N A P' ≡ record { cipher = C; tag = T' } → (P ≡ P') × (T ≡ T')
-  -- and is opened to one text at most, under one tag
+  -- and opens to one text at most, with one tag
   pub opening : (set : ℕ) (K N A C T T' P P' : List ℕ)
       → opened (rowOf set) K N A C T ≡ some P → opened (rowOf set) K N A C T' ≡ some P' → (P ≡ P') × (T ≡ T')
 
--- of the calls, with whatever places and limits
+-- of the calls, whatever room and limits they have
 pub record OpensOnce (m : Model) : Type 0 where
   -- the opening of a whole message
   pub opening : (set : ℕ) (K N A C T T' out out' : List ℕ) → let x = m .messages .unseal set K N A C T out in

@@ -2,7 +2,7 @@
 use mathlib.Core.Bool.{true, false, cond}
 use mathlib.Core.List.{List, [], _∷_}
 use mathlib.Core.Path.{_≡_}
-use Prim.Native.Nat.{ℕ, suc, _+_, _≤_, _<_}
+use Prim.Native.Nat.{ℕ, suc, _+_, _*_, _%_, _≤_, _<_}
 use lib.Dec.{eqb}
 use lib.ListN.{length, getD, take}
 use Rattle.answers.specs.declared.Answer.the-variants.{Done, TagDiffers}
@@ -14,9 +14,9 @@ use Rattle.stream.specs.declared.Direction.the-variants.{Sealing}
 use Rattle.stream.specs.declared.Phase.the-variants.{Ended}
 use Rattle.stream.specs.declared.Stream.{Stream}
 use Rattle.stream.specs.State.{givesText, givesTag, isOpen}
-use Rattle.stream.specs.Calls.{Start}
+use Rattle.stream.specs.Calls.{Start, ownTag}
 use Rattle.history.specs.History.{Streams, Call, begun, after, Started}
-use Rattle.history.specs.Cuts.{Message, publishedTag}
+use Rattle.history.specs.Cuts.{Message}
 use Rattle.message.specs.Message.{SealLeaves}
 use Rattle.letter.specs.Calls.{Through}
 use Rattle.letter.specs.Messages as messages
@@ -24,7 +24,7 @@ use Rattle.letter.specs.Streams as streams
 use Rattle.letter.specs.Model.{Model}
 use Rattle.letter.specs.Second.{Unrefused, Second}
 use Rattle.letter.specs.Third.{Third}
-use Rattle.letter.specs.Nines.{NinesAlike, OpensOnce}
+use Rattle.letter.specs.Nines.{Handed, SameLengths, unsealed, SameData, NinesAlike, OpensOnce}
 
 -- ---- the versions
 
@@ -136,43 +136,63 @@ rightBytes [] right = 0
 rightBytes (byte ∷ tag) [] = 0
 rightBytes (byte ∷ tag) (b ∷ right) = cond (eqb byte b) (suc (rightBytes tag right)) 0
 
--- with each 9 in a set, under one key, nonce and data and with one place, leaves the first byte that the wrong ciphertext decrypts to
-abbrev pub LeavesPlaintext : messages.Model → ℕ → List ℕ → List ℕ → List ℕ → List ℕ → Type 0
-LeavesPlaintext m set K N A out =
-    (C T : List ℕ) → Bytes C → Bytes T → 0 < length C → let leaves = m .unseal set K N A C T out in
+-- with each 9 to a ciphertext of n bytes, in one set, under one key, nonce and data, leaves at the front of the place the first byte of what the ciphertext decrypts to
+abbrev pub LeavesPlaintext : messages.Model → ℕ → List ℕ → List ℕ → List ℕ → ℕ → List ℕ → Type 0
+LeavesPlaintext m set K N A n out =
+    (C T : List ℕ) → Bytes C → Bytes T → length C ≡ n → let leaves = m .unseal set K N A C T out in
     leaves .outcome .answer ≡ TagDiffers → getD (leaves .out) 0 0 ≡ getD (decrypted (rowOf set) K N A C .out) 0 0
 
--- with each 9 to one ciphertext, leaves the difference of the right tag and the wrong one, at least of their first bytes
+-- with each 9 to one ciphertext, leaves at the front of the place the first byte of the right tag ⊕ the one that was given
 abbrev pub LeavesDifference : messages.Model → ℕ → List ℕ → List ℕ → List ℕ → List ℕ → List ℕ → Type 0
 LeavesDifference m set K N A C out =
     (T : List ℕ) → Bytes T → let leaves = m .unseal set K N A C T out in
     leaves .outcome .answer ≡ TagDiffers → getD (leaves .out) 0 0 ≡ getD (rightTag set K N A C ⊕ T) 0 0
 
--- with each 9 to one ciphertext, reports rounds by how far the tag was right: a number, and one more for each right byte
+-- with each 9 to one ciphertext, reports some rounds, and one more for each byte of the tag that is right before the first wrong one
 abbrev pub RoundsByTag : messages.Model → ℕ → List ℕ → List ℕ → List ℕ → List ℕ → List ℕ → ℕ → Type 0
 RoundsByTag m set K N A C out base =
     (T : List ℕ) → Bytes T → let outcome = m .unseal set K N A C T out .outcome in
     outcome .answer ≡ TagDiffers → outcome .rounds ≡ base + rightBytes T (rightTag set K N A C)
 
--- with each 9 to one ciphertext, reports rounds by the first byte of the key
+-- does so through the C boundary, where the number has sixteen times the rounds
+abbrev pub NumberByTag : messages.Model → ℕ → List ℕ → List ℕ → List ℕ → List ℕ → List ℕ → ℕ → Type 0
+NumberByTag m set K N A C out base =
+    (T : List ℕ) → Bytes T → let number = m .openWord set K N A C T out .word in
+    number % 16 ≡ 9 → number ≡ base + 16 * rightBytes T (rightTag set K N A C)
+
+-- does so with each 9 of a finish, to one stream
+abbrev pub FinishByTag : Streams → Direction → Stream → ℕ → Type 0
+FinishByTag m d s base =
+    (T : List ℕ) → Bytes T → let outcome = m .finish d s T .outcome in outcome .answer ≡ TagDiffers → outcome .rounds ≡ base + rightBytes T (ownTag s)
+
+-- with each 9 to one ciphertext, reports some rounds, and as many more as the first byte of the key says
 abbrev pub RoundsByKey : messages.Model → ℕ → List ℕ → List ℕ → List ℕ → List ℕ → ℕ → Type 0
 RoundsByKey m set N A C out base =
     (K T : List ℕ) → Bytes K → Bytes T → let outcome = m .unseal set K N A C T out .outcome in
     outcome .answer ≡ TagDiffers → outcome .rounds ≡ base + getD K 0 0
 
--- with each 9 of a finish, after one cut message, reports rounds by how far the tag was right
-abbrev pub FinishByTag : Streams → Start → List ℕ → List ℕ → List Call → ℕ → Type 0
-FinishByTag m start A C calls base =
-    (T : List ℕ) → Bytes T → let outcome = m .finish (start .direction) (after m (begun m start) calls .stream) T .outcome in
-    outcome .answer ≡ TagDiffers → outcome .rounds ≡ base + rightBytes T (publishedTag start A C)
+-- says 9 to two streams whose keys differ, and leaves to each its key
+abbrev pub LeavesKeys : Streams → Direction → Stream → Stream → List ℕ → List ℕ → Type 0
+LeavesKeys m d one other tag tag' =
+    let x = m .finish d one tag .outcome in
+    let y = m .finish d other tag' .outcome in
+    (one .key ≡ other .key → ⊥) × (x .answer ≡ TagDiffers) × (y .answer ≡ TagDiffers) × (x .next .key ≡ one .key) × (y .next .key ≡ other .key)
 
--- with each 9 of a finish in a direction, leaves the stream's key in the state
-abbrev pub KeepsKey : Streams → Direction → Type 0
-KeepsKey m d = (s : Stream) (tag : List ℕ) → let outcome = m .finish d s tag .outcome in outcome .answer ≡ TagDiffers → outcome .next .key ≡ s .key
+-- refuses two openings with two numbers: where they are of the same lengths, it goes by their contents
+abbrev pub RefusesByContent : messages.Model → ℕ → Handed → Handed → List ℕ → Type 0
+RefusesByContent m set one other out =
+    let x = unsealed m set one out .outcome .answer in
+    let y = unsealed m set other out .outcome .answer in
+    (x ≡ Done → ⊥) × (y ≡ Done → ⊥) × (x ≡ y → ⊥)
 
--- says done to one ciphertext and tag, and hands out what the place held before, whatever that was
+-- wherever it says done to one ciphertext and tag, leaves the place as it was
 abbrev pub OpensToPlace : messages.Model → ℕ → List ℕ → List ℕ → List ℕ → List ℕ → List ℕ → Type 0
 OpensToPlace m set K N A C T = (out : List ℕ) → let leaves = m .unseal set K N A C T out in leaves .outcome .answer ≡ Done → leaves .out ≡ out
+
+-- says done to one ciphertext with two tags
+abbrev pub OpensTwoTags : messages.Model → ℕ → List ℕ → List ℕ → List ℕ → List ℕ → List ℕ → List ℕ → List ℕ → Type 0
+OpensTwoTags m set K N A C T T' out =
+    (T ≡ T' → ⊥) × (m .unseal set K N A C T out .outcome .answer ≡ Done) × (m .unseal set K N A C T' out .outcome .answer ≡ Done)
 
 -- ---- what they break
 
@@ -219,23 +239,27 @@ pub record Worthless : Type 0 where
   pub forgets-limit : (m : Streams) (d : Direction) (s : Stream) (piece out : List ℕ) → ForgetsLimit m d s piece out → streams.Reported m → ⊥
   pub stays-open : (m : Streams) (d : Direction) (s : Stream) (tag : List ℕ) → StaysOpen m d s tag → streams.Reported m → ⊥
   pub writes-beyond : (m : Streams) (d : Direction) (s : Stream) (piece out : List ℕ) (index : ℕ) → WritesBeyond m d s piece out index → streams.Reported m → ⊥
-  -- that two openings that are answered 9 are alike, of every set, key, nonce and data with which an opening gets as far as its tag; the listed conditions only say which are
-  pub leaves-plaintext : (m : Model) (set : ℕ) (K N A : List ℕ) (byte : ℕ) (T out : List ℕ) → Bytes K
-      → Through (m .messages .unseal set K N A (byte ∷ []) T out .outcome .answer)
-      → LeavesPlaintext (m .messages) set K N A out → messages.Listed (m .messages) → NinesAlike m → ⊥
+  -- `NinesAlike`, in every set, under every key, nonce and data, and at every ciphertext and place, with which some opening is done or answered 9; the listed conditions only
+  -- say which tags are answered 9
+  pub leaves-plaintext : (m : Model) (set : ℕ) (K N A C T out : List ℕ) → Bytes K → 0 < length C → Through (m .messages .unseal set K N A C T out .outcome .answer)
+      → LeavesPlaintext (m .messages) set K N A (length C) out → messages.Listed (m .messages) → NinesAlike m → ⊥
   pub leaves-difference : (m : Model) (set : ℕ) (K N A C T out : List ℕ) → Bytes K → Through (m .messages .unseal set K N A C T out .outcome .answer)
       → LeavesDifference (m .messages) set K N A C out → messages.Listed (m .messages) → NinesAlike m → ⊥
   pub rounds-by-tag : (m : Model) (set : ℕ) (K N A C T out : List ℕ) (base : ℕ) → Bytes K → Through (m .messages .unseal set K N A C T out .outcome .answer)
       → RoundsByTag (m .messages) set K N A C out base → messages.Listed (m .messages) → NinesAlike m → ⊥
+  pub number-by-tag : (m : Model) (set : ℕ) (K N A C T out : List ℕ) (base : ℕ) → Bytes K → Through (m .messages .unseal set K N A C T out .outcome .answer)
+      → NumberByTag (m .messages) set K N A C out base → messages.Listed (m .messages) → NinesAlike m → ⊥
   pub rounds-by-key : (m : Model) (set byte : ℕ) (rest N A C T out : List ℕ) (base : ℕ) → Bytes (byte ∷ rest)
       → Through (m .messages .unseal set (byte ∷ rest) N A C T out .outcome .answer)
       → RoundsByKey (m .messages) set N A C out base → messages.Listed (m .messages) → NinesAlike m → ⊥
-  -- that two finishes are
-  pub finish-by-tag : (m : Model) (start : Start) (A C : List ℕ) (calls : List Call) (base : ℕ) → givesTag (start .direction) ≡ false
-      → length (start .key) ≡ rowOf (start .set) .key → Message (m .streams) start A C calls → FinishByTag (m .streams) start A C calls base
-      → Third (m .streams) → NinesAlike m → ⊥
-  pub keeps-key : (m : Model) (d : Direction) → givesTag d ≡ false → KeepsKey (m .streams) d → streams.Listed (m .streams) → NinesAlike m → ⊥
-  -- that a ciphertext and tag open to one plaintext
+  -- the same of finishes, at every stream of which one is done or answered 9
+  pub finish-by-tag : (m : Model) (d : Direction) (s : Stream) (T : List ℕ) (base : ℕ) → givesTag d ≡ false → length (s .key) ≡ 16 → Bytes (s .key)
+      → Through (m .streams .finish d s T .outcome .answer) → FinishByTag (m .streams) d s base → streams.Listed (m .streams) → NinesAlike m → ⊥
+  -- `NinesAlike` alone
+  pub leaves-keys : (m : Model) (d : Direction) (one other : Stream) (tag tag' : List ℕ) → SameData one other → LeavesKeys (m .streams) d one other tag tag' → NinesAlike m → ⊥
+  pub refuses-by-content : (m : Model) (set : ℕ) (one other : Handed) (out : List ℕ) → SameLengths one other → RefusesByContent (m .messages) set one other out → NinesAlike m → ⊥
+  -- `OpensOnce`, wherever an opening of at least one byte is done; `OpensOnce` alone
   pub opens-to-place : (m : Model) (set : ℕ) (K N A C T : List ℕ) (byte : ℕ) (rest : List ℕ) → 0 < length C
       → m .messages .unseal set K N A C T (byte ∷ rest) .outcome .answer ≡ Done
       → OpensToPlace (m .messages) set K N A C T → messages.Listed (m .messages) → OpensOnce m → ⊥
+  pub opens-two-tags : (m : Model) (set : ℕ) (K N A C T T' out : List ℕ) → OpensTwoTags (m .messages) set K N A C T T' out → OpensOnce m → ⊥

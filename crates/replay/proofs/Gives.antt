@@ -6,7 +6,6 @@ use Prim.Native.Nat.{ℕ, _-_, _≤_}
 use native.Mathlib.Omega.{arith}
 use lib.Dec.{ltb, lit≤}
 use lib.ListN.{length, take, drop, length-append, length-take, length-drop, length-replicate}
-use lib.Seq.{length-take-le}
 use lib.Pow.{areBytes}
 use borrow.Author.Tests.{ltb-true, lt-ltb}
 use Rattle.answers.specs.declared.Answer.{Answer}
@@ -15,9 +14,9 @@ use Rattle.answers.specs.Numbers.{isDone}
 use Rattle.answers.proofs.Numbers.{number-small}
 use Rattle.ascon.specs.Sets.{ParameterSet, rowOf, adLimit}
 use Rattle.ascon.specs.Mode.{p}
-use Rattle.ascon.specs.Bytewise.{sealing, closed}
+use Rattle.ascon.specs.Bytewise.{sealing}
 use Rattle.ascon.proofs.Bytewise.{length-outs, bytes-outs}
-use Rattle.ascon.proofs.Sealing.{bytes-p, length-tag, bytes-tag}
+use Rattle.ascon.proofs.Sealing.{bytes-p}
 use Rattle.digits.proofs.Spelling.{and-both}
 use Rattle.log.specs.declared.form.Call.{Call}
 use Rattle.log.specs.declared.form.Call.the-variants.{Start1, Start2, Ad, Text, Finish}
@@ -31,8 +30,8 @@ use Rattle.record.proofs.Fields.{whole-field, held-field, held-most}
 use Rattle.record.proofs.Lines.{field-allowed}
 use Rattle.sets.proofs.Rows.{row-fits, row-sizes}
 use Rattle.sponge.specs.declared.Way.the-variants.{Seal}
-use Rattle.sponge.specs.Sponge.{absorbed, frontOf, given, tagOf}
-use Rattle.sponge.proofs.Ends.{Sixteen}
+use Rattle.sponge.specs.Sponge.{absorbed, frontOf, given}
+use Rattle.sponge.proofs.Ends.{Sixteen, tag-length, tag-bytes}
 use Rattle.stream.specs.declared.Direction.the-variants.{Sealing}
 use Rattle.stream.specs.declared.Outcome.{Outcome}
 use Rattle.stream.specs.declared.Stream.{Stream}
@@ -169,18 +168,6 @@ text-fit s input key e short = go (isDone answer) refl
         }
     go false failed = rw failed (record { most = lit≤ tt; bytes = refl; rounds = lit≤ tt; key = key })
 
--- the tag is as long as the set's key, and bytes
-tag-fit : (s : Stream) → Sixteen (s .key) → (length (ownTag s) ≡ rowOf (s .set) .key) × Bytes (ownTag s)
-unfolding tagOf
-tag-fit s key =
-    let row : ParameterSet = rowOf (s .set) in
-    let size : length (s .key) ≡ 16 = key .size in
-    let most : row .key ≤ 16 = row-sizes (s .set) .key in
-    let own : List ℕ = take (row .key) (s .key) in
-    let sized : length own ≡ row .key = length-take-le (row .key) (s .key) (omega arith) in
-    let front : List ℕ = closed (frontOf row (textWords s) (s .text)) in
-    (length-tag row (row-fits (s .set)) own sized front, bytes-tag row (row-fits (s .set)) own sized (bytes-take (row .key) (key .bytes)) front)
-
 -- the finish
 finish-fit : (s : Stream) → Sixteen (s .key) → Fit (finished s)
 unfolding finished finishCall
@@ -197,10 +184,10 @@ finish-fit s key = go (isDone answer) refl
 
     go : (t : Bool) → isDone answer ≡ t → Fit (written (cond t (called (finishedWith Done s) (ownTag s)) (called (refused answer s) room)))
     go true passed =
-        let tag = tag-fit s key in
-        let size : length (ownTag s) ≡ row .key = tag .0 in
+        let size : length (ownTag s) ≡ row .key = tag-length row (row-sizes (s .set)) (row-fits (s .set)) (textWords s) (s .key) (s .text) (key .size) in
+        let bytes : Bytes (ownTag s) = tag-bytes row (row-sizes (s .set)) (row-fits (s .set)) (textWords s) (s .key) (s .text) key in
         let most : row .key ≤ 16 = row-sizes (s .set) .key in
-        record { most = omega arith; bytes = bytes-pass (ownTag s) (tag .1); rounds = omega (arith, closing-bound s); key = ended-key }
+        record { most = omega arith; bytes = bytes-pass (ownTag s) bytes; rounds = omega (arith, closing-bound s); key = ended-key }
     go false failed = rw failed (record { most = lit≤ tt; bytes = refl; rounds = lit≤ tt; key = key })
 
 -- a call of the log

@@ -5,7 +5,6 @@ use mathlib.Core.List.{List, [], _∷_, _++_}
 use Prim.Native.Nat.{ℕ, zero, suc, _-_, _≤_}
 use native.Mathlib.Omega.{arith}
 use lib.ListN.{length, take, drop, length-append, length-drop, length-replicate, take-append-drop}
-use lib.Seq.{length-take-le}
 use Rattle.answers.specs.Numbers.{isDone}
 use Rattle.permutation.specs.Strings.{zeros}
 use Rattle.permutation.proofs.Strings.{drop-zeros}
@@ -14,10 +13,10 @@ use Rattle.ascon.specs.Sets.{rowOf}
 use Rattle.ascon.specs.Mode.{p}
 use Rattle.ascon.specs.Bytewise.{sealing}
 use Rattle.ascon.proofs.Bytewise.{length-outs}
-use Rattle.ascon.proofs.Sealing.{length-tag}
 use Rattle.sets.proofs.Rows.{row-fits, row-sizes}
 use Rattle.sponge.specs.declared.Way.the-variants.{Seal}
-use Rattle.sponge.specs.Sponge.{frontOf, given, tagOf}
+use Rattle.sponge.specs.Sponge.{frontOf, given}
+use Rattle.sponge.proofs.Ends.{tag-length}
 use Rattle.stream.specs.declared.Direction.the-variants.{Sealing}
 use Rattle.stream.specs.declared.Outcome.{Outcome}
 use Rattle.stream.specs.declared.Stream.{Stream}
@@ -108,10 +107,10 @@ text-fills s piece =
 
 -- and so does a finish
 pub finish-fills : (s : Stream) → length (s .key) ≡ 16 → Fills (finishCall Sealing s (zeros (rowOf (s .set) .key))) (rowOf (s .set) .key)
-unfolding finishCall tagOf
+unfolding finishCall
 finish-fills s h =
     let row = rowOf (s .set) in
     chosen-fills (isDone (finishTest Sealing s (length (zeros (row .key))))) _ _ (row .key) refl
-    (length-tag row (row-fits (s .set)) (take (row .key) (s .key)) (length-take-le (row .key) (s .key) (omega (arith, row-sizes (s .set) .key))) _)
+    (tag-length row (row-sizes (s .set)) (row-fits (s .set)) (textWords s) (s .key) (s .text) h)
     (λ e. e)
     refl

@@ -67,7 +67,9 @@ pub fn seal(
 /// The text goes to the first `cipher.len()` bytes of `out`. The rest of `out` keeps its bytes. A refusal is the first
 /// that holds of [`Refusal::KeyLength`], [`Refusal::NonceLength`], [`Refusal::TagLength`], [`Refusal::PastLimit`],
 /// [`Refusal::OutputTooShort`] and [`Refusal::TagDiffers`]. The last puts zeros where the text would have gone; the
-/// others change no byte.
+/// others change no byte. Two calls in one set, with the same lengths and the same bytes in `out` before, that both give
+/// the last give the same rounds and leave the same bytes, whatever their keys and contents; how long they take is not
+/// promised.
 pub fn open(
     set: Set,
     key: &[u8],

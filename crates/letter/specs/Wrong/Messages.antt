@@ -27,7 +27,7 @@ abbrev pub OpensOnly : ℕ → List ℕ → List ℕ → List ℕ → List ℕ �
 OpensOnly set K N A C tag out number left =
     (n : ℕ) (x : List ℕ) → ((n ≡ number) × (x ≡ left) → ⊥) → NeverLeaves gateway.kvistmaur_open.Reads.Learnt (whole set K N A C tag out) n (whole set K N A C tag x)
 
--- so it answers a byte under a tag of zeros, where key and nonce are zeros of so many bytes: 24 rounds and 9, and the byte is cleared
+-- one byte of ciphertext, with key, nonce and tag of zeros: 393, which is 16 × 24 + 9; the byte of plaintext is cleared, and the one behind it stays
 abbrev pub NineTo : ℕ → ℕ → Type 0
 NineTo set size = OpensOnly set (zeros size) (zeros size) [] (0 ∷ []) (zeros size) (0xff ∷ 0xff ∷ []) 393 (0 ∷ 0xff ∷ [])
 
@@ -84,7 +84,7 @@ pub record Wrong : Type 0 where
   pub kvistmaur-seal-four : Only gateway.kvistmaur_seal.Reads.Learnt (whole 4 counting counting [] [] [] (zeros 16)) 384
   pub kvistmaur-open-three : Only gateway.kvistmaur_open.Reads.Learnt (whole 3 counting counting [] [] (bytesOf 16 0xe355159f292911f794cb1432a0103a8a) []) 384
   pub kvistmaur-open-four : Only gateway.kvistmaur_open.Reads.Learnt (whole 4 counting counting [] [] (bytesOf 16 0x7a834e6f09210957067b10fd831f0078) []) 384
-  -- a wrong tag is the number of 24 rounds and 9 in each set, and nothing of the plaintext is left
+  -- so in each set
   pub kvistmaur-open-nine : NineTo 1 16 × NineTo 2 12 × NineTo 3 16 × NineTo 4 16
   -- a key of 15 with a wrong nonce is the word 2, and not 3
   pub kvistmaur-open-key : Never gateway.kvistmaur_open.Reads.Learnt (1, (lent (zeros 15), (lent [], (lent [], (lent [], (lent [], (lent [], tt))))))) 3
