@@ -29,9 +29,9 @@
  *     0  done
  *   With 1 to 6 the rounds are 0 and no lent byte changes. With 0 and 9 the rounds are those that the published
  *   definition runs for the whole message: at least 24.
- *   Two openings of one set with the same lengths, and the same bytes in out before, that are both answered 9 return the
- *   same number and leave the same bytes in out, whatever the keys and the other bytes are. This is about what a call
- *   returns and what out holds then; how long it takes, and what out holds before it returns, is not promised.
+ *   If two openings in one set have slices of the same lengths and the same bytes in out before, and both are answered 9,
+ *   they return the same number and leave the same bytes in out, whatever the keys and the other bytes are. Nothing is
+ *   promised about how long a call takes, what it leaves on its stack, or what out holds before it returns.
  *
  * UNVERIFIED BYTES
  *   Nothing unverified is handed out here: when kvistmaur_open returns, out holds the text only with answer 0, and zeros

@@ -55,7 +55,7 @@ pub record NinesAlike (m : Model) : Type 0 where
   pub opening : (set : ℕ) (one other : Handed) (out : List ℕ) → SameLengths one other → let x = unsealed (m .messages) set one out in
       let y = unsealed (m .messages) set other out in
       x .outcome .answer ≡ TagDiffers → y .outcome .answer ≡ TagDiffers → (x .outcome .rounds ≡ y .outcome .rounds) × (x .out ≡ y .out)
-  -- behind it: where neither is done, they are the same in answer, rounds and output; so 1 to 6 depend on the set and the lengths alone
+  -- behind it: where neither is done, they are the same in answer, rounds and output; that 1 to 6 depend on the set and the lengths alone is in `Listed`
   pub undone : (set : ℕ) (one other : Handed) (out : List ℕ) → SameLengths one other → let x = unsealed (m .messages) set one out in
       let y = unsealed (m .messages) set other out in
       (x .outcome .answer ≡ Done → ⊥) → (y .outcome .answer ≡ Done → ⊥) → x ≡ y

@@ -67,9 +67,9 @@ pub fn seal(
 /// The text goes to the first `cipher.len()` bytes of `out`. The rest of `out` keeps its bytes. A refusal is the first
 /// that holds of [`Refusal::KeyLength`], [`Refusal::NonceLength`], [`Refusal::TagLength`], [`Refusal::PastLimit`],
 /// [`Refusal::OutputTooShort`] and [`Refusal::TagDiffers`]. The last puts zeros where the text would have gone; the
-/// others change no byte. Two calls in one set, with the same lengths and the same bytes in `out` before, that both give
-/// the last give the same rounds and leave the same bytes, whatever their keys and contents; how long they take is not
-/// promised.
+/// others change no byte. If two calls in one set have arguments of the same lengths and the same bytes in `out` before,
+/// and both give [`Refusal::TagDiffers`], they report the same rounds and leave the same bytes in `out`, whatever the keys
+/// and contents. How long a call takes is not promised.
 pub fn open(
     set: Set,
     key: &[u8],

@@ -93,12 +93,15 @@ fn sealed(random: &mut Random, n: &'static Numbers, data: usize, text: usize) ->
     (Came { n, parts }, m.text)
 }
 
-/// Seals the text under the key, the nonce and the data of what came, and gives what comes of it.
+/// Seals the text under the key, the nonce and the data of what came, and gives what comes of it, having compared it
+/// with the walk.
 fn sealed_again(came: &Came, text: &[u8]) -> Came {
     let [key, nonce, data, ..] = &came.parts;
     let (mut cipher, mut tag) = (vec![0; text.len()], vec![0; came.n.key]);
     let answer = calls::seal(came.n.set, key, nonce, data, text, &mut cipher, &mut tag);
     assert_eq!(answer.number, 0);
+    let by_walk = walk::sealed(came.n, key, nonce, data, text);
+    assert_eq!(by_walk, (cipher.clone(), tag.clone(), answer.rounds));
     came.with(CIPHER, cipher).with(TAG, tag)
 }
 

@@ -84,7 +84,7 @@ pub record Wrong : Type 0 where
   pub kvistmaur-seal-four : Only gateway.kvistmaur_seal.Reads.Learnt (whole 4 counting counting [] [] [] (zeros 16)) 384
   pub kvistmaur-open-three : Only gateway.kvistmaur_open.Reads.Learnt (whole 3 counting counting [] [] (bytesOf 16 0xe355159f292911f794cb1432a0103a8a) []) 384
   pub kvistmaur-open-four : Only gateway.kvistmaur_open.Reads.Learnt (whole 4 counting counting [] [] (bytesOf 16 0x7a834e6f09210957067b10fd831f0078) []) 384
-  -- so in each set
+  -- a wrong tag, in each set: the number of 24 rounds and 9, and the byte is cleared
   pub kvistmaur-open-nine : NineTo 1 16 × NineTo 2 12 × NineTo 3 16 × NineTo 4 16
   -- a key of 15 with a wrong nonce is the word 2, and not 3
   pub kvistmaur-open-key : Never gateway.kvistmaur_open.Reads.Learnt (1, (lent (zeros 15), (lent [], (lent [], (lent [], (lent [], (lent [], tt))))))) 3

@@ -294,7 +294,8 @@ fn alike(harness: &mut Harness) {
                         let mut memory = call.memory(|| 0);
                         assert_eq!(memory.output(), before.output());
                         let returned = harness.compare_in(&call, &mut memory);
-                        assert_eq!((returned, memory.output()), (number, &zeros[..]));
+                        let left = (returned, memory.output());
+                        assert_eq!(left, (number, &zeros[..]), "{}", call.shown());
                     }
                 }
             }

@@ -45,7 +45,7 @@ impl Harness {
         self.compare_in(call, &mut memory) % 16
     }
 
-    /// The same with a given memory, which the model leaves as it does; gives the number that is returned.
+    /// Does so in a given memory, which then holds what the model left, and gives the number that was returned.
     pub fn compare_in(&mut self, call: &Call, model: &mut Memory) -> u64 {
         let mut second = model.clone();
         let wanted = call.run(&SECOND, &mut second);
