@@ -1,14 +1,16 @@
 -- Orders of refusals: what a done answer says, one order behind another, and the largest number.
-use mathlib.Core.Path.{_≡_, refl, sym, _∙_}
+use mathlib.Core.Path.{_≡_, refl, sym, ap, _∙_}
 use mathlib.Core.Bool.{Bool, true, false, cond, not, _&&_, false≢true}
 use mathlib.Core.List.{List, [], _∷_, _++_}
 use Prim.Native.Nat.{ℕ, _≤_, zero-le}
+use native.Mathlib.Omega.{arith}
 use lib.Dec.{leb}
-use borrow.Author.Tests.{leb-true}
+use borrow.Author.Tests.{leb-true, eqb-false}
 use Rattle.answers.specs.declared.Answer.{Answer}
 use Rattle.answers.specs.declared.Answer.the-variants.{Done}
 use Rattle.answers.specs.Numbers.{numberOf, isDone}
 use Rattle.answers.specs.Order.{Choice, first}
+use Rattle.answers.proofs.Numbers.{done-is}
 
 -- every choice is a refusal
 abbrev pub refuse : List (Choice Answer) → Bool
@@ -46,6 +48,10 @@ first-append (c ∷ cs) ds e = go (c .holds) (isDone (c .choice)) refl e (first-
     go true false g e rest = rw g
     go false false g e rest = rest e
 
+-- behind an order of which none holds
+pub first-behind : (cs ds : List (Choice Answer)) → refuse cs ≡ true → first Done cs ≡ Done → first Done (cs ++ ds) ≡ first Done ds
+first-behind cs ds refuses e = first-append cs ds refuses ∙ ap (λ (answer : Answer). cond (isDone answer) (first Done ds) answer) e
+
 -- every choice has at most this number
 abbrev pub atMost : ℕ → List (Choice Answer) → Bool
 atMost n [] = true
@@ -61,3 +67,17 @@ first-most n (c ∷ cs) e = go (c .holds) (leb (numberOf (c .choice)) n) refl e 
     go b false g e rest = absurd (false≢true e)
     go true true g e rest = leb-true (numberOf (c .choice)) n g
     go false true g e rest = rest e
+
+-- so where the answer has none of these numbers, none of the first order holds
+pub first-passed : (n : ℕ) (cs ds : List (Choice Answer)) → refuse cs ≡ true → atMost n cs ≡ true → let answer = first Done (cs ++ ds) in
+    ((1 ≤ numberOf answer) × (numberOf answer ≤ n) → ⊥) → first Done cs ≡ Done
+first-passed n cs ds refuses most others = go (isDone (first Done cs)) refl
+  where
+    go : (b : Bool) → isDone (first Done cs) ≡ b → first Done cs ≡ Done
+    go true e = done-is (first Done cs) e
+    go false e =
+        let number : numberOf (first Done (cs ++ ds)) ≡ numberOf (first Done cs) =
+        ap numberOf (first-append cs ds refuses ∙ ap (λ (b : Bool). cond b (first Done ds) (first Done cs)) e) in
+        let some : numberOf (first Done cs) ≡ 0 → ⊥ = eqb-false (numberOf (first Done cs)) 0 e in
+        let few : numberOf (first Done cs) ≤ n = first-most n cs most in
+        absurd (others (omega (arith, number, some), omega (arith, number, few)))

@@ -1,11 +1,11 @@
 -- Laws of any call: its one outcome, its listed answer.
 use mathlib.Core.Path.{_≡_, refl, sym, ap, _∙_}
-use mathlib.Core.Bool.{false, false≢true}
+use mathlib.Core.Bool.{false}
 use mathlib.Core.List.{[]}
 use mathlib.Core.Logic.{inl, inr}
 use Prim.Native.Nat.{ℕ, zero, suc, _≤_}
 use native.Mathlib.Omega.{arith}
-use borrow.Author.Tests.{le-leb, lt-leb}
+use borrow.Author.Tests.{le-leb, lt-leb, eqb-false}
 use contract.Lifetimes.{Lfts}
 use Rattle.answers.specs.declared.Answer.{Answer}
 use Rattle.answers.specs.declared.Answer.the-variants.{Done}
@@ -38,10 +38,14 @@ done-says answer Kept e = record { is = e; kept = λ r. absurd (r .0 e) }
 pub says : (answer : Answer) (Kept : Type 0) → Kept → Says answer answer Kept
 says answer Kept k = record { is = refl; kept = λ _. k }
 
--- a refusal with 1 to 8 is neither done nor 9
+-- neither done nor 9 is a refusal with 1 to 8
+pub not-refused : (answer : Answer) → Through answer → (1 ≤ numberOf answer) × (numberOf answer ≤ 8) → ⊥
+not-refused answer (inl e) (least, most) = let none : numberOf answer ≡ 0 = ap numberOf e in omega (arith, none, least)
+not-refused answer (inr e) (least, most) = let nine : numberOf answer ≡ 9 = ap numberOf e in omega (arith, nine, most)
+
+-- so such a refusal is neither
 pub stopped : (answer : Answer) → isDone answer ≡ false → numberOf answer ≤ 8 → Through answer → ⊥
-stopped answer f small (inl e) = false≢true (sym f ∙ ap isDone e)
-stopped answer f small (inr e) = let nine : numberOf answer ≡ 9 = ap numberOf e in omega (arith, nine, small)
+stopped answer e most came = let some : numberOf answer ≡ 0 → ⊥ = eqb-false (numberOf answer) 0 e in not-refused answer came (omega (arith, some), most)
 
 -- a number that no set has is not taken for one
 pub no-set : (set : ℕ) → NoSet set → isSet set ≡ false

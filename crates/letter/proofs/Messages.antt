@@ -1,18 +1,17 @@
 -- Whole messages and their C boundary: what is said of their calls holds.
-use mathlib.Core.Path.{_≡_, refl, sym, ap, _∙_}
+use mathlib.Core.Path.{_≡_, refl, sym, ap, _∙_, subst}
 use mathlib.Core.Bool.{Bool, true, false, cond, not}
 use mathlib.Core.List.{List, [], _∷_, _++_}
 use mathlib.Core.Option.{Option, some, none}
 use Prim.Native.Nat.{ℕ, _≤_}
 use native.Mathlib.Omega.{arith}
 use lib.ListN.{length, drop}
-use borrow.Author.Tests.{eqb-false}
 use Rattle.answers.specs.declared.Answer.{Answer}
 use Rattle.answers.specs.declared.Answer.the-variants.{Done, TagDiffers}
 use Rattle.answers.specs.Numbers.{numberOf, isDone}
 use Rattle.answers.specs.Order.{first, Choice, _when_}
 use Rattle.answers.proofs.Numbers.{done-is}
-use Rattle.answers.proofs.Order.{first-append, first-most}
+use Rattle.answers.proofs.Order.{first-passed}
 use Rattle.ascon.specs.Sets.{rowOf}
 use Rattle.permutation.specs.Strings.{zeros, same}
 use Rattle.ascon.specs.Mode.{Processed, decrypted, finalise, sealed, opened}
@@ -103,22 +102,10 @@ none-opened set K N A C T key =
 pub tests-passed : (m : Model) → Listed m → (set : ℕ) (K N A C T out : List ℕ) → Unrefused (m .unseal set K N A C T out .outcome .answer)
     → isDone (messageTest set (length K) (length N) (length T) (length A) (length C) (length out)) ≡ true
 unfolding messageTest
-tests-passed m l set K N A C T out u = go (isDone (first Done tests)) refl
-  where
-    tests : List (Choice Answer)
-    tests = faults set (length K) (length N) (length T) (length A) (length C) (length out)
-
-    behind : List (Choice Answer)
-    behind = openFaults (opened (rowOf set) K N A C T)
-
-    go : (b : Bool) → isDone (first Done tests) ≡ b → isDone (first Done tests) ≡ true
-    go true e = e
-    go false e =
-        let number : numberOf (m .unseal set K N A C T out .outcome .answer) ≡ numberOf (first Done tests) =
-        ap numberOf (l .unseal set K N A C T out ∙ first-append tests behind refl ∙ ap (λ (b : Bool). cond b (first Done behind) (first Done tests)) e) in
-        let some : numberOf (first Done tests) ≡ 0 → ⊥ = eqb-false (numberOf (first Done tests)) 0 e in
-        let most : numberOf (first Done tests) ≤ 6 = first-most 6 tests refl in
-        absurd (u (omega (arith, number, some), omega (arith, number, most)))
+tests-passed m l set K N A C T out u =
+    ap isDone
+    (first-passed 6 (faults set (length K) (length N) (length T) (length A) (length C) (length out)) (openFaults (opened (rowOf set) K N A C T)) refl refl
+    (subst Unrefused (l .unseal set K N A C T out) u))
 
 -- ---- what they leave
 

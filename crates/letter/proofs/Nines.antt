@@ -25,6 +25,7 @@ use Rattle.ascon.proofs.Sealing.{only-text, only-tag}
 use Rattle.sets.proofs.Rows.{row-fits}
 use Rattle.message.specs.Message.{faults, messageTest, OpenLeaves, openLeaves, judged, openFaults, openCall}
 use Rattle.message.proofs.Tests.{message-passed}
+use Rattle.gateway.specs.Word.{wordOf}
 use Rattle.stream.specs.declared.Direction.{Direction}
 use Rattle.stream.specs.declared.Stream.{Stream}
 use Rattle.stream.specs.State.{isAd, givesTag, ended}
@@ -38,6 +39,7 @@ use Rattle.history.proofs.Directions.{cutting-does-not-matter}
 use Rattle.letter.specs.Messages as messages
 use Rattle.letter.specs.Model.{Model, ours, Keeps}
 use Rattle.letter.specs.Nines.{Handed, SameLengths, unsealed, unsealedWord, SameData, NinesAlike, OnePlaintext, OpensOnce}
+use Rattle.letter.proofs.Calls.{off}
 use Rattle.letter.proofs.Messages.{listed, tests-passed}
 use Rattle.letter.proofs.Streams.{reported}
 use Rattle.letter.proofs.Model.{keeps, of-kept}
@@ -77,12 +79,13 @@ undone-alike set one other out s u v =
     ∙ (λ j. undoneLeaves set (s .key j) (s .nonce j) (s .tag j) (s .ad j) (s .cipher j) out)
     ∙ sym (undone-is set (other .key) (other .nonce) (other .ad) (other .cipher) (other .tag) out v)
 
--- 9 is not done
-nine-not : _≡_ {A = ℕ} 9 0 → ⊥
-nine-not e = omega (arith, e)
+-- 9 is not 0
+nine-nonzero : _≡_ {A = ℕ} 9 0 → ⊥
+nine-nonzero e = omega (arith, e)
 
+-- and not done
 nine-undone : (answer : Answer) → answer ≡ TagDiffers → answer ≡ Done → ⊥
-nine-undone answer e f = nine-not (ap numberOf (sym e ∙ f))
+nine-undone answer e f = nine-nonzero (ap numberOf (sym e ∙ f))
 
 -- what is left of an opening's number by 16 is its answer
 answer-left : (set : ℕ) (K N A C T out : List ℕ) → let outcome = openCall set K N A C T out .outcome in
@@ -124,7 +127,7 @@ nine-walk start A C calls tag m e =
 
 -- what the boundary returns and leaves, by the opening
 worded : OpenLeaves → messages.OpenWord
-worded x = messages.openWord (16 * x .outcome .rounds + numberOf (x .outcome .answer)) (x .out)
+worded x = messages.openWord (wordOf (x .outcome)) (x .out)
 
 alike : NinesAlike ours
 unfolding worded
@@ -134,7 +137,7 @@ alike = record {
       (ap (λ (x : OpenLeaves). x .outcome .rounds) same, ap (λ (x : OpenLeaves). x .out) same);
   undone = undone-alike;
   boundary = λ set one other out s e f.
-      let same = undone-alike set one other out s (word-undone set one out (λ z. nine-not (sym e ∙ z))) (word-undone set other out (λ z. nine-not (sym f ∙ z))) in
+      let same = undone-alike set one other out s (word-undone set one out (λ z. nine-nonzero (sym e ∙ z))) (word-undone set other out (λ z. nine-nonzero (sym f ∙ z))) in
       (ap (λ (x : OpenLeaves). worded x .word) same, ap (λ (x : OpenLeaves). x .out) same);
   boundary-undone = λ set one other out s u v. ap worded (undone-alike set one other out s (word-undone set one out u) (word-undone set other out v));
   finish = λ d d' one other tag tag' s e f.
@@ -169,7 +172,7 @@ opened-is set K N A C T P = go (same T (finalise (rowOf set) K (decrypted (rowOf
     go : (t : Bool) → same T (finalise (rowOf set) K (decrypted (rowOf set) K N A C .state)) ≡ t → cond t (some (decrypted (rowOf set) K N A C .out)) none ≡ some P
         → (decrypted (rowOf set) K N A C .out ≡ P) × (T ≡ finalise (rowOf set) K (decrypted (rowOf set) K N A C .state))
     go true f e = (cc, same-eq T _ f)
-    go false f e = absurd (let z : _≡_ {A = ℕ} 0 1 = cc in omega arith)
+    go false f e = absurd (off cc)
 
 pub one-plaintext : OnePlaintext
 one-plaintext = record {
@@ -190,7 +193,7 @@ done-sealed : (set : ℕ) (K N A C T out : List ℕ) → let leaves = openCall s
     leaves .outcome .answer ≡ Done → sealed (rowOf set) K N A (take (length C) (leaves .out)) ≡ record { cipher = C; tag = T }
 done-sealed set K N A C T out d = second-demand ours keeps .opens set K N A C T out (unrefused _ (inl d)) _ .0 (d, refl)
 
--- what is left of its number by 16 is 0
+-- and where what is left of its number by 16 is 0, it is done
 done-word : (set : ℕ) (K N A C T out : List ℕ) → messages.ours .openWord set K N A C T out .word % 16 ≡ 0 → openCall set K N A C T out .outcome .answer ≡ Done
 done-word set K N A C T out nought = done-is _ (ap (λ (n : ℕ). eqb n 0) (sym (answer-left set K N A C T out) ∙ nought))
 

@@ -2,7 +2,7 @@
 use mathlib.Core.Path.{_≡_, refl, sym, ap, _∙_}
 use mathlib.Core.Bool.{Bool, true, false, cond}
 use mathlib.Core.List.{List}
-use mathlib.Core.Logic.{_↔_, inl, inr}
+use mathlib.Core.Logic.{_↔_}
 use mathlib.Core.Option.{Option, some, none}
 use Prim.Native.Nat.{ℕ}
 use native.Mathlib.Omega.{arith}
@@ -10,7 +10,7 @@ use lib.ListN.{length, take, drop, length-replicate}
 use lib.Seq.{take-at, drop-at}
 use Rattle.answers.specs.declared.Answer.{Answer}
 use Rattle.answers.specs.declared.Answer.the-variants.{Done}
-use Rattle.answers.specs.Numbers.{numberOf, isDone}
+use Rattle.answers.specs.Numbers.{isDone}
 use Rattle.answers.proofs.Numbers.{done-is}
 use Rattle.ascon.specs.Sets.{rowOf}
 use Rattle.permutation.specs.Strings.{zeros}
@@ -27,6 +27,7 @@ use Rattle.letter.specs.Calls.{Through}
 use Rattle.letter.specs.Messages.{ours}
 use Rattle.letter.specs.Model.{Model, Keeps}
 use Rattle.letter.specs.Second.{Unrefused, Second}
+use Rattle.letter.proofs.Calls.{not-refused}
 use Rattle.letter.proofs.Messages.{listed, tests-passed}
 use Rattle.letter.proofs.Model.{of-kept}
 
@@ -54,8 +55,7 @@ module _ (set : ℕ) (K N A P out tag : List ℕ) where
 
 -- neither done nor 9 is a refusal 1 to 6
 pub unrefused : (answer : Answer) → Through answer → Unrefused answer
-unrefused answer (inl e) r = let none : numberOf answer ≡ 0 = ap numberOf e in omega (arith, r .0, none)
-unrefused answer (inr e) r = let nine : numberOf answer ≡ 9 = ap numberOf e in omega (arith, r .1, nine)
+unrefused answer came (least, most) = not-refused answer came (least, omega (arith, most))
 
 module _ (set : ℕ) (K N A C T out : List ℕ) where
   -- the opening's tests

@@ -48,7 +48,7 @@ use Rattle.letter.specs.Third.{Third}
 use Rattle.letter.specs.Worthless.{NeverSeals, NeverOpens, NeverStarts, SealsBlindly, Copies, CopiesOpenings, CopiesLater, HoldsBack, CrossesText, CrossesFinish, EmptyEnds, ForgetsText, PassesLimit, ForgetsLimit, OpensAnyTag, AgreesToTwo, SameRounds, SameStreamRounds, ReportsLate, StaysOpen, OpenOnNine, SilentNine, WritesBeyond, Worthless}
 use Rattle.letter.proofs.Second.{unrefused}
 use Rattle.letter.proofs.Nines.{one-plaintext}
-use Rattle.letter.proofs.Worthless.Nines.{other, other-differs, bytes-other, leaves-plaintext, leaves-difference, rounds-by-tag, number-by-tag, rounds-by-key, finish-by-tag, leaves-keys, refuses-by-content, opens-to-place, opens-two-tags}
+use Rattle.letter.proofs.Worthless.Nines.{otherByte, other-differs, bytes-other, leaves-plaintext, leaves-difference, rounds-by-tag, rounds-by-key, boundary-leaves, finish-by-tag, leaves-keys, leaves-refused, opens-to-place, opens-two-tags}
 
 -- a key, a nonce and a place for a tag, of set 1
 abbrev sixteen : List ℕ
@@ -135,7 +135,7 @@ answers-same : (m : messages.Model) (same : ℕ → ℕ → ℕ → ℕ → ℕ 
     → Second m → ⊥
 answers-same m same always set K N A byte rest out tag bytes key done s =
     let P : List ℕ = byte ∷ rest in
-    let Q : List ℕ = other byte ∷ rest in
+    let Q : List ℕ = otherByte byte ∷ rest in
     let one : m .seal set K N A P out tag ≡ m .seal set K N A Q out tag = always set K N A P out tag bytes ∙ sym (always set K N A Q out tag (bytes-other byte rest bytes)) in
     let p = s .seals set K N A P out tag done in
     let q = s .seals set K N A Q out tag (ap (λ (x : SealLeaves). x .outcome .answer) (sym one) ∙ done) in
@@ -564,11 +564,11 @@ worthless =
       leaves-plaintext = leaves-plaintext;
       leaves-difference = leaves-difference;
       rounds-by-tag = rounds-by-tag;
-      number-by-tag = number-by-tag;
       rounds-by-key = rounds-by-key;
+      boundary-leaves = boundary-leaves;
       finish-by-tag = finish-by-tag;
       leaves-keys = leaves-keys;
-      refuses-by-content = refuses-by-content;
+      leaves-refused = leaves-refused;
       opens-to-place = opens-to-place;
       opens-two-tags = opens-two-tags;
     }

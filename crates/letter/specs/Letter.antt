@@ -43,7 +43,8 @@ pub record Letter : Type 2 where
   pub third : (m : Model) → Keeps m → Third (m .streams)
   -- whether a second walk, which opens, agrees with the first, which checked, and with the opening of the whole message
   pub second-walk : (m : Model) → Keeps m → SecondWalk m
-  -- what a refused opening gives away: two that are answered 9 report the same rounds and leave the same bytes, and so do two finishes, with the same state
+  -- what a refused opening gives away: two of one set, lengths and place that are answered 9 report the same rounds and leave the same bytes; two finishes report the same
+  -- rounds and end in the same state
   pub nines-alike : (m : Model) → Keeps m → NinesAlike m
   -- and no ciphertext and tag open to two plaintexts: of the definitions, and of the calls
   pub one-plaintext : OnePlaintext

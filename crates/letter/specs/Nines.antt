@@ -44,7 +44,7 @@ unsealed m set x out = m .unseal set (x .key) (x .nonce) (x .ad) (x .cipher) (x 
 abbrev pub unsealedWord : messages.Model → ℕ → Handed → List ℕ → messages.OpenWord
 unsealedWord m set x out = m .openWord set (x .key) (x .nonce) (x .ad) (x .cipher) (x .tag) out
 
--- two streams of one set, in the same phase and with the same count of data; nothing is supposed of their directions, text counts, words, keys and limits
+-- two streams of one set, in the same phase and with the same count of data; nothing else is supposed of them
 pub record SameData (one other : Stream) : Type 0 where
   pub set : one .set ≡ other .set
   pub phase : one .phase ≡ other .phase
@@ -67,8 +67,8 @@ pub record NinesAlike (m : Model) : Type 0 where
   pub boundary-undone : (set : ℕ) (one other : Handed) (out : List ℕ) → SameLengths one other → let x = unsealedWord (m .messages) set one out in
       let y = unsealedWord (m .messages) set other out in
       (x .word % 16 ≡ 0 → ⊥) → (y .word % 16 ≡ 0 → ⊥) → x ≡ y
-  -- two finishes, of checking or opening streams, with any tags: answered 9, they report the same rounds and end in the same state; what an opening stream handed out
-  -- before is not meant, and is the decryption of what came (`OpenedWhole`, `unverified`)
+  -- two finishes, of checking or opening streams, with any tags, which they leave as they were (`Reported`): answered 9, they report the same rounds and end in the same
+  -- state; what an opening stream handed out before is not meant, and is the decryption of what came (`OpenedWhole`, `unverified`)
   pub finish : (d d' : Direction) (one other : Stream) (tag tag' : List ℕ) → SameData one other → let x = m .streams .finish d one tag .outcome in
       let y = m .streams .finish d' other tag' .outcome in
       x .answer ≡ TagDiffers → y .answer ≡ TagDiffers → (x .rounds ≡ y .rounds) × (x .next ≡ y .next)

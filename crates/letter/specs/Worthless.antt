@@ -2,7 +2,7 @@
 use mathlib.Core.Bool.{true, false, cond}
 use mathlib.Core.List.{List, [], _∷_}
 use mathlib.Core.Path.{_≡_}
-use Prim.Native.Nat.{ℕ, suc, _+_, _*_, _%_, _≤_, _<_}
+use Prim.Native.Nat.{ℕ, suc, _+_, _%_, _≤_, _<_}
 use lib.Dec.{eqb}
 use lib.ListN.{length, getD, take}
 use Rattle.answers.specs.declared.Answer.the-variants.{Done, TagDiffers}
@@ -18,7 +18,7 @@ use Rattle.stream.specs.Calls.{Start, ownTag}
 use Rattle.history.specs.History.{Streams, Call, begun, after, Started}
 use Rattle.history.specs.Cuts.{Message}
 use Rattle.message.specs.Message.{SealLeaves}
-use Rattle.letter.specs.Calls.{Through}
+use Rattle.letter.specs.Calls.{Refused, Through}
 use Rattle.letter.specs.Messages as messages
 use Rattle.letter.specs.Streams as streams
 use Rattle.letter.specs.Model.{Model}
@@ -148,19 +148,19 @@ LeavesDifference m set K N A C out =
     (T : List ℕ) → Bytes T → let leaves = m .unseal set K N A C T out in
     leaves .outcome .answer ≡ TagDiffers → getD (leaves .out) 0 0 ≡ getD (rightTag set K N A C ⊕ T) 0 0
 
+-- does so through the C boundary
+abbrev pub BoundaryLeaves : messages.Model → ℕ → List ℕ → List ℕ → List ℕ → List ℕ → List ℕ → Type 0
+BoundaryLeaves m set K N A C out =
+    (T : List ℕ) → Bytes T → let leaves = m .openWord set K N A C T out in
+    leaves .word % 16 ≡ 9 → getD (leaves .out) 0 0 ≡ getD (rightTag set K N A C ⊕ T) 0 0
+
 -- with each 9 to one ciphertext, reports some rounds, and one more for each byte of the tag that is right before the first wrong one
 abbrev pub RoundsByTag : messages.Model → ℕ → List ℕ → List ℕ → List ℕ → List ℕ → List ℕ → ℕ → Type 0
 RoundsByTag m set K N A C out base =
     (T : List ℕ) → Bytes T → let outcome = m .unseal set K N A C T out .outcome in
     outcome .answer ≡ TagDiffers → outcome .rounds ≡ base + rightBytes T (rightTag set K N A C)
 
--- does so through the C boundary, where the number has sixteen times the rounds
-abbrev pub NumberByTag : messages.Model → ℕ → List ℕ → List ℕ → List ℕ → List ℕ → List ℕ → ℕ → Type 0
-NumberByTag m set K N A C out base =
-    (T : List ℕ) → Bytes T → let number = m .openWord set K N A C T out .word in
-    number % 16 ≡ 9 → number ≡ base + 16 * rightBytes T (rightTag set K N A C)
-
--- does so with each 9 of a finish, to one stream
+-- does so with each 9 of a finish, on one stream
 abbrev pub FinishByTag : Streams → Direction → Stream → ℕ → Type 0
 FinishByTag m d s base =
     (T : List ℕ) → Bytes T → let outcome = m .finish d s T .outcome in outcome .answer ≡ TagDiffers → outcome .rounds ≡ base + rightBytes T (ownTag s)
@@ -178,16 +178,20 @@ LeavesKeys m d one other tag tag' =
     let y = m .finish d other tag' .outcome in
     (one .key ≡ other .key → ⊥) × (x .answer ≡ TagDiffers) × (y .answer ≡ TagDiffers) × (x .next .key ≡ one .key) × (y .next .key ≡ other .key)
 
--- refuses two openings with two numbers: where they are of the same lengths, it goes by their contents
-abbrev pub RefusesByContent : messages.Model → ℕ → Handed → Handed → List ℕ → Type 0
-RefusesByContent m set one other out =
-    let x = unsealed m set one out .outcome .answer in
-    let y = unsealed m set other out .outcome .answer in
-    (x ≡ Done → ⊥) × (y ≡ Done → ⊥) × (x ≡ y → ⊥)
+-- refuses two openings with 1 to 6, and leaves at the front of the place the first byte of each one's key, which is not the other's
+abbrev pub LeavesRefused : messages.Model → ℕ → Handed → Handed → List ℕ → Type 0
+LeavesRefused m set one other out =
+    let x = unsealed m set one out in
+    let y = unsealed m set other out in
+    Refused (x .outcome .answer)
+    × Refused (y .outcome .answer)
+    × (getD (x .out) 0 0 ≡ getD (one .key) 0 0)
+    × (getD (y .out) 0 0 ≡ getD (other .key) 0 0)
+    × (getD (one .key) 0 0 ≡ getD (other .key) 0 0 → ⊥)
 
 -- wherever it says done to one ciphertext and tag, leaves the place as it was
 abbrev pub OpensToPlace : messages.Model → ℕ → List ℕ → List ℕ → List ℕ → List ℕ → List ℕ → Type 0
-OpensToPlace m set K N A C T = (out : List ℕ) → let leaves = m .unseal set K N A C T out in leaves .outcome .answer ≡ Done → leaves .out ≡ out
+OpensToPlace m set K N A C T = (out : List ℕ) → Bytes out → let leaves = m .unseal set K N A C T out in leaves .outcome .answer ≡ Done → leaves .out ≡ out
 
 -- says done to one ciphertext with two tags
 abbrev pub OpensTwoTags : messages.Model → ℕ → List ℕ → List ℕ → List ℕ → List ℕ → List ℕ → List ℕ → List ℕ → Type 0
@@ -239,27 +243,28 @@ pub record Worthless : Type 0 where
   pub forgets-limit : (m : Streams) (d : Direction) (s : Stream) (piece out : List ℕ) → ForgetsLimit m d s piece out → streams.Reported m → ⊥
   pub stays-open : (m : Streams) (d : Direction) (s : Stream) (tag : List ℕ) → StaysOpen m d s tag → streams.Reported m → ⊥
   pub writes-beyond : (m : Streams) (d : Direction) (s : Stream) (piece out : List ℕ) (index : ℕ) → WritesBeyond m d s piece out index → streams.Reported m → ⊥
-  -- `NinesAlike`, in every set, under every key, nonce and data, and at every ciphertext and place, with which some opening is done or answered 9; the listed conditions only
-  -- say which tags are answered 9
+  -- `NinesAlike`, in every set, under every key of bytes, nonce and data, and at every ciphertext and place, with which some opening is done or answered 9 (of the plaintext:
+  -- that is not empty); the listed conditions only say which tags are answered 9
   pub leaves-plaintext : (m : Model) (set : ℕ) (K N A C T out : List ℕ) → Bytes K → 0 < length C → Through (m .messages .unseal set K N A C T out .outcome .answer)
       → LeavesPlaintext (m .messages) set K N A (length C) out → messages.Listed (m .messages) → NinesAlike m → ⊥
   pub leaves-difference : (m : Model) (set : ℕ) (K N A C T out : List ℕ) → Bytes K → Through (m .messages .unseal set K N A C T out .outcome .answer)
       → LeavesDifference (m .messages) set K N A C out → messages.Listed (m .messages) → NinesAlike m → ⊥
   pub rounds-by-tag : (m : Model) (set : ℕ) (K N A C T out : List ℕ) (base : ℕ) → Bytes K → Through (m .messages .unseal set K N A C T out .outcome .answer)
       → RoundsByTag (m .messages) set K N A C out base → messages.Listed (m .messages) → NinesAlike m → ⊥
-  pub number-by-tag : (m : Model) (set : ℕ) (K N A C T out : List ℕ) (base : ℕ) → Bytes K → Through (m .messages .unseal set K N A C T out .outcome .answer)
-      → NumberByTag (m .messages) set K N A C out base → messages.Listed (m .messages) → NinesAlike m → ⊥
   pub rounds-by-key : (m : Model) (set byte : ℕ) (rest N A C T out : List ℕ) (base : ℕ) → Bytes (byte ∷ rest)
       → Through (m .messages .unseal set (byte ∷ rest) N A C T out .outcome .answer)
       → RoundsByKey (m .messages) set N A C out base → messages.Listed (m .messages) → NinesAlike m → ⊥
-  -- the same of finishes, at every stream of which one is done or answered 9
+  pub boundary-leaves : (m : Model) (set : ℕ) (K N A C T out : List ℕ) → Bytes K → Through (m .messages .unseal set K N A C T out .outcome .answer)
+      → BoundaryLeaves (m .messages) set K N A C out → messages.Listed (m .messages) → NinesAlike m → ⊥
+  -- the same of finishes, in a direction that compares tags, at every stream with a key of sixteen bytes of which some finish is done or answered 9
   pub finish-by-tag : (m : Model) (d : Direction) (s : Stream) (T : List ℕ) (base : ℕ) → givesTag d ≡ false → length (s .key) ≡ 16 → Bytes (s .key)
       → Through (m .streams .finish d s T .outcome .answer) → FinishByTag (m .streams) d s base → streams.Listed (m .streams) → NinesAlike m → ⊥
-  -- `NinesAlike` alone
+  -- `NinesAlike` alone, at any two streams, and at any two openings
   pub leaves-keys : (m : Model) (d : Direction) (one other : Stream) (tag tag' : List ℕ) → SameData one other → LeavesKeys (m .streams) d one other tag tag' → NinesAlike m → ⊥
-  pub refuses-by-content : (m : Model) (set : ℕ) (one other : Handed) (out : List ℕ) → SameLengths one other → RefusesByContent (m .messages) set one other out → NinesAlike m → ⊥
-  -- `OpensOnce`, wherever an opening of at least one byte is done; `OpensOnce` alone
-  pub opens-to-place : (m : Model) (set : ℕ) (K N A C T : List ℕ) (byte : ℕ) (rest : List ℕ) → 0 < length C
+  pub leaves-refused : (m : Model) (set : ℕ) (one other : Handed) (out : List ℕ) → SameLengths one other → LeavesRefused (m .messages) set one other out → NinesAlike m → ⊥
+  -- `OpensOnce`, wherever an opening of at least one byte is done
+  pub opens-to-place : (m : Model) (set : ℕ) (K N A C T : List ℕ) (byte : ℕ) (rest : List ℕ) → 0 < length C → Bytes (byte ∷ rest)
       → m .messages .unseal set K N A C T (byte ∷ rest) .outcome .answer ≡ Done
       → OpensToPlace (m .messages) set K N A C T → messages.Listed (m .messages) → OpensOnce m → ⊥
+  -- `OpensOnce` alone
   pub opens-two-tags : (m : Model) (set : ℕ) (K N A C T T' out : List ℕ) → OpensTwoTags (m .messages) set K N A C T T' out → OpensOnce m → ⊥
