@@ -24,7 +24,7 @@ use Rattle.answers.proofs.Order.{none-holds}
 use Rattle.ascon.specs.Sets.{table, isSet, rowOf}
 use Rattle.ascon.specs.Mode.{p, count, pad, beforeKey, initialise, separate, beforeText, encrypted, decrypted, finalise, Sealed, sealed, opened}
 use Rattle.ascon.specs.Rounds.{adBlocks, textBlocks, messageRounds}
-use Rattle.ascon.proofs.Sealing.{open-sealed, only-text, only-tag, length-decrypted}
+use Rattle.ascon.proofs.Sealing.{open-sealed, only-text, length-decrypted}
 use Rattle.sets.proofs.Rows.{row-fits, row-sizes}
 use Rattle.stream.specs.declared.Direction.{Direction}
 use Rattle.stream.specs.declared.Direction.the-variants.{Sealing, Checking, Opening}
@@ -82,11 +82,9 @@ no-every-tag : (set : ℕ) (K N A C : List ℕ) → length K ≡ rowOf set .key
     → ((T : List ℕ) → length T ≡ rowOf set .key → (P : List ℕ) × (sealed (rowOf set) K N A P ≡ record { cipher = C; tag = T })) → ⊥
 no-every-tag set K N A C key found =
     let k : ℕ = rowOf set .key in
-    let tag-of : (P T : List ℕ) → sealed (rowOf set) K N A P ≡ record { cipher = C; tag = T } → T ≡ sealed (rowOf set) K N A (decrypted (rowOf set) K N A C .out) .tag =
-    λ P T e. only-tag (rowOf set) (row-fits set) K key N A P C T e in
     let nought = found (of 0 k) (length-replicate k 0) in
     let one = found (of 1 k) (length-replicate k 1) in
-    differ k (row-sizes set .some-key) (tag-of (nought .0) (of 0 k) (nought .1) ∙ sym (tag-of (one .0) (of 1 k) (one .1)))
+    differ k (row-sizes set .some-key) (one-plaintext .sealing set K N A C (of 0 k) (of 1 k) (nought .0) (one .0) key (nought .1) (one .1) .1)
   where
     -- a tag of one byte, again and again
     of : ℕ → ℕ → List ℕ

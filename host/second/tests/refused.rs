@@ -19,7 +19,7 @@ const SEED: u64 = 20_260_201;
 /// The largest limit of text that a stream may have.
 const LARGEST: u64 = 1_048_576;
 
-/// The one ended state as the rules write it: set 1, sealing, phase ended, all else zero.
+/// The one ended state as the rules write it, and not as the program has it: set 1, sealing, phase ended, all else zero.
 const THE_END: Stream = Stream {
     words: [0; 5],
     set: 1,
