@@ -2,8 +2,8 @@
 use std::path::Path;
 use std::process::Command;
 
-/// Links the static library of the Rattle crate `name`. The copy outlives the library, which `rt ci` removes with its other results.
-pub fn archive(name: &str) {
+/// Links the static library `library`, which `host/archive` writes of the Rattle crate `name`. The copy outlives the library, which `rt ci` removes with its other results.
+pub fn archive(name: &str, library: &str) {
     let host = Path::new(env!("CARGO_MANIFEST_DIR")).join("..");
     let status = Command::new(host.join("archive")).arg(name).status();
     assert!(
@@ -11,7 +11,7 @@ pub fn archive(name: &str) {
         "`host/archive {name}` wrote no library"
     );
     let out = std::env::var("OUT_DIR").expect("cargo names the folder of a build script");
-    let file = format!("lib{name}.a");
+    let file = format!("lib{library}.a");
     std::fs::copy(
         host.join("../target/native").join(&file),
         Path::new(&out).join(&file),
@@ -21,5 +21,5 @@ pub fn archive(name: &str) {
         println!("cargo:rerun-if-changed={}", host.join(source).display());
     }
     println!("cargo:rustc-link-search=native={out}");
-    println!("cargo:rustc-link-lib=static={name}");
+    println!("cargo:rustc-link-lib=static={library}");
 }

@@ -3,5 +3,5 @@
 mod link;
 
 fn main() {
-    link::archive("timing");
+    link::archive("timing", "timing");
 }

@@ -1,18 +1,23 @@
-// The C boundary of whole messages. Each slice crosses as a pointer and a length; the answer and the rounds come back in one word.
+// The C boundary: whole messages here, and in `streams` streams whose state the caller keeps in an area of bytes. Each slice crosses as a pointer and a length; the
+// answer and the rounds come back in one word.
+mod area;
+mod streams;
+mod word;
+
 ghost use mathlib.Core.Path.{_≡_};
-ghost use Prim.Native.Nat.{_≤_};
 ghost use Rattle.message.specs.Message.{sealCall, openCall};
 ghost use Rattle.gateway.specs.Word.{wordOf};
-use message::Outcome;
-
-// An answer and its rounds in one word.
-fn word(outcome: Outcome) -> u64
-    requires { ⌜ outcome .rounds ≤ 8912928 ⌝ }
-    ensures { λ r. ⌜ r ≡ wordOf outcome ⌝ }
-{
-    let answer = outcome.answer;
-    16 * outcome.rounds + answers::number(answer)
-}
+pub use streams::kvistmaur_finish_checking;
+pub use streams::kvistmaur_finish_opening;
+pub use streams::kvistmaur_finish_sealing;
+pub use streams::kvistmaur_start_checking;
+pub use streams::kvistmaur_start_opening;
+pub use streams::kvistmaur_start_sealing;
+pub use streams::kvistmaur_stream_check;
+pub use streams::kvistmaur_stream_data;
+pub use streams::kvistmaur_stream_end;
+pub use streams::kvistmaur_stream_open;
+pub use streams::kvistmaur_stream_seal;
 
 // Seals a message.
 #[no_mangle]
@@ -30,7 +35,8 @@ pub extern "C" fn kvistmaur_seal(
     ensures { λ _. ⌜ now (tag .exit) ≡ sealCall set (now (key .entry)) (now (nonce .entry)) (now (ad .entry)) (now (text .entry)) (now (out .entry)) (now (tag .entry)) .tag ⌝ }
 {
     let outcome = message::seal(set, key, nonce, ad, text, out, tag);
-    word(outcome)
+    let answer = outcome.answer;
+    word::word(answer, outcome.rounds)
 }
 
 // Opens a message.
@@ -48,5 +54,6 @@ pub extern "C" fn kvistmaur_open(
     ensures { λ _. ⌜ now (out .exit) ≡ openCall set (now (key .entry)) (now (nonce .entry)) (now (ad .entry)) (now (cipher .entry)) (now (tag .entry)) (now (out .entry)) .out ⌝ }
 {
     let outcome = message::open(set, key, nonce, ad, cipher, tag, out);
-    word(outcome)
+    let answer = outcome.answer;
+    word::word(answer, outcome.rounds)
 }

@@ -207,46 +207,33 @@ module _ (start : Start) (begins : Started ours start) where
       let all = rounds-whole (rowOf (start .set)) (ap roundsOf (row-sizes (start .set) .ends)) (length (h .ad)) (length (h .text)) in
       omega arith
 
--- ---- the end of a cut message
+-- ---- the end of what a stream took
 
-module _ (start : Start) (A T : List ℕ) (calls : List Call) (m : Message ours start A T calls) where
-  abbrev begins : Started ours start
-  begins = m .started
-
-  abbrev h : History
-  h = after ours (begun ours start) calls
-
+module _ (start : Start) (begins : Started ours start) (h : History) (r : Reached start begins h) (o : isOpen (h .stream .phase) ≡ true) where
   abbrev row : ParameterSet
   row = rowOf (start .set)
 
-  taken : Followed h A T
-  taken = followed start begins A T calls (m .bytes) (m .ad-within) (m .text-within) (m .cut)
-
   at-end : Ready start begins h
-  at-end = ready start begins h (reached start begins calls (m .bytes)) (taken .open-still)
+  at-end = ready start begins h r o
 
-  -- with a tag of the set's length, its test is passed
+  -- with a tag of the set's length, the test of a finish is passed
   end-passed : (tag : List ℕ) → length tag ≡ row .key → isDone (finishTest (start .direction) (h .stream) (length tag)) ≡ true
   end-passed tag e =
-      fits-finish (start .direction) (h .stream) (length tag) (reached-sound start begins h (reached start begins calls (m .bytes)) (taken .open-still))
-      (fits-own (start .direction) (h .stream) (taken .open-still) (at-end .direction-is)) (e ∙ ap (λ (n : ℕ). rowOf n .key) (sym (at-end .set-is)))
+      fits-finish (start .direction) (h .stream) (length tag) (reached-sound start begins h r o)
+      (fits-own (start .direction) (h .stream) o (at-end .direction-is)) (e ∙ ap (λ (n : ℕ). rowOf n .key) (sym (at-end .set-is)))
 
   -- with one of another length it is refused
   end-refused : (tag : List ℕ) → eqb (length tag) (row .key) ≡ false → finishTest (start .direction) (h .stream) (length tag) ≡ TagLength
   end-refused tag e =
-      tag-refused (start .direction) (h .stream) (length tag) (reached-sound start begins h (reached start begins calls (m .bytes)) (taken .open-still))
-      (fits-own (start .direction) (h .stream) (taken .open-still) (at-end .direction-is)) (ap (λ (n : ℕ). eqb (length tag) (rowOf n .key)) (at-end .set-is) ∙ e)
+      tag-refused (start .direction) (h .stream) (length tag) (reached-sound start begins h r o)
+      (fits-own (start .direction) (h .stream) o (at-end .direction-is)) (ap (λ (n : ℕ). eqb (length tag) (rowOf n .key)) (at-end .set-is) ∙ e)
 
   -- the stream's own tag
-  end-tag : ownTag (h .stream) ≡ publishedTag start A T
-  end-tag = own-tag start begins h at-end ∙ ap₂ (publishedTag start) (taken .ad-is) (taken .text-is)
-
-  -- all the rounds
-  end-rounds : h .rounds + (closingRounds (h .stream) + 12) ≡ messageRounds row (length A) (length T)
-  end-rounds = whole-rounds start begins h at-end ∙ ap₂ (λ (x y : List ℕ). messageRounds row (length x) (length y)) (taken .ad-is) (taken .text-is)
+  end-tag : ownTag (h .stream) ≡ publishedTag start (h .ad) (h .text)
+  end-tag = own-tag start begins h at-end
 
   -- the answer of its finish
-  end-answer : (tag : List ℕ) → finishCall (start .direction) (h .stream) tag .outcome .answer ≡ finishAnswer (start .direction) row (publishedTag start A T) tag
+  end-answer : (tag : List ℕ) → finishCall (start .direction) (h .stream) tag .outcome .answer ≡ finishAnswer (start .direction) row (publishedTag start (h .ad) (h .text)) tag
   end-answer tag = go (eqb (length tag) (row .key)) refl
     where
       call : Call
@@ -254,24 +241,33 @@ module _ (start : Start) (A T : List ℕ) (calls : List Call) (m : Message ours 
 
       go : (t : Bool) → eqb (length tag) (row .key) ≡ t
           → finishCall (start .direction) (h .stream) tag .outcome .answer
-          ≡ first Done (TagLength when not t ∷ TagDiffers when (not (givesTag (start .direction)) && not (same tag (publishedTag start A T))) ∷ [])
+          ≡ first Done (TagLength when not t ∷ TagDiffers when (not (givesTag (start .direction)) && not (same tag (publishedTag start (h .ad) (h .text)))) ∷ [])
       go true e =
           ap (λ (o : Outcome). o .answer) (reply-done (h .stream) call (end-passed tag (eqb-true (length tag) (row .key) e)))
           ∙ ap (λ (x : List ℕ). first Done (TagDiffers when (not (givesTag (start .direction)) && not (same tag x)) ∷ [])) end-tag
       go false e = ap (λ (o : Outcome). o .answer) (reply-refused (h .stream) call (ap isDone (end-refused tag e))) ∙ end-refused tag e
 
-  -- the demand in any direction
-  pub whole : (tag : List ℕ) → Whole ours start A T h tag
-  whole tag =
+  -- the demand in any direction, of what was taken by whatever calls
+  pub whole-taken : (tag : List ℕ) → Whole ours start (h .ad) (h .text) h tag
+  whole-taken tag =
       let s : Stream = h .stream in
       let d : Direction = start .direction in
       let fin : length tag ≡ row .key → finishCall d s tag .outcome ≡ finishedWith (first Done (tagFaults d s tag)) s = λ e. reply-done s (finish d tag) (end-passed tag e) in
       record {
-        out =
-            told start begins h (reached start begins calls (m .bytes)) .out (taken .open-still)
-            ∙ ap₂ (λ (y z : List ℕ). publishedOut d row (start .key) (start .nonce) y z) (taken .ad-is) (taken .text-is);
+        out = told start begins h r .out o;
         answer = end-answer tag;
         lent = λ e. tag-left d s tag (end-passed tag e) ∙ ap (λ (x : List ℕ). cond (givesTag d) x tag) end-tag;
-        rounds = λ e. ap (λ (o : Outcome). h .rounds + o .rounds) (fin e) ∙ end-rounds;
+        rounds = λ e. ap (λ (o : Outcome). h .rounds + o .rounds) (fin e) ∙ whole-rounds start begins h at-end;
         over = λ e. ap (λ (o : Outcome). o .next) (fin e);
       }
+
+-- ---- the end of a cut message
+
+-- it took the whole message
+pub whole : (start : Start) (A T : List ℕ) (calls : List Call) → Message ours start A T calls → (tag : List ℕ) → Whole ours start A T (after ours (begun ours start) calls) tag
+whole start A T calls m tag =
+    let h = after ours (begun ours start) calls in
+    let taken = followed start (m .started) A T calls (m .bytes) (m .ad-within) (m .text-within) (m .cut) in
+    subst (λ (x : List ℕ). Whole ours start x T h tag) (taken .ad-is)
+    (subst (λ (x : List ℕ). Whole ours start (h .ad) x h tag) (taken .text-is)
+    (whole-taken start (m .started) h (reached start (m .started) calls (m .bytes)) (taken .open-still) tag))

@@ -26,7 +26,7 @@ use Rattle.stream.specs.declared.Phase.{Phase}
 use Rattle.stream.specs.declared.Phase.the-variants.{Ad, Text, Ended}
 use Rattle.stream.specs.State.{givesTag}
 use Rattle.stream.specs.Calls.{Start}
-use Rattle.history.specs.History.{Streams, ours, Call, begun, after, stateAt}
+use Rattle.history.specs.History.{Streams, ours, Call, History, begun, after, stateAt}
 use Rattle.history.specs.Cuts.{Message, MessageWithin, startTowards, streamTowards, finishAnswer, Whole, SealedWhole, CheckedWhole, OpenedWhole, CuttingDoesNotMatter, WalksAgree, CuttingBefore}
 use Rattle.history.proofs.History.{history-law, key}
 use Rattle.history.proofs.Cuts.{whole}
@@ -85,12 +85,10 @@ module _ (start : Start) (key : length (start .key) ≡ rowOf (start .set) .key)
   tag-is : (P : List ℕ) → sealing P ≡ record { cipher = C; tag = tag } → tag ≡ sealing D .tag
   tag-is P = only-tag (rowOf (start .set)) (row-fits (start .set)) (start .key) key (start .nonce) A P C tag
 
--- checking
-checks : (start : Start) (A C : List ℕ) (calls : List Call) (tag : List ℕ) → start .direction ≡ Checking → Message ours start A C calls
-    → CheckedWhole ours start A C (after ours (begun ours start) calls) tag
-checks start A C calls tag x m =
-    let w = whole-in Checking start A C calls tag x m in
-    let k = key start (m .started) in
+-- checking, by what holds in any direction
+pub checks-whole : (start : Start) → length (start .key) ≡ rowOf (start .set) .key → (A C : List ℕ) (h : History) (tag : List ℕ)
+    → Whole ours (startTowards Checking start) A C h tag → CheckedWhole ours start A C h tag
+checks-whole start k A C h tag w =
     let right = right-tag start k A C tag Checking refl in
     record {
       yes = (
@@ -100,12 +98,14 @@ checks start A C calls tag x m =
       rounds = w .rounds;
     }
 
--- opening
-opens : (start : Start) (A C : List ℕ) (calls : List Call) (tag : List ℕ) → start .direction ≡ Opening → Message ours start A C calls
-    → OpenedWhole ours start A C (after ours (begun ours start) calls) tag
-opens start A C calls tag x m =
-    let w = whole-in Opening start A C calls tag x m in
-    let k = key start (m .started) in
+checks : (start : Start) (A C : List ℕ) (calls : List Call) (tag : List ℕ) → start .direction ≡ Checking → Message ours start A C calls
+    → CheckedWhole ours start A C (after ours (begun ours start) calls) tag
+checks start A C calls tag x m = checks-whole start (key start (m .started)) A C _ tag (whole-in Checking start A C calls tag x m)
+
+-- opening, by the same
+pub opens-whole : (start : Start) → length (start .key) ≡ rowOf (start .set) .key → (A C : List ℕ) (h : History) (tag : List ℕ)
+    → Whole ours (startTowards Opening start) A C h tag → OpenedWhole ours start A C h tag
+opens-whole start k A C h tag w =
     let right = right-tag start k A C tag Opening refl in
     let tag-of : List ℕ → List ℕ = λ P. sealing start k A C tag P .tag in
     record {
@@ -121,6 +121,10 @@ opens start A C calls tag x m =
       rounds = w .rounds;
       over = w .over;
     }
+
+opens : (start : Start) (A C : List ℕ) (calls : List Call) (tag : List ℕ) → start .direction ≡ Opening → Message ours start A C calls
+    → OpenedWhole ours start A C (after ours (begun ours start) calls) tag
+opens start A C calls tag x m = opens-whole start (key start (m .started)) A C _ tag (whole-in Opening start A C calls tag x m)
 
 -- the demand
 pub cutting-does-not-matter : CuttingDoesNotMatter ours
@@ -151,6 +155,13 @@ decrypted-first row fits K key N A C rest =
     ∙ sym (take-at one _ (length C) (length-outs (row .block) (p (row .between)) opening (at S 0) C))
     ∙ ap (take (length C)) (sym (outs-append (row .block) (p (row .between)) opening (at S 0) C rest) ∙ sym (byBytes (C ++ rest)))
 
+-- where ciphertext and tag are some text's sealing, the decryption of its beginning is the beginning of that text
+pub first-plaintext : (start : Start) → length (start .key) ≡ rowOf (start .set) .key → (A C rest tag P : List ℕ)
+    → sealed (rowOf (start .set)) (start .key) (start .nonce) A P ≡ record { cipher = C ++ rest; tag = tag }
+    → decrypted (rowOf (start .set)) (start .key) (start .nonce) A C .out ≡ take (length C) P
+first-plaintext start k A C rest tag P e =
+    decrypted-first (rowOf (start .set)) (row-fits (start .set)) (start .key) k (start .nonce) A C rest ∙ ap (take (length C)) (text-is start k A (C ++ rest) tag P e)
+
 -- the second walk agrees with the first
 pub walks-agree : WalksAgree ours
 unfolding stateAt
@@ -165,9 +176,7 @@ walks-agree =
           let found = checks (startTowards Checking start) A (C ++ rest) calls tag refl m .yes .0 said in (
             found .0,
             found .1,
-            whole (startTowards Opening start) A C other o tag .out
-                ∙ decrypted-first (rowOf (start .set)) (row-fits (start .set)) (start .key) k (start .nonce) A C rest
-                ∙ ap (take (length C)) (text-is start k A (C ++ rest) tag (found .0) (found .1)),
+            whole (startTowards Opening start) A C other o tag .out ∙ first-plaintext start k A C rest tag (found .0) (found .1),
           );
       states = λ start begins begins′ calls other b c phase ad text.
           let h = after ours (begun ours (startTowards Checking start)) calls in

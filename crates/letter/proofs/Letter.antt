@@ -32,7 +32,7 @@ use Rattle.letter.specs.Letter.{Letter}
 use Rattle.letter.proofs.Model.{keeps, of-kept, reported}
 use Rattle.letter.proofs.First.{first-demand}
 use Rattle.letter.proofs.Second.{second-demand}
-use Rattle.letter.proofs.Third.{third-demand}
+use Rattle.letter.proofs.Third.{third-demand, third-areas}
 use Rattle.letter.proofs.Walk.{second-walk}
 use Rattle.letter.proofs.Nines.{nines-alike, one-plaintext, opens-once}
 use Rattle.letter.proofs.Worthless.{worthless}
@@ -44,6 +44,7 @@ letter =
       first = first-demand;
       second = second-demand;
       third = third-demand;
+      third-areas = third-areas;
       second-walk = second-walk;
       nines-alike = nines-alike;
       one-plaintext = one-plaintext;

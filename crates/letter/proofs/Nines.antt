@@ -4,7 +4,7 @@ use mathlib.Core.Bool.{Bool, true, false, cond, not, _&&_}
 use mathlib.Core.List.{List, [], _∷_, _++_}
 use mathlib.Core.Logic.{inl, inr}
 use mathlib.Core.Option.{Option, some, none}
-use Prim.Native.Nat.{ℕ, _+_, _*_, _%_, _≤_}
+use Prim.Native.Nat.{ℕ, _+_, _/_, _%_}
 use native.Mathlib.Omega.{arith}
 use lib.Dec.{eqb}
 use lib.ListN.{length, take, drop}
@@ -14,7 +14,6 @@ use Rattle.answers.specs.declared.Answer.the-variants.{Done, TagLength, TagDiff
 use Rattle.answers.specs.Numbers.{numberOf, isDone}
 use Rattle.answers.specs.Order.{_when_, first}
 use Rattle.answers.proofs.Numbers.{done-is}
-use Rattle.answers.proofs.Order.{first-most}
 use Rattle.permutation.specs.Runs.{roundsOf}
 use Rattle.permutation.specs.Strings.{zeros, same}
 use Rattle.permutation.proofs.Strings.{same-eq}
@@ -23,7 +22,9 @@ use Rattle.ascon.specs.Mode.{decrypted, finalise, sealed, opened}
 use Rattle.ascon.specs.Rounds.{messageRounds}
 use Rattle.ascon.proofs.Sealing.{only-text, only-tag}
 use Rattle.sets.proofs.Rows.{row-fits}
-use Rattle.message.specs.Message.{faults, messageTest, OpenLeaves, openLeaves, judged, openFaults, openCall}
+use Rattle.gateway.specs.Spelling.{stateIn}
+use Rattle.gateway.proofs.OneWord.{word-answer}
+use Rattle.message.specs.Message.{messageTest, OpenLeaves, openLeaves, judged, openCall}
 use Rattle.message.proofs.Tests.{message-passed}
 use Rattle.gateway.specs.Word.{wordOf}
 use Rattle.stream.specs.declared.Direction.{Direction}
@@ -41,6 +42,7 @@ use Rattle.letter.specs.Model.{Model, ours, Keeps}
 use Rattle.letter.specs.Nines.{Handed, SameLengths, unsealed, unsealedWord, SameData, NinesAlike, OnePlaintext, OpensOnce}
 use Rattle.letter.proofs.Calls.{off}
 use Rattle.letter.proofs.Messages.{listed, tests-passed}
+use Rattle.letter.proofs.Areas as areas
 use Rattle.letter.proofs.Streams.{reported}
 use Rattle.letter.proofs.Model.{keeps, of-kept}
 use Rattle.letter.proofs.Second.{unrefused, second-demand}
@@ -87,19 +89,9 @@ nine-nonzero e = omega (arith, e)
 nine-undone : (answer : Answer) → answer ≡ TagDiffers → answer ≡ Done → ⊥
 nine-undone answer e f = nine-nonzero (ap numberOf (sym e ∙ f))
 
--- what is left of an opening's number by 16 is its answer
-answer-left : (set : ℕ) (K N A C T out : List ℕ) → let outcome = openCall set K N A C T out .outcome in
-    (16 * outcome .rounds + numberOf (outcome .answer)) % 16 ≡ numberOf (outcome .answer)
-answer-left set K N A C T out =
-    let outcome = openCall set K N A C T out .outcome in
-    let most : numberOf (outcome .answer) ≤ 9 =
-    rw (listed .unseal set K N A C T out)
-    (first-most 9 (faults set (length K) (length N) (length T) (length A) (length C) (length out) ++ openFaults (opened (rowOf set) K N A C T)) refl) in
-    omega (arith, most)
-
--- so where that is not 0, it is not done
+-- where what is left of an opening's number by 16 is not 0, it is not done
 word-undone : (set : ℕ) (x : Handed) (out : List ℕ) → (unsealedWord messages.ours set x out .word % 16 ≡ 0 → ⊥) → unsealed messages.ours set x out .outcome .answer ≡ Done → ⊥
-word-undone set x out left done = left (answer-left set (x .key) (x .nonce) (x .ad) (x .cipher) (x .tag) out ∙ ap numberOf done)
+word-undone set x out left done = left (word-answer (unsealed messages.ours set x out .outcome .answer) (unsealed messages.ours set x out .outcome .rounds) ∙ ap numberOf done)
 
 -- two streams of one set and phase with the same count of data have the same rounds to close it
 closing-same : (one other : Stream) → SameData one other → closingRounds one ≡ closingRounds other
@@ -129,6 +121,10 @@ nine-walk start A C calls tag m e =
 worded : OpenLeaves → messages.OpenWord
 worded x = messages.openWord (wordOf (x .outcome)) (x .out)
 
+-- two words of one answer and the same rounds are one
+same-word : (x y : ℕ) → x / 16 ≡ y / 16 → x % 16 ≡ y % 16 → x ≡ y
+same-word x y rounds answer = omega (arith, rounds, answer)
+
 alike : NinesAlike ours
 unfolding worded
 alike = record {
@@ -144,6 +140,11 @@ alike = record {
       let x = reported .finish d one tag (inr e) in
       let y = reported .finish d' other tag' (inr f) in
       (x .0 ∙ ap (λ (n : ℕ). n + 12) (closing-same one other s) ∙ sym (y .0), x .1 ∙ sym (y .1));
+  area-finish = λ d d' area area' tag tag' s e f.
+      let x = areas.reported .finish d area tag (inr e) in
+      let y = areas.reported .finish d' area' tag' (inr f) in
+      let rounds = x .0 ∙ ap (λ (n : ℕ). n + 12) (closing-same (stateIn area) (stateIn area') s) ∙ sym (y .0) in
+      (same-word _ _ rounds (e ∙ sym f), x .1 ∙ sym (y .1));
   walk = λ start start' A A' C C' calls calls' tag tag' set ad cipher m m' e f.
       let x = nine-walk start A C calls tag m e in
       let y = nine-walk start' A' C' calls' tag' m' f in
@@ -195,7 +196,7 @@ done-sealed set K N A C T out d = second-demand ours keeps .opens set K N A C T 
 
 -- and where what is left of its number by 16 is 0, it is done
 done-word : (set : ℕ) (K N A C T out : List ℕ) → messages.ours .openWord set K N A C T out .word % 16 ≡ 0 → openCall set K N A C T out .outcome .answer ≡ Done
-done-word set K N A C T out nought = done-is _ (ap (λ (n : ℕ). eqb n 0) (sym (answer-left set K N A C T out) ∙ nought))
+done-word set K N A C T out nought = done-is _ (ap (λ (n : ℕ). eqb n 0) (sym (word-answer (openCall set K N A C T out .outcome .answer) (openCall set K N A C T out .outcome .rounds)) ∙ nought))
 
 -- two that are done hand out one text, and have one tag
 once-done : (set : ℕ) (K N A C T T' out out' : List ℕ) → let x = openCall set K N A C T out in

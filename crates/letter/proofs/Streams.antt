@@ -1,7 +1,7 @@
 -- Streams: what is said of their calls holds.
 use mathlib.Core.Path.{_≡_, refl, sym, ap, _∙_, subst}
 use mathlib.Core.Bool.{Bool, true, false, cond, not, _&&_, false≢true}
-use mathlib.Core.List.{List, [], _++_}
+use mathlib.Core.List.{List, _++_}
 use Prim.Native.Nat.{ℕ, _+_, _-_, _≤_}
 use native.Mathlib.Omega.{arith}
 use lib.ListN.{length, drop, length-append, length-drop}
@@ -25,6 +25,7 @@ use Rattle.stream.specs.declared.Phase.the-variants.{Ad, Text}
 use Rattle.stream.specs.State.{wayOf, givesText, givesTag, isAd, ended}
 use Rattle.stream.specs.Calls.{refused, decided, limitedStartFaults, limitedStartTest, pieceFaults, pieceTest, textFaults, textTest, finishFaults, finishTest, tagFaults, filledRounds, closingRounds, Start, startCall, tookAd, adCall, textWords, tookText, Called, called, givenText, textCall, ownTag, finishedWith, finishCall}
 use Rattle.stream.proofs.Tests.{text-passed}
+use Rattle.stream.proofs.Lent.{check-is, finish-is}
 use Rattle.history.specs.History.{Streams, ours}
 use Rattle.stream.proofs as stream
 use Rattle.letter.specs.Calls.{lent, Through}
@@ -32,26 +33,6 @@ use Rattle.letter.specs.Streams.{Keeps, EveryCall, Listed, Unchanged, Mi
 use Rattle.letter.proofs.Calls.{answered, lifetimes, Says, says, stopped}
 
 -- ---- the calls
-
--- one of two outcomes with one lent place
-one-lent : (t : Bool) (one other : Outcome) (left : List ℕ) → cond t (called one left) (called other left) ≡ called (cond t (called one []) (called other []) .outcome) left
-one-lent true one other left = refl
-one-lent false one other left = refl
-
--- a checking's piece leaves the place as it is
-pub check-is : (s : Stream) (piece out : List ℕ) → textCall Checking s piece out ≡ called (textCall Checking s piece [] .outcome) out
-unfolding textCall textTest
-check-is s piece out = one-lent (isDone (textTest Checking s (length piece) (length out))) _ _ out
-
--- and so does an end that is given a tag to compare
-finish-is : (d : Direction) → givesTag d ≡ false → (s : Stream) (tag : List ℕ) → finishCall d s tag ≡ called (finishCall d s tag .outcome) tag
-unfolding finishCall
-finish-is d compares s tag = go (isDone (finishTest d s (length tag))) (givesTag d) compares _ _
-  where
-    go : (t gives : Bool) → gives ≡ false → (one other : Outcome) → let leaves = cond t (called one (cond gives (ownTag s) tag)) (called other tag) in leaves ≡ called (leaves .outcome) tag
-    go true true e one other = absurd (false≢true (sym e))
-    go true false e one other = refl
-    go false gives e one other = refl
 
 -- calls that keep the contracts are ours
 pub is-ours : (m : Streams) → Keeps m → m ≡ ours
@@ -95,6 +76,7 @@ pub every-call : EveryCall
 every-call =
     record {
       stream-ended = answered (λ M. stream.Stream.ended.Met.met) (λ κ a. tt) (λ κ a r e p. p);
+      stream-rank = answered (λ M. stream.rank.Met.met) (λ κ a. tt) (λ κ a r e p. p);
       stream-start = answered (λ M. stream.Stream.start.Met.met) (λ κ a. tt) (λ κ a r e p. p);
       stream-ad = answered (λ M. stream.Stream.ad.Met.met) (λ κ a. tt) (λ κ a r e p. p);
       stream-seal = answered (λ M. stream.Stream.seal.Met.met) (λ κ a. tt) (λ κ a r e p. p);

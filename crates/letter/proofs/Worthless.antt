@@ -1,5 +1,6 @@
 -- Worthless versions are refuted, each by the demand that it breaks.
 pub mod Nines
+pub mod Areas
 use mathlib.Core.Path.{_≡_, refl, sym, ap, _∙_, subst}
 use mathlib.Core.Bool.{Bool, true, false, cond, not, _&&_, true≢false, false≢true, and-eq-true-iff}
 use mathlib.Core.Logic.{inl, inr}
@@ -49,6 +50,7 @@ use Rattle.letter.specs.Worthless.{NeverSeals, NeverOpens, NeverStarts, 
 use Rattle.letter.proofs.Second.{unrefused}
 use Rattle.letter.proofs.Nines.{one-plaintext}
 use Rattle.letter.proofs.Worthless.Nines.{otherByte, other-differs, bytes-other, leaves-plaintext, leaves-difference, rounds-by-tag, rounds-by-key, boundary-leaves, finish-by-tag, leaves-keys, leaves-refused, opens-to-place, opens-two-tags}
+use Rattle.letter.proofs.Worthless.Areas.{takes-old, takes-no-state, changes-refused, end-keeps, finish-keeps, refuses-areas, cut-shows, says-yes-on}
 
 -- a key, a nonce and a place for a tag, of set 1
 abbrev sixteen : List ℕ
@@ -569,4 +571,12 @@ worthless =
       leaves-refused = leaves-refused;
       opens-to-place = opens-to-place;
       opens-two-tags = opens-two-tags;
+      takes-old = takes-old;
+      takes-no-state = takes-no-state;
+      changes-refused = changes-refused;
+      end-keeps = end-keeps;
+      finish-keeps = finish-keeps;
+      refuses-areas = refuses-areas;
+      cut-shows = cut-shows;
+      says-yes-on = says-yes-on;
     }

@@ -6,7 +6,7 @@ pub record First : Type 2 where
   pub answers : EveryCall
   -- what is bad gets its listed number
   pub listed : (m : Model) → Keeps m → Listed m
-  -- a refusal changes nothing
+  -- a refusal changes nothing, but that a start which is refused with 1, 2, 3 or 5 leaves the ended state in its area (`start` of `Areas.Unchanged`)
   pub unchanged : (m : Model) → Keeps m → Unchanged m
-  -- save one
+  -- nor is a tag mismatch without a trace
   pub mismatch : (m : Model) → Keeps m → Mismatch m

@@ -29,7 +29,7 @@ use Rattle.turns.specs.Laws.{WholeReports}
 use Rattle.letter.specs.Model.{Model, ours, Keeps, Reported}
 use Rattle.letter.specs.First.{First}
 use Rattle.letter.specs.Second.{Second}
-use Rattle.letter.specs.Third.{Third}
+use Rattle.letter.specs.Third.{Third, AreaThird}
 use Rattle.letter.specs.Walk.{SecondWalk}
 use Rattle.letter.specs.Nines.{NinesAlike, OnePlaintext, OpensOnce}
 use Rattle.letter.specs.Worthless.{Worthless}
@@ -41,6 +41,8 @@ pub record Letter : Type 2 where
   pub second : (m : Model) → Keeps m → Second (m .messages)
   -- whether the cut matters
   pub third : (m : Model) → Keeps m → Third (m .streams)
+  -- the same of streams through the C boundary, whose states are kept in areas of bytes
+  pub third-areas : (m : Model) → Keeps m → AreaThird (m .areas) (m .streams)
   -- whether a second walk, which opens, agrees with the first, which checked, and with the opening of the whole message
   pub second-walk : (m : Model) → Keeps m → SecondWalk m
   -- what a refused opening gives away: two of one set, lengths and place that are answered 9 report the same rounds and leave the same bytes; two finishes report the same

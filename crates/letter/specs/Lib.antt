@@ -3,6 +3,7 @@ pub mod Calls
 pub mod Engine
 pub mod Messages
 pub mod Streams
+pub mod Areas
 pub mod Records
 pub mod Entries
 pub mod Moving

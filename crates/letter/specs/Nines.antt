@@ -15,6 +15,7 @@ use Rattle.stream.specs.declared.Stream.{Stream}
 use Rattle.stream.specs.Calls.{Start}
 use Rattle.history.specs.History.{Call, begun, after}
 use Rattle.history.specs.Cuts.{Message}
+use Rattle.gateway.specs.Spelling.{stateIn}
 use Rattle.letter.specs.Messages as messages
 use Rattle.letter.specs.Model.{Model}
 
@@ -72,6 +73,10 @@ pub record NinesAlike (m : Model) : Type 0 where
   pub finish : (d d' : Direction) (one other : Stream) (tag tag' : List ℕ) → SameData one other → let x = m .streams .finish d one tag .outcome in
       let y = m .streams .finish d' other tag' .outcome in
       x .answer ≡ TagDiffers → y .answer ≡ TagDiffers → (x .rounds ≡ y .rounds) × (x .next ≡ y .next)
+  -- through the C boundary, in any two areas that spell such streams: answered 9, they return the same number and leave the same bytes in the area
+  pub area-finish : (d d' : Direction) (area area' tag tag' : List ℕ) → SameData (stateIn area) (stateIn area') → let x = m .areas .finish d area tag in
+      let y = m .areas .finish d' area' tag' in
+      x .word % 16 ≡ 9 → y .word % 16 ≡ 9 → (x .word ≡ y .word) × (x .area ≡ y .area)
   -- two messages of one set, with data and text of the same lengths, however each was cut: their finishes answered 9, the rounds of all calls add up to the same, and they
   -- end in the same state
   pub walk : (start start' : Start) (A A' C C' : List ℕ) (calls calls' : List Call) (tag tag' : List ℕ)

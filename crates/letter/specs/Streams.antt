@@ -11,7 +11,7 @@ use Rattle.stream.specs.declared.Direction.{Direction}
 use Rattle.stream.specs.declared.Direction.the-variants.{Sealing, Checking, Opening}
 use Rattle.stream.specs.declared.Stream.{Stream}
 use Rattle.stream.specs.declared.Phase.the-variants.{Ad, Text}
-use Rattle.stream.specs.State.{givesTag, isAd, ended}
+use Rattle.stream.specs.State.{rankOf, givesTag, isAd, ended}
 use Rattle.stream.specs.Calls.{limitedStartFaults, pieceFaults, textFaults, finishFaults, tagFaults, filledRounds, closingRounds, Start, startCall, adCall, called, textCall, ownTag, finishCall}
 use Rattle.history.specs.History.{Streams}
 use Rattle.stream.proofs as stream
@@ -42,6 +42,7 @@ pub record Keeps (m : Streams) : Type 0 where
 -- each public call, and its one outcome
 pub record EveryCall : Type 2 where
   pub stream-ended : Answered stream.Stream.ended.Statement.statement stream.Stream.ended.Reads.Asked stream.Stream.ended.Reads.Learnt (λ r e. r) (λ _. ended)
+  pub stream-rank : Answered stream.rank.Statement.statement stream.rank.Reads.Asked stream.rank.Reads.Learnt (λ r e. r) (λ (direction, _). rankOf direction)
   pub stream-start : Answered stream.Stream.start.Statement.statement stream.Stream.start.Reads.Asked stream.Stream.start.Reads.Learnt
       (λ r e. r)
       (λ (direction, (set, (limit, (key, (nonce, _))))). startCall (record { direction = direction; set = set; limit = limit; key = key .now; nonce = nonce .now }))

@@ -13,14 +13,18 @@ use Rattle.stream.specs.declared.Direction.{Direction}
 use Rattle.stream.specs.declared.Direction.the-variants.{Sealing}
 use Rattle.stream.specs.declared.Phase.the-variants.{Ended}
 use Rattle.stream.specs.declared.Stream.{Stream}
-use Rattle.stream.specs.State.{givesText, givesTag, isOpen}
+use Rattle.stream.specs.State.{givesText, givesTag, isOpen, allZero}
 use Rattle.stream.specs.Calls.{Start, ownTag}
-use Rattle.history.specs.History.{Streams, Call, begun, after, Started}
+use Rattle.history.specs.History.{Streams, Call, begun, after, BytesIn, Started}
 use Rattle.history.specs.Cuts.{Message}
+use Rattle.gateway.specs.Spelling.{stateLength, isSpelling, stateIn}
+use Rattle.areas.specs.Areas.{Areas, lentTo, replyOn, lentOn, begunOn, afterOn, StartedOn, isOpenIn}
+use Rattle.areas.specs.Cuts.{AreaCutting}
 use Rattle.message.specs.Message.{SealLeaves}
 use Rattle.letter.specs.Calls.{Refused, Through}
 use Rattle.letter.specs.Messages as messages
 use Rattle.letter.specs.Streams as streams
+use Rattle.letter.specs.Areas as areas
 use Rattle.letter.specs.Model.{Model}
 use Rattle.letter.specs.Second.{Unrefused, Second}
 use Rattle.letter.specs.Third.{Third}
@@ -198,6 +202,43 @@ abbrev pub OpensTwoTags : messages.Model → ℕ → List ℕ → List ℕ → L
 OpensTwoTags m set K N A C T T' out =
     (T ≡ T' → ⊥) × (m .unseal set K N A C T out .outcome .answer ≡ Done) × (m .unseal set K N A C T' out .outcome .answer ≡ Done)
 
+-- ---- those that go wrong in an area, through the C boundary
+
+-- refuses one start, and then says done, or 9, to a call in that area, as to a stream that stood there before
+abbrev pub TakesOld : Areas → Start → List ℕ → Call → Type 0
+TakesOld m start area call =
+    let leaves = m .start start area in
+    (length area ≡ stateLength) × areas.RefusedWord (leaves .word) × areas.ThroughWord (replyOn m (leaves .area) call .word)
+
+-- says done, or 9, to one call on bytes that spell no state
+abbrev pub TakesNoState : Areas → List ℕ → Call → Type 0
+TakesNoState m area call = (isSpelling area ≡ false) × areas.ThroughWord (replyOn m area call .word)
+
+-- refuses one call, and changes the area, or the lent place
+abbrev pub ChangesRefused : Areas → List ℕ → Call → Type 0
+ChangesRefused m area call =
+    areas.RefusedWord (replyOn m area call .word) × ((replyOn m area call .area ≡ area) × (lentOn m area call ≡ lentTo call) → ⊥)
+
+-- ends one stream without a tag, or by a finish with done or 9, and leaves something of its words or of its key
+abbrev pub EndKeeps : Areas → List ℕ → Type 0
+EndKeeps m area = (length area ≡ stateLength) × (allZero (take 56 (m .ends area .area)) ≡ false)
+
+abbrev pub FinishKeeps : Areas → Direction → List ℕ → List ℕ → Type 0
+FinishKeeps m d area tag = let leaves = m .finish d area tag in areas.ThroughWord (leaves .word) × (allZero (take 56 (leaves .area)) ≡ false)
+
+-- leaves two different areas after two cuttings of one message, by which the cut can be seen
+abbrev pub CutShows : Areas → Start → List ℕ → List ℕ → List Call → List Call → Type 0
+CutShows m start area area' calls other =
+    let h = afterOn m (begunOn m start area) calls in
+    let k = afterOn m (begunOn m start area') other in
+    (stateIn (h .area) .phase ≡ stateIn (k .area) .phase) × (h .ad ≡ k .ad) × (h .text ≡ k .text) × (h .area ≡ k .area → ⊥)
+
+-- after some calls, while the stream is open, says done to two tags
+abbrev pub AgreesToTwoOn : Areas → Start → List ℕ → List Call → List ℕ → List ℕ → Type 0
+AgreesToTwoOn m start area calls tag other =
+    let finish = m .finish (start .direction) (afterOn m (begunOn m start area) calls .area) in
+    (tag ≡ other → ⊥) × (finish tag .word % 16 ≡ 0) × (finish other .word % 16 ≡ 0)
+
 -- ---- what they break
 
 pub record Worthless : Type 0 where
@@ -268,3 +309,16 @@ pub record Worthless : Type 0 where
       → OpensToPlace (m .messages) set K N A C T → messages.Listed (m .messages) → OpensOnce m → ⊥
   -- `OpensOnce` alone
   pub opens-two-tags : (m : Model) (set : ℕ) (K N A C T T' out : List ℕ) → OpensTwoTags (m .messages) set K N A C T T' out → OpensOnce m → ⊥
+  -- what is said of calls in areas: the listed conditions, what a refusal leaves, what a call reports and leaves
+  pub takes-old : (m : Areas) (start : Start) (area : List ℕ) (call : Call) → TakesOld m start area call → areas.Listed m → areas.Unchanged m → ⊥
+  pub takes-no-state : (m : Areas) (area : List ℕ) (call : Call) → TakesNoState m area call → areas.Listed m → ⊥
+  pub changes-refused : (m : Areas) (area : List ℕ) (call : Call) → Bytes area → ChangesRefused m area call → areas.Unchanged m → ⊥
+  pub end-keeps : (m : Areas) (area : List ℕ) → EndKeeps m area → areas.Reported m → ⊥
+  pub finish-keeps : (m : Areas) (d : Direction) (area tag : List ℕ) → FinishKeeps m d area tag → areas.Reported m → ⊥
+  -- never starts a stream
+  pub refuses-areas : (m : Areas) → ((start : Start) (area : List ℕ) → m .start start area .word % 16 ≡ 0 → ⊥) → areas.Listed m → ⊥
+  -- the third demand in areas: after every start, and any calls
+  pub cut-shows : (m : Areas) (start : Start) (area area' : List ℕ) (calls other : List Call) → StartedOn m start area → StartedOn m start area'
+      → BytesIn calls → BytesIn other → CutShows m start area area' calls other → AreaCutting m → ⊥
+  pub says-yes-on : (m : Areas) (start : Start) (area : List ℕ) (calls : List Call) (tag other : List ℕ) → givesTag (start .direction) ≡ false → StartedOn m start area → BytesIn calls
+      → isOpenIn (afterOn m (begunOn m start area) calls .area) ≡ true → AgreesToTwoOn m start area calls tag other → AreaCutting m → ⊥

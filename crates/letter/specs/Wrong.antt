@@ -3,6 +3,7 @@
 pub mod Engine
 pub mod Messages
 pub mod Streams
+pub mod Areas
 pub mod Records
 pub mod Entries
 pub mod Moving
@@ -11,6 +12,7 @@ pub mod Replays
 use Rattle.letter.specs.Wrong.Engine as engine
 use Rattle.letter.specs.Wrong.Messages as messages
 use Rattle.letter.specs.Wrong.Streams as streams
+use Rattle.letter.specs.Wrong.Areas as areas
 use Rattle.letter.specs.Wrong.Records as records
 use Rattle.letter.specs.Wrong.Entries as entries
 use Rattle.letter.specs.Wrong.Moving as moving
@@ -21,6 +23,7 @@ pub record Wrong : Type 0 where
   pub engine : engine.Wrong
   pub messages : messages.Wrong
   pub streams : streams.Wrong
+  pub areas : areas.Wrong
   pub records : records.Wrong
   pub entries : entries.Wrong
   pub moving : moving.Wrong

@@ -199,7 +199,7 @@ state-string s h = λ j. record {
 }
 
 -- eight bytes of a string, through their number
-eight-bytes : (i : ℕ) (S : List ℕ) → Bytes S → i + 8 ≤ length S → bytesOf 8 (valueOf (take 8 (drop i S))) ≡ take 8 (drop i S)
+pub eight-bytes : (i : ℕ) (S : List ℕ) → Bytes S → i + 8 ≤ length S → bytesOf 8 (valueOf (take 8 (drop i S))) ≡ take 8 (drop i S)
 eight-bytes i S p h =
     let d : length (drop i S) ≡ length S - i = length-drop i S in
     let e : length (take 8 (drop i S)) ≡ 8 = length-take-le 8 (drop i S) (omega arith) in

@@ -19,7 +19,7 @@ use Rattle.sponge.specs.Sponge.{keepOf, processed, frontOf, absorbed, gi
 use Rattle.sponge.proofs.Words.{string-view}
 
 -- a direction keeps a byte
-keep-byte : (way : Way) (c g : ℕ) → c < 2 ^ 8 → g < 2 ^ 8 → keepOf way c g < 2 ^ 8
+pub keep-byte : (way : Way) (c g : ℕ) → c < 2 ^ 8 → g < 2 ^ 8 → keepOf way c g < 2 ^ 8
 keep-byte Seal c g h k = k
 keep-byte Open c g h k = h
 

@@ -2,3 +2,5 @@
 pub mod Sound
 pub mod Tests
 pub mod Before
+pub mod Bounds
+pub mod Lent

@@ -69,8 +69,8 @@ fn is_open(phase: Phase) -> bool
     }
 }
 
-// The rank of a direction.
-fn rank(direction: Direction) -> u64
+// The rank of a direction: 0, 1 or 2.
+pub fn rank(direction: Direction) -> u64
     ensures { λ r. ⌜ r ≡ rankOf direction ⌝ }
 {
     match direction {

@@ -1,9 +1,10 @@
 //! A slow and plain second program for Ascon v1 and v1.2, their whole-message calls, their
-//! sealing, checking and opening streams, their bench records, published test files and logs
-//! of a chip's calls.
+//! sealing, checking and opening streams, on states and on areas of bytes that spell them, their
+//! bench records, published test files and logs of a chip's calls.
 //! It is there to be compared with, so every part follows the printed
 //! definition step by step.
 
+pub mod area;
 pub mod calls;
 pub mod cases;
 pub mod cipher;

@@ -7,7 +7,7 @@ use common::{message, Message};
 use second::log::{self, log_of, Entry};
 use second::random::Random;
 use second::replay::{self, replay, Field, Replay, Verdict};
-use second::stream::{ad, is_broken, Direction, Phase, Stream, ENDED};
+use second::stream::{ad, is_broken, start, Direction, Phase, Stream, ENDED};
 use streaming::*;
 use Direction::{Checking, Opening, Sealing};
 
@@ -81,7 +81,7 @@ fn starts_that_are_refused() {
 #[test]
 fn every_mixture_of_faults_of_a_start() {
     let limits = [TAKEN, REFUSED].concat();
-    assert_eq!(expect_starts(&limits), KINDS * 5 * 6 * 6 * 14);
+    assert_eq!(expect_starts(&limits, start), KINDS * 5 * 6 * 6 * 14);
 }
 
 /// Gives the text call of the state's direction.

@@ -936,7 +936,10 @@ fn limits_of_starts() {
     }
     assert_eq!(ran, [SETS.len() * 7, SETS.len() * 5]);
     // The set, the key and the nonce are tested before the limit.
-    assert_eq!(expect_starts(&[200, 1_048_577]), KINDS * 5 * 6 * 6 * 2);
+    assert_eq!(
+        expect_starts(&[200, 1_048_577], start),
+        KINDS * 5 * 6 * 6 * 2
+    );
 }
 
 /// Says that a stream's own limit is reached and not passed, from both phases and in any two pieces.

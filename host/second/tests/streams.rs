@@ -8,7 +8,9 @@ use second::cases::{named_cases, named_cases_in};
 use second::cipher::{set_numbers, set_of, SETS};
 use second::permutation::run;
 use second::random::Random;
-use second::stream::{ad, check, finish_checking, is_broken, Direction, Phase, Stream, ENDED};
+use second::stream::{
+    ad, check, finish_checking, is_broken, start, Direction, Phase, Stream, ENDED,
+};
 use streaming::*;
 use Direction::{Checking, Opening, Sealing};
 
@@ -576,7 +578,7 @@ fn every_mixture_of_faults() {
 /// Says that every mixture of a start's faults is answered with the earliest, and has ended.
 #[test]
 fn every_mixture_of_faults_of_a_start() {
-    assert_eq!(expect_starts(&[LARGEST]), KINDS * 5 * 6 * 6);
+    assert_eq!(expect_starts(&[LARGEST], start), KINDS * 5 * 6 * 6);
 }
 
 /// Says that text and finish calls of the other directions are 7 in both open phases.

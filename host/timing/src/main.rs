@@ -5,11 +5,13 @@ mod messages;
 mod model;
 mod plain;
 mod race;
+mod streams;
 
 fn main() {
     permutations();
     digits::time();
     messages::time();
+    streams::time();
 }
 
 /// Times the three runs of the permutation, each call on what the last one left.

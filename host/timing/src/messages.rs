@@ -1,33 +1,31 @@
 //! Sealing and opening of whole messages by both programs.
 
 use crate::{plain, race::race};
-use gateway::{Refusal, Rounds, Set};
+use kvistmaur::{Key, Nonce, Refusal, Rounds, Set, Tag};
 
 const TEXTS: [(&str, usize); 3] = [("64 B", 1 << 6), ("1 KiB", 1 << 10), ("1 MiB", 1 << 20)];
 
 /// The bytes that a repetition seals or opens in all, so that short messages are timed over many calls.
 const BYTES: usize = 1 << 20;
 
-type Answer = Result<Rounds, Refusal>;
-type Seal = fn(Set, &[u8], &[u8], &[u8], &[u8], &mut [u8], &mut [u8]) -> Answer;
-type Open = fn(Set, &[u8], &[u8], &[u8], &[u8], &[u8], &mut [u8]) -> Answer;
-
 /// Times every text in each set, with 16 bytes of data.
 pub fn time() {
     for set in Set::ALL {
         for (name, length) in TEXTS {
-            Message::new(set, length).time(name);
+            Message::new(*set, length).time(name);
         }
     }
 }
 
-/// A message to be sealed and opened.
-struct Message {
-    set: Set,
-    key: Vec<u8>,
-    nonce: Vec<u8>,
-    data: [u8; 16],
-    text: Vec<u8>,
+/// A message to be sealed and opened; key and nonce as the plain program takes them, and as the model does.
+pub struct Message {
+    pub set: Set,
+    pub plain_key: Vec<u8>,
+    pub plain_nonce: Vec<u8>,
+    pub key: Key,
+    pub nonce: Nonce,
+    pub data: [u8; 16],
+    pub text: Vec<u8>,
 }
 
 /// What a call leaves.
@@ -35,16 +33,19 @@ struct Message {
 struct Left {
     out: Vec<u8>,
     tag: Vec<u8>,
-    answer: Option<Answer>,
+    answer: Option<Result<Rounds, Refusal>>,
 }
 
 impl Message {
     /// A message with a text of the given length.
-    fn new(set: Set, length: usize) -> Message {
+    pub fn new(set: Set, length: usize) -> Message {
+        let (key, nonce) = (vec![7; set.key_length()], vec![1; set.key_length()]);
         Message {
             set,
-            key: vec![7; set.key_length()],
-            nonce: vec![1; set.key_length()],
+            key: Key::try_from(&key[..]).expect("the set's length"),
+            nonce: Nonce::try_from(&nonce[..]).expect("the set's length"),
+            plain_key: key,
+            plain_nonce: nonce,
             data: [2; 16],
             text: (0..length).map(|place| place as u8).collect(),
         }
@@ -59,30 +60,47 @@ impl Message {
             answer: None,
         };
         let what = |call| format!("{call}, set {}, {name}", self.set.number());
+        let (set, data, text) = (self.set, &self.data, &self.text);
+        let (key, nonce) = (&self.key, &self.nonce);
+        let (plain_key, plain_nonce) = (&self.plain_key, &self.plain_nonce);
 
-        let (model, plain) = (self.sealing(gateway::seal), self.sealing(plain::seal));
+        let model = |left: &mut Left| {
+            let sealed = kvistmaur::seal(set, key, nonce, data, text, &mut left.out);
+            left.answer = Some(sealed.map(|sealed| {
+                left.tag.copy_from_slice(sealed.tag.as_ref());
+                sealed.rounds
+            }));
+        };
+        let plain = |Left { out, tag, answer }: &mut Left| {
+            *answer = Some(plain::seal(
+                set,
+                plain_key,
+                plain_nonce,
+                data,
+                text,
+                out,
+                tag,
+            ));
+        };
         let sealed = race(&what("seal"), calls, &cleared, model, plain).left;
 
-        let opening = |open| self.opening(open, &sealed);
-        let (model, plain) = (opening(gateway::open), opening(plain::open));
+        let (cipher, plain_tag) = (&sealed.out, &sealed.tag);
+        let tag = Tag::try_from(&plain_tag[..]).expect("the set's length");
+        let model = |Left { out, answer, .. }: &mut Left| {
+            *answer = Some(kvistmaur::open(set, key, nonce, data, cipher, &tag, out));
+        };
+        let plain = |Left { out, answer, .. }: &mut Left| {
+            *answer = Some(plain::open(
+                set,
+                plain_key,
+                plain_nonce,
+                data,
+                cipher,
+                plain_tag,
+                out,
+            ));
+        };
         let opened = race(&what("open"), calls, &cleared, model, plain).left;
         assert!(opened.out == self.text, "opening gave another text");
-    }
-
-    /// The call of a program that seals the message.
-    fn sealing(&self, seal: Seal) -> impl Fn(&mut Left) + '_ {
-        let (set, key, nonce) = (self.set, &self.key, &self.nonce);
-        move |Left { out, tag, answer }| {
-            *answer = Some(seal(set, key, nonce, &self.data, &self.text, out, tag));
-        }
-    }
-
-    /// The call of a program that opens what sealing left.
-    fn opening<'a>(&'a self, open: Open, sealed: &'a Left) -> impl Fn(&mut Left) + 'a {
-        let (set, key, nonce) = (self.set, &self.key, &self.nonce);
-        let (cipher, tag) = (&sealed.out, &sealed.tag);
-        move |Left { out, answer, .. }| {
-            *answer = Some(open(set, key, nonce, &self.data, cipher, tag, out));
-        }
     }
 }

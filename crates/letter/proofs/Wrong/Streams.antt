@@ -32,7 +32,7 @@ use Rattle.letter.specs.Calls.{NoSet}
 use Rattle.letter.specs.Wrong.Streams.{Tailed, LongKeyed, EndedElse, begunIn, nineIn, textIn, streamOf, insideText, fronted, threeBytes, nineBytes, nineFronted, zerosTag, answering, TextOnly, FinishOnly, Wrong}
 use Rattle.letter.specs.Wrong.Engine.{nineTag}
 use Rattle.letter.proofs.Calls.{off, no-set}
-use Rattle.letter.proofs.Streams.{check-is}
+use Rattle.stream.proofs.Lent.{check-is}
 
 -- a key of 16 bytes has nothing behind its sixteenth
 nothing-behind : (key : List ℕ) → length key ≡ 16 → drop 16 key ≡ []
@@ -61,7 +61,7 @@ sound-known s sound = go (s .phase) sound
         let one : s .set ≡ 1 = eqb-true (s .set) 1 (and-eq-true-iff (eqb (s .set) 1) _ .0 (direction .1) .0) in
         rw one
 
-no-set-broken : (s : Stream) → NoSet (s .set) → isSound s ≡ false
+pub no-set-broken : (s : Stream) → NoSet (s .set) → isSound s ≡ false
 no-set-broken s none = broken-by s (λ sound. true≢false (sym (sound-known s sound) ∙ no-set (s .set) none))
 
 -- what is all zeros is zero at each place

@@ -117,7 +117,10 @@ pub fn expect_started(s: Stream, set: u64, direction: Direction, limit: u64) {
 }
 
 /// Says that a start with any mixture of faults, or none, gives the earliest, with each of the limits.
-pub fn expect_starts(limits: &[u64]) -> usize {
+pub fn expect_starts(
+    limits: &[u64],
+    start: impl Fn(Direction, u64, u64, &[u8], &[u8]) -> Given,
+) -> usize {
     let mut ran = 0;
     for (number, direction) in kinds() {
         let right = set_of(number).expect("a known set").key;

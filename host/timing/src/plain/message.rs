@@ -1,13 +1,8 @@
 //! Whole-message calls with the model's answers.
 
+use super::sets::{unknown, Ascon128, Ascon128V12, Ascon128aV12, Ascon96};
 use super::sponge::Sponge;
-use gateway::{Refusal, Rounds, Set, DATA_LIMIT, TEXT_LIMIT};
-
-/// The sets: lengths of key and block, first word, and the constants of the middle runs, from one up to another.
-type Ascon128 = Sponge<16, 8, 0x800c_0600_0000_0000, 0, 6>;
-type Ascon96 = Sponge<12, 16, 0x600c_0800_0000_0000, 0, 8>;
-type Ascon128V12 = Sponge<16, 8, 0x8040_0c06_0000_0000, 6, 12>;
-type Ascon128aV12 = Sponge<16, 16, 0x8080_0c08_0000_0000, 4, 12>;
+use kvistmaur::{Refusal, Rounds, Set, DATA_LIMIT, TEXT_LIMIT};
 
 /// Seals as the model does.
 #[inline(never)]
@@ -25,6 +20,7 @@ pub fn seal(
         Set::Ascon96 => Ascon96::seal(key, nonce, data, text, out, tag),
         Set::Ascon128V12 => Ascon128V12::seal(key, nonce, data, text, out, tag),
         Set::Ascon128aV12 => Ascon128aV12::seal(key, nonce, data, text, out, tag),
+        other => unknown(other),
     }
 }
 
@@ -44,6 +40,7 @@ pub fn open(
         Set::Ascon96 => Ascon96::open(key, nonce, data, cipher, tag, out),
         Set::Ascon128V12 => Ascon128V12::open(key, nonce, data, cipher, tag, out),
         Set::Ascon128aV12 => Ascon128aV12::open(key, nonce, data, cipher, tag, out),
+        other => unknown(other),
     }
 }
 
@@ -82,13 +79,19 @@ impl<const KEY: usize, const BLOCK: usize, const WORD: u64, const FROM: usize, c
         sponge.decrypt(cipher, out);
         let ours = sponge.end(key);
         let rounds = rounds(BLOCK, TO - FROM, data, cipher);
-        if ours.iter().zip(tag).fold(0, |all, (a, b)| all | (a ^ b)) == 0 {
+        if same(&ours, tag) {
             Ok(rounds)
         } else {
             out.fill(0);
             Err(Refusal::TagDiffers { rounds })
         }
     }
+}
+
+/// Whether two tags are equal.
+pub fn same(ours: &[u8], tag: &[u8]) -> bool {
+    let pairs = ours.iter().zip(tag);
+    pairs.fold(0, |all, (a, b)| all | (a ^ b)) == 0
 }
 
 /// Key and nonce, when they and the tag have the set's length.

@@ -4,8 +4,12 @@
 mod digits;
 mod message;
 mod permutation;
+mod pieces;
+mod sets;
 mod sponge;
+mod stream;
 
 pub use digits::{read_by_chain, read_by_list};
 pub use message::{open, seal};
 pub use permutation::permute;
+pub use stream::Stream;

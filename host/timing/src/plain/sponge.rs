@@ -16,9 +16,9 @@ pub struct Sponge<
 impl<const KEY: usize, const BLOCK: usize, const WORD: u64, const FROM: usize, const TO: usize>
     Sponge<KEY, BLOCK, WORD, FROM, TO>
 {
-    /// The words once the data is taken in.
+    /// The words at the start of a message.
     #[inline]
-    pub fn start(key: &[u8; KEY], nonce: &[u8; KEY], data: &[u8]) -> Self {
+    pub fn begin(key: &[u8; KEY], nonce: &[u8; KEY]) -> Self {
         let mut bytes = [0; 40];
         bytes[..8].copy_from_slice(&WORD.to_be_bytes());
         bytes[40 - 2 * KEY..40 - KEY].copy_from_slice(key);
@@ -27,18 +27,35 @@ impl<const KEY: usize, const BLOCK: usize, const WORD: u64, const FROM: usize, c
         sponge.combine(&bytes);
         run::<0, 12>(&mut sponge.words);
         sponge.combine_key(40 - KEY, key);
+        sponge
+    }
 
+    /// The words once the data is taken in.
+    #[inline]
+    pub fn start(key: &[u8; KEY], nonce: &[u8; KEY], data: &[u8]) -> Self {
+        let mut sponge = Self::begin(key, nonce);
         if !data.is_empty() {
             let (blocks, last) = data.as_chunks::<BLOCK>();
-            for block in blocks {
-                sponge.combine(block);
-                run::<FROM, TO>(&mut sponge.words);
-            }
-            sponge.combine(&Self::padded(last));
-            run::<FROM, TO>(&mut sponge.words);
+            sponge.absorb(blocks);
+            sponge.absorb(&[Self::padded(last)]);
         }
-        sponge.words[4] ^= 1;
+        sponge.separate();
         sponge
+    }
+
+    /// Takes in whole blocks of data.
+    #[inline(always)]
+    pub fn absorb(&mut self, blocks: &[[u8; BLOCK]]) {
+        for block in blocks {
+            self.combine(block);
+            self.run();
+        }
+    }
+
+    /// Marks the end of the data.
+    #[inline(always)]
+    pub fn separate(&mut self) {
+        self.words[4] ^= 1;
     }
 
     /// Writes the ciphertext of the text to a room of the same length.
@@ -46,13 +63,19 @@ impl<const KEY: usize, const BLOCK: usize, const WORD: u64, const FROM: usize, c
     pub fn encrypt(&mut self, text: &[u8], out: &mut [u8]) {
         let (blocks, last) = text.as_chunks::<BLOCK>();
         let (rooms, last_room) = out.as_chunks_mut::<BLOCK>();
+        self.encrypt_blocks(blocks, rooms);
+        self.combine(&Self::padded(last));
+        last_room.copy_from_slice(&self.front()[..last.len()]);
+    }
+
+    /// Writes the ciphertext of whole blocks of the text.
+    #[inline(always)]
+    pub fn encrypt_blocks(&mut self, blocks: &[[u8; BLOCK]], rooms: &mut [[u8; BLOCK]]) {
         for (block, room) in blocks.iter().zip(rooms) {
             self.combine(block);
             *room = self.front();
-            run::<FROM, TO>(&mut self.words);
+            self.run();
         }
-        self.combine(&Self::padded(last));
-        last_room.copy_from_slice(&self.front()[..last.len()]);
     }
 
     /// Writes the text of the ciphertext to a room of the same length.
@@ -60,12 +83,7 @@ impl<const KEY: usize, const BLOCK: usize, const WORD: u64, const FROM: usize, c
     pub fn decrypt(&mut self, cipher: &[u8], out: &mut [u8]) {
         let (blocks, last) = cipher.as_chunks::<BLOCK>();
         let (rooms, last_room) = out.as_chunks_mut::<BLOCK>();
-        for (block, room) in blocks.iter().zip(rooms) {
-            self.combine(block);
-            *room = self.front();
-            self.replace(block);
-            run::<FROM, TO>(&mut self.words);
-        }
+        self.decrypt_blocks(blocks, rooms);
         let mut front = self.front();
         for ((room, byte), front) in last_room.iter_mut().zip(last).zip(&mut front) {
             *room = *front ^ *byte;
@@ -73,6 +91,32 @@ impl<const KEY: usize, const BLOCK: usize, const WORD: u64, const FROM: usize, c
         }
         front[last.len()] ^= 0x80;
         self.replace(&front);
+    }
+
+    /// Writes the text of whole blocks of the ciphertext.
+    #[inline(always)]
+    pub fn decrypt_blocks(&mut self, blocks: &[[u8; BLOCK]], rooms: &mut [[u8; BLOCK]]) {
+        for (block, room) in blocks.iter().zip(rooms) {
+            self.combine(block);
+            *room = self.front();
+            self.replace(block);
+            self.run();
+        }
+    }
+
+    /// Takes in whole blocks of the ciphertext, without their text.
+    #[inline(always)]
+    pub fn check_blocks(&mut self, blocks: &[[u8; BLOCK]]) {
+        for block in blocks {
+            self.replace(block);
+            self.run();
+        }
+    }
+
+    /// Runs the rounds between two blocks.
+    #[inline(always)]
+    pub fn run(&mut self) {
+        run::<FROM, TO>(&mut self.words);
     }
 
     /// The tag.
@@ -113,7 +157,7 @@ impl<const KEY: usize, const BLOCK: usize, const WORD: u64, const FROM: usize, c
 
     /// Puts the block in the place of the first words.
     #[inline(always)]
-    fn replace(&mut self, block: &[u8; BLOCK]) {
+    pub fn replace(&mut self, block: &[u8; BLOCK]) {
         for (word, eight) in self.words.iter_mut().zip(block.as_chunks().0) {
             *word = u64::from_be_bytes(*eight);
         }
@@ -121,7 +165,7 @@ impl<const KEY: usize, const BLOCK: usize, const WORD: u64, const FROM: usize, c
 
     /// The first block's worth of the words.
     #[inline(always)]
-    fn front(&self) -> [u8; BLOCK] {
+    pub fn front(&self) -> [u8; BLOCK] {
         let mut block = [0; BLOCK];
         self.put(&mut block);
         block

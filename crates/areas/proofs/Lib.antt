@@ -1,0 +1,4 @@
+-- The laws of streams in areas.
+pub mod Sizes
+pub mod Areas
+pub mod Cuts

@@ -1,0 +1,83 @@
+-- `gateway::streams::kvistmaur_stream_open` meets its contract.
+use mathlib.Core.Path.{_≡_, sym, ap, _∙_, subst}
+use mathlib.Core.Bool.{true, false}
+use Prim.Native.Nat.{_≤_}
+use denote.Ref.{now}
+use borrow.Author.Needs.{needs}
+use borrow.Author.Tests.{not-true, not-false}
+use Rattle.stream.specs.declared.Direction.the-variants.{Opening}
+use Rattle.stream.specs.declared.Stream.{Stream}
+use Rattle.stream.specs.Calls.{Called, textCall}
+use Rattle.stream.proofs.Bounds.{text-few}
+use Rattle.gateway.specs.Spelling.{isSpelling}
+use Rattle.gateway.specs.Calls.{leftLent, leftBeside}
+use Rattle.gateway.proofs.Spelling.{spelling-length}
+use Rattle.gateway.proofs.Calls.{leftCalled, text-on, text-off}
+use Rattle.gateway.proofs.streams.kvistmaur_stream_open.Statement.{statement}
+use Rattle.gateway.proofs.streams.kvistmaur_stream_open.Tie as tie
+
+is-spelling-requires : tie.Need-is-spelling-requires
+is-spelling-requires c κs = search needs
+
+unspelled-requires : tie.Need-unspelled-requires
+unspelled-requires c κs = search needs
+
+same-length : tie.Need-same-length
+same-length c = search needs
+
+returns : tie.Need-returns
+returns c =
+    let t = c .before in
+    let a = t .before .before .before .before .before .before .args in
+    let no : isSpelling (now (a .state)) ≡ false = sym (t .before .is-spelling .ensures) ∙ not-true _ (t .if1 .taken) in
+    (λ j. leftLent (c .unspelled .ensures j) (now (a .state)) (now (a .out))) ∙ text-off (now (a .state)) no Opening (now (a .cipher)) (now (a .out))
+
+-- the area spells a state
+spelled : (e : tie.Else1) → isSpelling (now (e .before .before .before .before .before .before .args .state)) ≡ true
+spelled e = sym (e .before .is-spelling .ensures) ∙ not-false _ (e .if1 .left)
+
+state-in-requires : tie.Need-state-in-requires
+state-in-requires c κs = spelling-length _ (spelled (c .before))
+
+open-requires : tie.Need-open-requires
+open-requires c κs = search needs
+
+leave-requires : tie.Need-leave-requires
+leave-requires c κs =
+    let f = c .before .before .before in (
+      spelling-length _ (spelled (f .before .before .before .before)),
+      subst (λ (call : Called). call .outcome .rounds ≤ 8_912_928) (sym (f .open .ensures)) (text-few Opening _ _ _),
+    )
+
+same-length-2 : tie.Need-same-length-2
+same-length-2 c = search needs
+
+same-length-3 : tie.Need-same-length-3
+same-length-3 c = search needs
+
+returns-2 : tie.Need-returns-2
+returns-2 c =
+    let l = c .before .before in
+    let f = l .before .before .before .before in
+    let i = f .before .before in
+    let e = i .before .before in
+    let a = e .before .before .before .before .before .before .args in
+    (λ j. leftBeside (l .leave .ensures j) (f .open .last .1 .1 .0))
+    ∙ ap leftCalled (f .open .ensures)
+    ∙ ap (λ (s : Stream). leftCalled (textCall Opening s (now (a .cipher)) (now (a .out)))) (i .state-in .ensures)
+    ∙ text-on (now (a .state)) (spelled e) Opening (now (a .cipher)) (now (a .out))
+
+pub kvistmaur-stream-open-spec : {M : Type 1} → statement M
+kvistmaur-stream-open-spec =
+    tie.close
+    (tie.spec
+    is-spelling-requires
+    unspelled-requires
+    same-length
+    returns
+    state-in-requires
+    open-requires
+    leave-requires
+    same-length-2
+    same-length-3
+    returns-2)
