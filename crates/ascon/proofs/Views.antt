@@ -18,12 +18,12 @@ use Rattle.ascon.proofs.Bytewise.{steps_append, outs_append}
 -- ---- one block
 
 -- a state's front after the bytes of a block, before it is run
-abbrev pub held : (ℕ → ℕ → ℕ) → List ℕ → List ℕ → List ℕ
+abbrev held : (ℕ → ℕ → ℕ) → List ℕ → List ℕ → List ℕ
 held keep s [] = s
 held keep [] (b ∷ bs) = []
 held keep (x ∷ s) (b ∷ bs) = keep b (bit_xor x b) ∷ held keep s bs
 
-pub length_held : (keep : ℕ → ℕ → ℕ) (s b : List ℕ) → length (held keep s b) ≡ length s
+length_held : (keep : ℕ → ℕ → ℕ) (s b : List ℕ) → length (held keep s b) ≡ length s
 length_held keep s [] = refl
 length_held keep [] (b ∷ bs) = refl
 length_held keep (x ∷ s) (b ∷ bs) = ap suc (length_held keep s bs)
@@ -68,7 +68,7 @@ module _ (r : ℕ) (pᵇ : List ℕ → List ℕ) (keep : ℕ → ℕ → ℕ) w
       ∙ ap₂ (λ (t : List ℕ) (n : ℕ). turned r pᵇ t n) (append_snoc p w (held keep q (z ∷ b))) (omega arith)
 
   -- what goes out of them
-  pub inside_outs : (b p q : List ℕ) → length p + length b ≤ r → length b ≤ length q → outs r pᵇ keep (at (p ++ q) (length p)) b ≡ q ⊕ b
+  inside_outs : (b p q : List ℕ) → length p + length b ≤ r → length b ≤ length q → outs r pᵇ keep (at (p ++ q) (length p)) b ≡ q ⊕ b
   inside_outs [] p [] h k = refl
   inside_outs [] p (y ∷ q) h k = refl
   inside_outs (x ∷ b) p [] h k = absurd (not-suc-le-zero k)
@@ -82,7 +82,7 @@ module _ (r : ℕ) (pᵇ : List ℕ → List ℕ) (keep : ℕ → ℕ → ℕ) w
       ∙ inside_outs (z ∷ b) (p ++ w ∷ []) q (omega arith) (le_of_suc-le-suc k))
 
   -- a full block, from the front's start
-  pub full : (s b : List ℕ) → length b ≡ r → 0 < r → r ≤ length s → steps r pᵇ keep (at s 0) b ≡ at (pᵇ (held keep s b)) 0
+  full : (s b : List ℕ) → length b ≡ r → 0 < r → r ≤ length s → steps r pᵇ keep (at s 0) b ≡ at (pᵇ (held keep s b)) 0
   full s [] e h k = absurd (omega arith)
   full s (x ∷ b) e h k = inside x b [] s (omega arith) (omega arith) ∙ rw (eq-eqb (0 + suc (length b)) r (omega arith))
 

@@ -10,9 +10,9 @@ use borrow.Author.Tests.{eqb-true}
 use Rattle.permutation.specs.Strings.{string_of_words, bytes_of}
 use Rattle.permutation.proofs.Strings.{length_bytes}
 use Rattle.stream.specs.declared.Stream.{Stream}
-use Rattle.permutation.specs.Laying.{laid}
+use Rattle.gateway.specs.Laying.{laid}
 use Rattle.gateway.specs.Spelling.{state_length, numbers_of, spelling, number_at, is_spelling}
-use Rattle.permutation.proofs.Laying.{laid_is, laid_append}
+use Rattle.gateway.proofs.Laying.{laid_is, laid_append}
 
 -- ---- lengths
 

@@ -1,7 +1,7 @@
 // The spelling of a stream's state in an area of 112 bytes: the words, the key, and the numbers, each word and number in eight bytes, high byte first.
 ghost use Rattle.std.specs.Prelude.{◌≡◌, ◌+◌, ◌*◌, ◌%◌, ◌≤◌, ◌<◌, length, get_or, set, take, drop};
 ghost use Rattle.permutation.specs.Strings.{bytes_of, value_of, string_of_words};
-ghost use Rattle.permutation.specs.Laying.{laid};
+ghost use Rattle.gateway.specs.Laying.{laid};
 ghost use Rattle.gateway.specs.Spelling.{state_length, phase_number, numbers_of, spelling, number_at, direction_of, phase_of, is_spelling, state_in};
 
 use stream::{Direction, Phase, Stream};

@@ -149,7 +149,7 @@ byte_get (suc n) zero x h = ap (λ (k : ℕ). x / 2 ^ (8 * k) % 2 ^ 8) (omega ar
 byte_get (suc n) (suc j) x h = byte_get n j x (le_of_suc-le-suc h) ∙ ap (λ (k : ℕ). x / 2 ^ (8 * k) % 2 ^ 8) (omega arith)
 
 -- digits combine apart
-pub digit_xor : (x y k : ℕ) → bit_xor x y / 2 ^ k % 2 ^ 8 ≡ bit_xor (x / 2 ^ k % 2 ^ 8) (y / 2 ^ k % 2 ^ 8)
+digit_xor : (x y k : ℕ) → bit_xor x y / 2 ^ k % 2 ^ 8 ≡ bit_xor (x / 2 ^ k % 2 ^ 8) (y / 2 ^ k % 2 ^ 8)
 digit_xor x y k = ap (λ (n : ℕ). n % 2 ^ 8) (xor_shr x y k) ∙ xor_mod (x / 2 ^ k) (y / 2 ^ k) 8
 
 -- a number combined with a byte in the place of byte j

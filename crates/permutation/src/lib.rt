@@ -2,7 +2,7 @@
 ghost use Rattle.std.specs.Prelude.{◌≡◌, ◌≤◌};
 ghost use Rattle.std.proofs.Math.Seq.{slice};
 ghost use Rattle.permutation.specs.Round.{substitute, diffuse, round};
-ghost use Rattle.permutation.specs.Runs.{constants, constants_of, rounds, permute, permute_words};
+ghost use Rattle.permutation.specs.Runs.{constants, rounds, permute, permute_words};
 
 // The five words of the state.
 #[derive(Drop)]
@@ -88,33 +88,17 @@ fn ran(s: State, first: u64, end: u64) -> State
     t
 }
 
-// A part of Table 2: its first round, and the one before which it ends.
-#[derive(Drop)]
-struct Span {
-    first: u64,
-    end: u64,
-}
-
-// The part of Table 2 that a run takes.
-fn span_of(run: Run) -> Span
-    ensures constants_value { slice result.first result.end constants ≡ constants_of run }
-    ensures first_le_end { (result.first ≤ result.end) × (result.end ≤ 12) }
-{
-    match run {
-        Run::Twelve => Span { first: 0, end: 12 },
-        Run::FirstEight => Span { first: 0, end: 8 },
-        Run::FirstSix => Span { first: 0, end: 6 },
-        Run::LastEight => Span { first: 4, end: 12 },
-        Run::LastSix => Span { first: 6, end: 12 },
-    }
-}
-
 // The state after a run.
 pub fn permuted(s: State, run: Run) -> State
     ensures { result ≡ permute run s }
 {
-    let span = span_of(run);
-    ran(s, span.first, span.end)
+    match run {
+        Run::Twelve => ran(s, 0, 12),
+        Run::FirstEight => ran(s, 0, 8),
+        Run::FirstSix => ran(s, 0, 6),
+        Run::LastEight => ran(s, 4, 12),
+        Run::LastSix => ran(s, 6, 12),
+    }
 }
 
 // Runs on five words where they lie.

@@ -2,7 +2,7 @@
 use mathlib.Core.Path.{◌≡◌, refl, sym, ap, ◌∙◌}
 use mathlib.Core.Bool.{Bool, true, false, ◌&&◌, false≢true}
 use mathlib.Core.List.{List, [], ◌∷◌, map}
-use Prim.Native.Nat.{ℕ, zero, suc, ◌+◌, ◌-◌, ◌*◌, ◌%◌, ◌^◌, ◌≤◌, ◌<◌}
+use Prim.Native.Nat.{ℕ, zero, suc, ◌+◌, ◌-◌, ◌*◌, ◌^◌, ◌≤◌, ◌<◌}
 use native.Mathlib.Omega.{arith}
 use lib.Dec.{eqb, leb}
 use lib.ListN.{length, get_or, get_or-eq_default}
@@ -46,15 +46,11 @@ each_row test e set = go (test ascon128) refl e
 
 -- ---- the table in the code
 
--- a number of no other row has the first
-pub first_row : (set : ℕ) → (set ≡ 2 → ⊥) → (set ≡ 3 → ⊥) → (set ≡ 4 → ⊥) → row_of set ≡ ascon128
-unfolding row_of table
-first_row zero h k l = refl
-first_row (suc zero) h k l = refl
-first_row (suc (suc zero)) h k l = absurd (h refl)
-first_row (suc (suc (suc zero))) h k l = absurd (k refl)
-first_row (suc (suc (suc (suc zero)))) h k l = absurd (l refl)
-first_row (suc (suc (suc (suc (suc n))))) h k l = get_or-eq_default table ascon128 {n = suc (suc (suc (suc (suc n)))) - 1} (omega arith)
+-- a row of the code's table is the row at its place
+pub held_row : (rows : List ParameterSet) (i : ℕ) (other : Row) (first : ParameterSet) → i < length rows → get_or (map in_code rows) i other ≡ in_code (get_or rows i first)
+held_row [] i other first h = absurd (omega arith)
+held_row (row ∷ rows) zero other first h = refl
+held_row (row ∷ rows) (suc i) other first h = held_row rows i other first (omega arith)
 
 -- a number but zero is a set's where the table has so many rows
 set_is : (n : ℕ) → is_set (suc n) ≡ leb (suc n) (length table)
@@ -111,10 +107,8 @@ is_twelve_lem LastSix e = absurd (false≢true e)
 pub record Sizes (row : ParameterSet) : Type 0 where
   pub some_block : 0 < row.block
   pub block : row.block ≤ 16
-  pub whole_words : row.block % 8 ≡ 0
   pub some_key : 12 ≤ row.key
   pub key : row.key ≤ 16
-  pub whole_halves : row.key % 4 ≡ 0
   pub first : string_of_words (value_of row.word ∷ 0 ∷ 0 ∷ 0 ∷ 0 ∷ []) ≡ before_key row ‖ zeros (2 * row.key)
   pub word : value_of row.word < 2 ^ 64
   pub rounds : rounds_of row.between ≤ 8
@@ -126,10 +120,8 @@ row_sizes set =
     record {
       some_block = (row_fits set).some_block;
       block = leb-true _ 16 (each_row (λ row. leb row.block 16) refl set);
-      whole_words = eqb-true _ 0 (each_row (λ row. eqb (row.block % 8) 0) refl set);
       some_key = leb-true 12 _ (each_row (λ row. leb 12 row.key) refl set);
       key = leb-true _ 16 (each_row (λ row. leb row.key 16) refl set);
-      whole_halves = eqb-true _ 0 (each_row (λ row. eqb (row.key % 4) 0) refl set);
       first = same_eq _ _ (each_row (λ row. same (string_of_words (value_of row.word ∷ 0 ∷ 0 ∷ 0 ∷ 0 ∷ [])) (before_key row ‖ zeros (2 * row.key))) refl set);
       word = leb-true _ (2 ^ 64) (each_row (λ row. leb (suc (value_of row.word)) (2 ^ 64)) refl set);
       rounds = leb-true _ 8 (each_row (λ row. leb (rounds_of row.between) 8) refl set);

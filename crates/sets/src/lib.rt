@@ -1,8 +1,8 @@
 // The parameter sets: the one table of their numbers, the limits of data and text, the rounds of a message, and the first tests of a start.
-ghost use Rattle.std.specs.Prelude.{◌≡◌, ◌/◌, ◌≤◌};
+ghost use Rattle.std.specs.Prelude.{◌≡◌, ◌≤◌, ◌<◌, length, get_or};
 ghost use Rattle.permutation.specs.Runs.{rounds_of};
 ghost use Rattle.permutation.specs.Strings.{value_of};
-ghost use Rattle.ascon.specs.Sets.{is_set, row_of};
+ghost use Rattle.ascon.specs.Sets.{ascon128, table, is_set, row_of};
 ghost use Rattle.ascon.specs.Rounds.{ad_blocks, message_rounds};
 ghost use Rattle.sets.specs.Rows.{in_code};
 ghost use Rattle.sets.specs.Start.{start_test};
@@ -29,6 +29,38 @@ pub struct Row {
 // How many sets there are.
 pub const ROWS: usize = 4;
 
+// The rows of the definition's table, set 1 first.
+const TABLE: [Row; ROWS] = [
+    Row {
+        key: 16,
+        block: 8,
+        between: Run::FirstSix,
+        rounds: 6,
+        word: 0x800c060000000000,
+    },
+    Row {
+        key: 12,
+        block: 16,
+        between: Run::FirstEight,
+        rounds: 8,
+        word: 0x600c080000000000,
+    },
+    Row {
+        key: 16,
+        block: 8,
+        between: Run::LastSix,
+        rounds: 6,
+        word: 0x80400c0600000000,
+    },
+    Row {
+        key: 16,
+        block: 16,
+        between: Run::LastEight,
+        rounds: 8,
+        word: 0x80800c0800000000,
+    },
+];
+
 // Whether a number names a set.
 pub fn is_set(set: u64) -> bool
     ensures { result ≡ is_set set }
@@ -39,40 +71,22 @@ pub fn is_set(set: u64) -> bool
     set <= (ROWS as u64)
 }
 
-// The row of a set; an unknown set has the first.
+// Where a set's row stands; an unknown set has the first.
+fn index_of(set: u64) -> usize
+    ensures ascon128_value { get_or table result ascon128 ≡ row_of set }
+    ensures upper_bound { result < length table }
+{
+    if !is_set(set) {
+        return 0;
+    }
+    (set - 1) as usize
+}
+
+// The row of a set.
 fn row_of(set: u64) -> Row
     ensures { result ≡ in_code (row_of set) }
 {
-    match set {
-        2 => Row {
-            key: 12,
-            block: 16,
-            between: Run::FirstEight,
-            rounds: 8,
-            word: 0x600c080000000000,
-        },
-        3 => Row {
-            key: 16,
-            block: 8,
-            between: Run::LastSix,
-            rounds: 6,
-            word: 0x80400c0600000000,
-        },
-        4 => Row {
-            key: 16,
-            block: 16,
-            between: Run::LastEight,
-            rounds: 8,
-            word: 0x80800c0800000000,
-        },
-        _ => Row {
-            key: 16,
-            block: 8,
-            between: Run::FirstSix,
-            rounds: 6,
-            word: 0x800c060000000000,
-        },
-    }
+    TABLE[index_of(set)]
 }
 
 // The length of key, nonce and tag.
@@ -110,17 +124,6 @@ pub fn first_word(set: u64) -> u64
     row_of(set).word
 }
 
-// How many whole blocks n bytes have.
-fn whole_blocks(set: u64, n: u32) -> u64
-    ensures value { result ≡ n / (row_of set).block }
-    ensures upper_bound { result ≤ 4294967295 }
-{
-    if block_length(set) == 8 {
-        return (n as u64) / 8;
-    }
-    (n as u64) / 16
-}
-
 // The padded blocks of associated data.
 fn ad_blocks(set: u64, ad: u32) -> u64
     ensures value { result ≡ ad_blocks (row_of set).block ad }
@@ -129,14 +132,14 @@ fn ad_blocks(set: u64, ad: u32) -> u64
     if ad == 0 {
         return 0;
     }
-    whole_blocks(set, ad) + 1
+    (ad as u64) / (block_length(set) as u64) + 1
 }
 
 // The rounds of a message, by the lengths of its data and of its text.
 pub fn message_rounds(set: u64, ad: u32, text: u32) -> u64
     ensures { result ≡ message_rounds (row_of set) ad text }
 {
-    let blocks = ad_blocks(set, ad) + whole_blocks(set, text);
+    let blocks = ad_blocks(set, ad) + (text as u64) / (block_length(set) as u64);
     24 + rounds_between(set) * blocks
 }
 

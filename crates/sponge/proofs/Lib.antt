@@ -2,5 +2,3 @@
 pub mod Words
 pub mod Ends
 pub mod Fronts
-pub mod Stretches
-pub mod Edges

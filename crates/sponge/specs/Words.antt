@@ -1,13 +1,13 @@
--- Bytes of five words, as the code takes them: the functions inside the crate go by these. `proofs/Words.antt` and `proofs/Keys.antt` tie them to the state's 40 bytes.
+-- One byte of five words, as the code takes it: the functions inside the crate go by these. `proofs/Words.antt` ties them to the state's 40 bytes.
 use Rattle.std.specs.Prelude.{List, [], ◌∷◌, ℕ, ◌+◌, ◌-◌, ◌*◌, ◌/◌, ◌%◌, ◌^◌, get_or, set, take, drop}
 use Rattle.std.specs.Int.Bits.{bit_xor}
 use Rattle.permutation.specs.declared.Run.{Run}
 use Rattle.permutation.specs.Runs.{permute_words}
-use Rattle.permutation.specs.Strings.{◌‖◌, bytes_of, value_of}
+use Rattle.permutation.specs.Strings.{◌‖◌, string_of_words, zeros}
+use Rattle.ascon.specs.Mode.{◌⊕◌}
 use Rattle.ascon.specs.Bytewise.{At, turned}
 use Rattle.sponge.specs.declared.Way.{Way}
 use Rattle.sponge.specs.declared.Way.TheVariants.{Seal, Open}
-use Rattle.sponge.specs.declared.keys.Halves.{Halves}
 
 -- the byte at a place
 abbrev pub byte_of : List ℕ → ℕ → ℕ
@@ -37,10 +37,6 @@ stepped block run way a came =
     turned block (permute_words run)
     (with_byte a.state a.place (feed_of way came (gone_of a.state a.place came))) (a.place + 1)
 
--- the word at a place of a string
-abbrev pub word_at : List ℕ → ℕ → ℕ
-word_at string i = value_of (take 8 (drop i string))
-
--- the sixteen bytes of two words
-abbrev pub spelling : Halves → List ℕ
-spelling h = bytes_of 8 h.high ‖ bytes_of 8 h.low
+-- the last n bytes of the words, each combined with a key's, and zeros behind them
+abbrev pub masked_end : List ℕ → List ℕ → ℕ → List ℕ
+masked_end w key n = (drop (40 - n) (string_of_words w) ⊕ take n key) ‖ zeros (16 - n)

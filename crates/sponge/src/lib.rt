@@ -1,18 +1,12 @@
-// The cipher on five words: the start, a piece of data or text, the end of the data, the end of the text with the tag. Streams and whole messages are built on
-// it. A piece goes by whole words from block edge to block edge, and byte by byte before the first edge and behind the last. Each public function is total, and its
-// contract speaks of the state's 40 bytes.
-mod blocks;
-mod bytewise;
-mod keys;
-mod numbers;
-
-ghost use Rattle.std.specs.Prelude.{true, ◌≡◌, ◌+◌, ◌-◌, ◌%◌, ◌<◌, ◌≤◌, length};
-ghost use Rattle.permutation.specs.Runs.{of_words, to_words};
+// The cipher on five words: the start, a piece of data or text byte by byte, the end of the data, the end of the text with the tag. Streams and whole
+// messages are built on it. Each public function is total, and its contract speaks of the state's 40 bytes.
+ghost use Rattle.std.specs.Prelude.{◌≡◌, ◌+◌, ◌<◌, ◌≤◌, length, take};
 ghost use Rattle.ascon.specs.Sets.{row_of};
+ghost use Rattle.ascon.specs.Bytewise.{at};
 ghost use Rattle.sponge.specs.Sponge.{started, absorbed, crypted, crypted_of, ad_closed, tag_of, finished};
-ghost use Rattle.sponge.specs.Stretches.{taken, taken_of};
+ghost use Rattle.sponge.specs.Words.{byte_of, with_byte, with_bytes, feed_of, gone_of, stepped, masked_end};
 
-use permutation::{Run, State};
+use permutation::Run;
 
 // What stays in the state: the byte that goes out, or the one that comes.
 #[derive(Drop)]
@@ -21,129 +15,99 @@ pub enum Way {
     Open,
 }
 
-// The place of byte n in its block.
-fn place_of(set: u64, n: usize) -> usize
-    ensures { result ≡ n % (row_of set).block }
+// The byte at a place of the words, high byte first.
+fn byte_at(w: &[u64; 5], place: usize) -> u8
+    requires { place < 40 }
+    ensures { result ≡ byte_of w.now place }
 {
-    if sets::block_length(set) == 8 {
-        return n % 8;
-    }
-    n % 16
+    let k = place / 8;
+    let s = 56 - 8 * (place % 8);
+    ((w[k] >> s) % 256) as u8
 }
 
-// How many of n bytes, the first of them at a place of its block, stand before the next edge.
-fn to_edge(set: u64, place: usize, n: usize) -> usize
-    requires { place < (row_of set).block }
-    ensures upper_bound { result ≤ n }
-    ensures set_value { result < n → (place + result) % (row_of set).block ≡ 0 }
+// Combines a byte with the byte at a place of the words.
+fn put_byte(w: &mut [u64; 5], place: usize, x: u8)
+    requires { place < 40 }
+    ensures { w.new ≡ with_byte w.old place x }
 {
-    if place == 0 {
-        return 0;
-    }
-    let left = sets::block_length(set) - place;
-    if n < left {
-        return n;
-    }
-    left
+    let k = place / 8;
+    let s = 56 - 8 * (place % 8);
+    w[k] = w[k] ^ ((x as u64) << s);
 }
 
-// Takes the whole blocks from one place of a piece up to another.
-fn take_blocks(
-    set: u64,
-    way: Way,
-    gives: bool,
-    s: State,
-    piece: &[u8],
-    out: &mut [u8],
-    from: usize,
-    to: usize,
-) -> State
-    requires from_le_to { (from ≤ to) × (to ≤ length piece.now) × ((to - from) % (row_of set).block ≡ 0) }
-    requires piece_in_bounds { gives ≡ true → length piece.now ≤ length out.old }
-    ensures out_after { taken result out.new ≡ taken_of (row_of set).block (row_of set).between way gives s 0 piece.now from to out.old }
-    ensures out_len_unchanged { length out.new ≡ length out.old }
+// Combines the first n bytes of a key into the words from a place on.
+fn put_key(w: &mut [u64; 5], place: usize, key: [u8; 16], n: usize)
+    requires { (place + n ≤ 40) × (n ≤ 16) }
+    ensures { w.new ≡ with_bytes w.old place (take n key) }
 {
-    let run = sets::between(set);
-    if sets::block_length(set) == 8 {
-        return blocks::take8(way, run, gives, s, piece, out, from, to);
+    let mut i = 0;
+    while i < n {
+        put_byte(&mut *w, place + i, key[i]);
+        i += 1;
     }
-    blocks::take16(way, run, gives, s, piece, out, from, to)
 }
 
-// Takes a piece from a block edge on: its whole blocks, and the bytes behind the last of them.
-fn take_from_edge(
-    set: u64,
-    way: Way,
-    gives: bool,
-    s: State,
-    piece: &[u8],
-    out: &mut [u8],
-    from: usize,
-) -> State
-    requires from_in_bounds { from ≤ length piece.now }
-    requires piece_in_bounds { gives ≡ true → length piece.now ≤ length out.old }
-    ensures out_after { taken result out.new ≡ taken_of (row_of set).block (row_of set).between way gives s 0 piece.now from (length piece.now) out.old }
-    ensures out_len_unchanged { length out.new ≡ length out.old }
+// Replaces the byte at a place of the words.
+fn replace_byte(w: &mut [u64; 5], place: usize, x: u8)
+    requires { place < 40 }
+    ensures { w.new ≡ with_byte w.old place (gone_of w.old place x) }
 {
-    let n = piece.len();
-    let to = n - place_of(set, n - from);
-    let t = take_blocks(set, way, gives, s, piece, &mut *out, from, to);
-    if to == n {
-        return t;
-    }
-    bytewise::take_bytes(set, way, gives, t, 0, piece, out, to, n)
+    let k = place / 8;
+    let s = 56 - 8 * (place % 8);
+    w[k] = w[k] ^ ((w[k] & (255 << s)) ^ ((x as u64) << s));
 }
 
-// Takes the bytes of a piece up to a block edge, the first of them at a place of its block.
-fn take_to_edge(
-    set: u64,
-    way: Way,
-    gives: bool,
-    s: State,
+// Takes a byte into the words, where they lie: combined with the byte at its place, or instead of it.
+fn take_byte(way: Way, w: &mut [u64; 5], place: usize, came: u8)
+    requires { place < 40 }
+    ensures { w.new ≡ with_byte w.old place (feed_of way came (gone_of w.old place came)) }
+{
+    match way {
+        Way::Seal => put_byte(w, place, came),
+        Way::Open => replace_byte(w, place, came),
+    }
+}
+
+// The place of the next byte, and the byte that went out.
+#[derive(Drop)]
+struct Placed {
     place: usize,
-    piece: &[u8],
-    out: &mut [u8],
-    edge: usize,
-) -> State
-    requires place_bound { (place < (row_of set).block) × (edge ≤ length piece.now) }
-    requires piece_in_bounds { gives ≡ true → length piece.now ≤ length out.old }
-    ensures out_after { taken result out.new ≡ taken_of (row_of set).block (row_of set).between way gives s place piece.now 0 edge out.old }
-    ensures out_len_unchanged { length out.new ≡ length out.old }
-{
-    if edge == 0 {
-        return s;
-    }
-    bytewise::take_bytes(set, way, gives, s, place, piece, out, 0, edge)
+    gone: u8,
 }
 
-// The words after a piece that begins `count` bytes into its data or text; what goes out is put in `out`, where the piece gives anything.
-fn take(
-    set: u64,
-    way: Way,
-    gives: bool,
-    words: [u64; 5],
-    count: usize,
-    piece: &[u8],
-    out: &mut [u8],
-) -> [u64; 5]
-    requires { gives ≡ true → length piece.now ≤ length out.old }
-    ensures value { result ≡ to_words (taken_of (row_of set).block (row_of set).between way gives (of_words words) (count % (row_of set).block) piece.now 0 (length piece.now) out.old).state }
-    ensures out_after { out.new ≡ (taken_of (row_of set).block (row_of set).between way gives (of_words words) (count % (row_of set).block) piece.now 0 (length piece.now) out.old).out }
+// One byte: it is taken, and the words are run where it fills a block.
+fn step(block: usize, run: Run, way: Way, w: &mut [u64; 5], place: usize, came: u8) -> Placed
+    requires { place < 40 }
+    ensures gone_value { result.gone ≡ gone_of w.old place came }
+    ensures place_after { at w.new result.place ≡ stepped block run way (at w.old place) came }
 {
-    let place = place_of(set, count);
-    let edge = to_edge(set, place, piece.len());
-    let s = numbers::state_of(words);
-    let t = take_to_edge(set, way, gives, s, place, piece, &mut *out, edge);
-    let u = take_from_edge(set, way, gives, t, piece, out, edge);
-    numbers::words_of(u)
+    let gone = byte_at(&*w, place) ^ came;
+    take_byte(way, &mut *w, place, came);
+    if place + 1 == block {
+        permutation::permute_words(&mut *w, run);
+        return Placed { place: 0, gone };
+    }
+    Placed {
+        place: place + 1,
+        gone,
+    }
 }
 
 // The words after a piece that begins `count` bytes into its data or text.
 pub fn absorb(set: u64, way: Way, words: [u64; 5], count: usize, piece: &[u8]) -> [u64; 5]
     ensures { result ≡ absorbed (row_of set) way words count piece.now }
 {
-    let mut none = [0; 0];
-    take(set, way, false, words, count, piece, &mut none)
+    let block = sets::block_length(set);
+    let run = sets::between(set);
+    let mut w = words;
+    let mut place = count % block;
+    let mut i = 0;
+    while i < piece.len() {
+        let placed = step(block, run, way, &mut w, place, piece[i]);
+        place = placed.place;
+        i += 1;
+    }
+    w
 }
 
 // The words after a piece that begins `count` bytes into its text, with what goes out in `out`; where `out` is too short, nothing is done.
@@ -160,7 +124,18 @@ pub fn crypt(
     if out.len() < piece.len() {
         return words;
     }
-    take(set, way, true, words, count, piece, out)
+    let block = sets::block_length(set);
+    let run = sets::between(set);
+    let mut w = words;
+    let mut place = count % block;
+    let mut i = 0;
+    while i < piece.len() {
+        let placed = step(block, run, way, &mut w, place, piece[i]);
+        out[i] = placed.gone;
+        place = placed.place;
+        i += 1;
+    }
+    w
 }
 
 // The words after the start with a key and a nonce; of each, only as many bytes count as the set's keys have. In every set key and nonce are the last bytes that are run.
@@ -168,14 +143,12 @@ pub fn start(set: u64, key: [u8; 16], nonce: [u8; 16]) -> [u64; 5]
     ensures { result ≡ started (row_of set) key nonce }
 {
     let n = sets::key_length(set);
-    let k = keys::halved(key);
-    let m = keys::halved(nonce);
     let mut w = [0; 5];
     w[0] = sets::first_word(set);
-    keys::put_behind(&mut w, 40 - 2 * n, k, n);
-    keys::put_last(&mut w, m, n);
+    put_key(&mut w, 40 - 2 * n, key, n);
+    put_key(&mut w, 40 - n, nonce, n);
     permutation::permute_words(&mut w, Run::Twelve);
-    keys::put_last(&mut w, k, n);
+    put_key(&mut w, 40 - n, key, n);
     w
 }
 
@@ -185,13 +158,27 @@ pub fn close_ad(set: u64, words: [u64; 5], count: usize) -> [u64; 5]
 {
     let mut w = words;
     if count == 0 {
-        bytewise::put_byte(&mut w, 39, 1);
+        put_byte(&mut w, 39, 1);
         return w;
     }
-    bytewise::put_front(&mut w, place_of(set, count), 0x80);
+    put_byte(&mut w, count % sets::block_length(set), 0x80);
     permutation::permute_words(&mut w, sets::between(set));
-    bytewise::put_byte(&mut w, 39, 1);
+    put_byte(&mut w, 39, 1);
     w
+}
+
+// The last n bytes of the words combined with a key's first n, and zeros behind them.
+fn masked_end(w: [u64; 5], key: [u8; 16], n: usize) -> [u8; 16]
+    requires { n ≤ 16 }
+    ensures { result ≡ masked_end w key n }
+{
+    let mut tag = [0; 16];
+    let mut i = 0;
+    while i < n {
+        tag[i] = byte_at(&w, 40 - n + i) ^ key[i];
+        i += 1;
+    }
+    tag
 }
 
 // The tag after the end of `count` bytes of text, and zeros behind it.
@@ -200,11 +187,10 @@ pub fn finish(set: u64, words: [u64; 5], count: usize, key: [u8; 16]) -> [u8; 16
     ensures key_len { length (tag_of (row_of set) words count key) ≡ (row_of set).key }
 {
     let n = sets::key_length(set);
-    let k = keys::halved(key);
+    let block = sets::block_length(set);
     let mut w = words;
-    bytewise::put_front(&mut w, place_of(set, count), 0x80);
-    keys::put_behind(&mut w, sets::block_length(set), k, n);
+    put_byte(&mut w, count % block, 0x80);
+    put_key(&mut w, block, key, n);
     permutation::permute_words(&mut w, Run::Twelve);
-    keys::put_last(&mut w, k, n);
-    keys::spelled(keys::last(w, n))
+    masked_end(w, key, n)
 }

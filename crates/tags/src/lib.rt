@@ -1,26 +1,17 @@
 // Keys and tags, strings of at most 16 bytes: put into 16 bytes, given out, compared.
-ghost use Rattle.std.specs.Prelude.{cond, ◌≡◌, ◌≤◌, leb};
+ghost use Rattle.std.specs.Prelude.{◌≡◌};
 ghost use Rattle.permutation.specs.Strings.{same};
 ghost use Rattle.tags.specs.Tags.{sixteen_of, given_tag};
-
-// How many bytes of a string of n are put into 16: all or none.
-fn fitting(n: usize) -> usize
-    ensures value { result ≡ cond (leb n 16) n 0 }
-    ensures upper_bound { (result ≤ n) × (result ≤ 16) }
-{
-    if 16 < n {
-        return 0;
-    }
-    n
-}
 
 // A string of at most 16 bytes with zeros behind it; zeros for a longer one.
 pub fn sixteen(string: &[u8]) -> [u8; 16]
     ensures { result ≡ sixteen_of string.now }
 {
     let mut all = [0; 16];
-    let n = fitting(string.len());
-    bytes::copy(&string[..n], &mut all);
+    if 16 < string.len() {
+        return all;
+    }
+    bytes::copy(string, &mut all);
     all
 }
 

@@ -1,26 +1,30 @@
 -- `sets::row_of` meets its contract.
+use mathlib.Core.Path.{ap, ◌∙◌}
+use native.Mathlib.Omega.{arith}
+use borrow.Author.Rules.{rules}
 use Rattle.permutation.specs.Runs.{constants, constants_of, rounds_of}
 use Rattle.permutation.specs.Strings.{value_of}
-use Rattle.ascon.specs.Sets.{table, row_of}
-use Rattle.sets.proofs.Rows.{first_row}
+use Rattle.ascon.specs.Sets.{ascon128, table}
+use Rattle.sets.specs.Rows.{in_code}
+use Rattle.sets.proofs.Rows.{held_row}
 use Rattle.sets.proofs.row_of.Statement.{statement}
 use Rattle.sets.proofs.row_of.Tie as tie
 
+index-of-requires : tie.Need-index-of-requires
+index-of-requires c κs = search rules
+
+mul-result : tie.Need-overflow-mul-result
+unfolding table
+mul-result c = record { fits = omega (arith, c.index_of.ensures.1) }
+
+array-copy-out-result : tie.Need-array-copy-out-result
+unfolding table
+array-copy-out-result c = c.index_of.ensures.1
+
+-- the code's table is the definition's, row by row
 returns : tie.Need-returns
-unfolding row_of table rounds_of constants_of constants value_of
-returns c = rw c.match.keys1
-
-returns-2 : tie.Need-returns-2
-unfolding row_of table rounds_of constants_of constants value_of
-returns-2 c = rw c.match.keys2
-
-returns-3 : tie.Need-returns-3
-unfolding row_of table rounds_of constants_of constants value_of
-returns-3 c = rw c.match.keys3
-
-returns-4 : tie.Need-returns-4
-unfolding rounds_of constants_of constants value_of
-returns-4 c = let other = c.match.rest in rw (first_row c.before.args.set other.0.0.1 other.0.1 other.1)
+unfolding table rounds_of constants_of constants value_of
+returns c = held_row table c.before.index_of.result _ ascon128 c.before.index_of.ensures.1 ∙ ap in_code c.before.index_of.ensures.0
 
 pub row_of_spec : {M : Type 1} → statement M
-row_of_spec = tie.close (tie.spec returns returns-2 returns-3 returns-4)
+row_of_spec = tie.close (tie.spec index-of-requires mul-result array-copy-out-result returns)

@@ -1,6 +1,6 @@
 -- `gateway::area::four_at` meets its contract.
 use native.Mathlib.Omega.{arith}
-use Rattle.permutation.proofs.Numbers.{number_four}
+use Rattle.gateway.proofs.Numbers.{number_four}
 use borrow.Author.Rules.{rules}
 use Rattle.gateway.proofs.area.four_at.Statement.{statement}
 use Rattle.gateway.proofs.area.four_at.Tie as tie

@@ -1,6 +1,6 @@
 -- `gateway::area::number_at` meets its contract.
 use native.Mathlib.Omega.{arith}
-use Rattle.permutation.proofs.Numbers.{number_eight}
+use Rattle.gateway.proofs.Numbers.{number_eight}
 use borrow.Author.Rules.{rules}
 use Rattle.gateway.proofs.area.number_at.Statement.{statement}
 use Rattle.gateway.proofs.area.number_at.Tie as tie

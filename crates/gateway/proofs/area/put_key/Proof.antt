@@ -7,9 +7,9 @@ use lib.ListN.{length, take, drop, length-drop, drop_of_length-le}
 use lib.Seq.{length-take-le, take-length, drop-drop}
 use borrow.Rule.Slice.PartMut.{put_mid, same_len_mid}
 use borrow.Author.Rules.{rules}
-use Rattle.permutation.specs.Laying.{laid}
+use Rattle.gateway.specs.Laying.{laid}
 use Rattle.gateway.specs.Spelling.{state_length}
-use Rattle.permutation.proofs.Laying.{laid_is}
+use Rattle.gateway.proofs.Laying.{laid_is}
 use Rattle.gateway.proofs.area.put_key.Statement.{statement}
 use Rattle.gateway.proofs.area.put_key.Tie as tie
 

@@ -10,8 +10,8 @@ use lib.ListN.{length, get_or, drop, drop_of_length-le}
 use lib.Seq.{drop-cons}
 use Rattle.permutation.specs.Strings.{bytes_of, string_of_words}
 use Rattle.permutation.proofs.Strings.{length_bytes}
-use Rattle.permutation.specs.Laying.{laid}
-use Rattle.permutation.proofs.Laying.{laid_append}
+use Rattle.gateway.specs.Laying.{laid}
+use Rattle.gateway.proofs.Laying.{laid_append}
 use Rattle.gateway.proofs.area.put_numbers.Statement.{statement}
 use Rattle.gateway.proofs.area.put_numbers.Tie as tie
 

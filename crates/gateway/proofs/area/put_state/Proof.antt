@@ -6,7 +6,7 @@ use native.Mathlib.Omega.{arith}
 use lib.ListN.{length, length-map}
 use borrow.Author.Rules.{rules}
 use Rattle.permutation.specs.Strings.{string_of_words}
-use Rattle.permutation.specs.Laying.{laid}
+use Rattle.gateway.specs.Laying.{laid}
 use Rattle.gateway.proofs.Spelling.{laid_spelling}
 use Rattle.gateway.proofs.area.put_state.Statement.{statement}
 use Rattle.gateway.proofs.area.put_state.Tie as tie
