@@ -1,9 +1,11 @@
 // The answers of every call, and their numbers.
+#![tactic(auto)]
+
 ghost use Rattle.std.specs.Prelude.{◌≡◌};
 ghost use Rattle.answers.specs.Numbers.{number_of, is_done};
 
 // What a call answers, in the order of the numbers 0 to 11.
-#[derive(Drop)]
+#[derive(Clone, Copy)]
 pub enum Answer {
     Done,
     UnknownSet,

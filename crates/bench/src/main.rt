@@ -2,6 +2,8 @@
 // standard error where the unread record broke, if there is one, and how many it judged, and how. What fails is said there in its place; a record that a failed read
 // cut off gets no report. With the word `forward`, `back` or `export`, or with `import` and a set: moves all records from one kind of text to another, and writes all of
 // them to standard output, or nothing. With the word `replay`: replays the log of a chip's calls, and writes its verdict in three lines.
+#![tactic(auto)]
+
 mod decimal;
 mod moves;
 mod progress;
@@ -202,7 +204,7 @@ fn explain(stage: Stage) {
 }
 
 // What the program is asked to do.
-#[derive(Drop)]
+#[derive(Clone, Copy)]
 pub enum Task {
     Judge,
     Move(Route),

@@ -29,7 +29,7 @@ fn output_place() -> [u8; ROOM]
 }
 
 // How a moving of all of the input ended: with an answer on its records; the input was too long; a read failed; or the turns were used up.
-#[derive(Drop)]
+#[derive(Clone, Copy)]
 pub enum Carried {
     Moved(MovingAll),
     TooLong,

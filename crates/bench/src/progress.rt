@@ -10,7 +10,7 @@ use report::Verdict;
 use turns::{Ending, Stage, Tally};
 
 // What the operating system answered a read or a write: it moved so many bytes, a signal came before it moved any, or it failed.
-#[derive(Drop)]
+#[derive(Clone, Copy)]
 pub enum Heard {
     Moved(usize),
     Again,
@@ -19,7 +19,7 @@ pub enum Heard {
 
 // How far the program is. The window is the buffer from `start` to `filled`; `ended` says that it is all that is left of the input. What is left to write is the
 // text from `from` to `size`.
-#[derive(Drop)]
+#[derive(Clone, Copy)]
 pub struct Progress {
     pub start: usize,
     pub filled: usize,

@@ -15,7 +15,7 @@ use replay::{Stretch, Verdict};
 use stream::Stream;
 
 // What keeps a replay from its verdict: nothing; a read failed; there are more entries than a number of 64 bits can count.
-#[derive(Drop)]
+#[derive(Clone, Copy)]
 pub enum Fault {
     None,
     Reading,
@@ -24,7 +24,7 @@ pub enum Fault {
 
 // How far a replay is: the bytes at the front of the buffer that were not replayed yet, how many entries agreed, the stream's state behind them, the verdict, and what
 // keeps it from one.
-#[derive(Drop)]
+#[derive(Clone, Copy)]
 pub struct Replaying {
     pub left: usize,
     pub entries: u64,

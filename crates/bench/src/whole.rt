@@ -6,7 +6,7 @@ ghost use Rattle.bench.specs.Whole.{read_by, wrote_by, ReadOne, ReadAll, WroteOn
 use crate::progress::Heard;
 
 // How far the reading of all of the input is: so many bytes stand in the place, and there may be more; they are all; they fill the place, which is too many; it failed.
-#[derive(Drop)]
+#[derive(Clone, Copy)]
 pub enum Input {
     Part(usize),
     Whole(usize),
@@ -15,7 +15,7 @@ pub enum Input {
 }
 
 // How far the writing of a text is: so many of its bytes were taken; all were; it failed.
-#[derive(Drop)]
+#[derive(Clone, Copy)]
 pub enum Output {
     Part(usize),
     Whole,

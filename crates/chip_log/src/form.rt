@@ -10,7 +10,7 @@ use lines::{Found, Kind, Name, Value};
 use record::Field;
 
 // A call on a stream: a start in set 1 or 2, a piece of the associated data, a piece of the text, the finish.
-#[derive(Drop)]
+#[derive(Clone, Copy)]
 pub enum Call {
     Start1,
     Start2,
@@ -20,7 +20,7 @@ pub enum Call {
 }
 
 // An entry: the call and what it was handed; the answer, the output and the rounds that the chip gave.
-#[derive(Drop)]
+#[derive(Clone, Copy)]
 pub struct Entry {
     pub call: Call,
     pub input: Field,

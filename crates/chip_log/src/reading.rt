@@ -12,7 +12,7 @@ use record::Field;
 
 // What reading answers: the answer; the line and column at which a text is wrong, and whether it only ended too early, so that more of it can make an entry; how many
 // bytes were taken; and the entry.
-#[derive(Drop)]
+#[derive(Clone, Copy)]
 pub struct Reading {
     pub answer: Answer,
     pub line: usize,

@@ -1,5 +1,7 @@
 // Seals, checks and opens one message under many cuttings, with refused calls in between, right and tampered with; finishes it at each of its points; and tries the
 // stream cases that the rules list to be run. The file `stdout` holds the second program's ciphertexts, tags and round counts.
+#![tactic(auto)]
+
 ghost use Rattle.std.specs.Prelude.{◌≡◌, ◌<◌, ◌≤◌, length};
 
 use libc::STDOUT_FILENO;
@@ -39,7 +41,7 @@ const TEXT: [u8; 53] = [
 ];
 
 // Associated data, a text or its ciphertext, and a tag.
-#[derive(Drop)]
+#[derive(Clone, Copy)]
 struct Message {
     ad: [u8; 37],
     text: [u8; 53],
@@ -47,7 +49,7 @@ struct Message {
 }
 
 // What a stream gave out, its tag, the rounds reported so far, how many of its answers were the expected ones, and the stream.
-#[derive(Drop)]
+#[derive(Clone, Copy)]
 struct Walk {
     out: [u8; 53],
     tag: [u8; 16],

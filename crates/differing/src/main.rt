@@ -1,5 +1,7 @@
 // Prints the first differences of pairs of texts: of any two with at most three letters, and of texts with twenty letters, beside their beginnings and with another
 // letter. The file `stdout` holds the second program's answers.
+#![tactic(auto)]
+
 ghost use Rattle.std.specs.Prelude.{◌≡◌, ◌≤◌, length};
 
 use judge::Difference;

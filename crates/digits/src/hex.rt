@@ -5,21 +5,21 @@ ghost use Rattle.digits.specs.LookUp.{digit_row, entry_of, said, none_below};
 ghost use Rattle.digits.specs.Room.{laid, put};
 
 // What a character is as a digit.
-#[derive(Drop)]
+#[derive(Clone, Copy)]
 pub enum Digit {
     Value(u8),
     NoDigit,
 }
 
 // The case of the letters among the digits.
-#[derive(Drop)]
+#[derive(Clone, Copy)]
 pub enum Case {
     Lower,
     Upper,
 }
 
 // What two characters are as a byte: the byte, or which of them is no digit, the first where neither is.
-#[derive(Drop)]
+#[derive(Clone, Copy)]
 pub enum Pair {
     Byte(u8),
     BadFirst,

@@ -1,4 +1,6 @@
 // Bytes in hex digits, numbers in decimals: digits read from text, both put into lent room. Every function takes anything, and names what it cannot read.
+#![tactic(auto)]
+
 mod hex;
 mod numbers;
 
@@ -15,7 +17,8 @@ pub fn put_text(text: &[u8], out: &mut [u8]) -> usize
     if out.len() < text.len() {
         return 0;
     }
-    bytes::copy(text, out)
+    out[..text.len()].copy_from_slice(text);
+    text.len()
 }
 
 // Puts a line, a name, a value and a line feed, at the beginning of a place, and gives its length; a place too short for it stays as it is, and the length is 0.

@@ -177,7 +177,7 @@ fn put_key(area: &mut [u8], key: [u8; 16])
     ensures area_after { area.new ≡ laid area.old 40 key }
     ensures area_len_unchanged { length area.new ≡ length area.old }
 {
-    bytes::copy(&key, &mut area[40..56]);
+    area[40..56].copy_from_slice(&key);
 }
 
 // The numbers behind the key, in their order.

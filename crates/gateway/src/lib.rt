@@ -1,5 +1,7 @@
 // The C boundary: whole messages here, and in `streams` streams whose state the caller keeps in an area of bytes. Each slice crosses as a pointer and a length; the
 // answer and the rounds come back in one word.
+#![tactic(auto)]
+
 mod area;
 mod streams;
 mod word;

@@ -6,7 +6,7 @@ ghost use Rattle.judge.specs.Difference.{first_difference, differ, difference_of
 use record::Field;
 
 // What is told of two texts.
-#[derive(Drop)]
+#[derive(Clone, Copy)]
 pub enum Difference {
     // They are of one length, and the same byte by byte.
     Same,
@@ -54,7 +54,7 @@ pub fn difference_tail<'a>(wanted: &[u8], found: &'a [u8]) -> &'a [u8]
 }
 
 // Whether and where two texts differ first, and the found text from there on.
-#[derive(Drop)]
+#[derive(Clone, Copy)]
 pub struct Comparison<'a> {
     pub difference: Difference,
     pub part: &'a [u8],

@@ -1,4 +1,6 @@
 // Judging bench records: the first difference of two texts, the verdict on a record, and the program's step from a window of its input to a report.
+#![tactic(auto)]
+
 mod difference;
 mod stepping;
 mod verdict;

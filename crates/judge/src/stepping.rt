@@ -7,7 +7,7 @@ use record::Reading;
 use report::Verdict;
 
 // What a step does.
-#[derive(Drop)]
+#[derive(Clone, Copy)]
 pub enum Step {
     // A record was judged: its verdict, how many bytes of the window it took, and how many its report has.
     Judged {

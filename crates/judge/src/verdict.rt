@@ -10,7 +10,7 @@ use record::{Field, Form, Record};
 use report::Verdict;
 
 // Our own sealing of a record's text.
-#[derive(Drop)]
+#[derive(Clone, Copy)]
 pub struct Ours {
     pub rounds: u64,
     pub cipher: Field,

@@ -1,4 +1,6 @@
 // Prints what the permutation makes of published inputs. The file `stdout` beside src/ holds the published answers, none of which this project's code printed.
+#![tactic(auto)]
+
 use libc::STDOUT_FILENO;
 use permutation::{Run, State};
 

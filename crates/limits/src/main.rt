@@ -1,6 +1,8 @@
 // Streams under many limits: starts, walks up to a limit and past it, and states that no start gives. Of each call of a start and a walk it writes the answer, the
 // rounds, and one number into which all of the next state and the lent place is mixed; of a state the answers of several calls, and one such number for all of
 // them, with their rounds. The file `stdout` holds the second program's answers.
+#![tactic(auto)]
+
 use libc::STDOUT_FILENO;
 use stream::{Direction, Outcome, Phase, Stream};
 
@@ -57,7 +59,7 @@ const WALKS: usize = 600;
 const STATES: usize = 3600;
 
 // What a call gave, and what its lent place then holds, mixed.
-#[derive(Drop)]
+#[derive(Clone, Copy)]
 struct Called {
     outcome: Outcome,
     lent: u64,

@@ -5,7 +5,7 @@ ghost use Rattle.lines.specs.Right.{named};
 use digits::Case;
 
 // A name: the first `size` of 32 places.
-#[derive(Drop)]
+#[derive(Clone, Copy)]
 pub struct Name {
     pub bytes: [u8; 32],
     pub size: usize,
@@ -13,7 +13,7 @@ pub struct Name {
 
 // What may stand between a line's name and its line feed. `Fixed`: nothing; the name is the whole line, a fixed word, and the number tells which. `Number`: a decimal
 // with no needless zero, from 0 or 1 up to a bound. `Bytes`: bytes in hex, at least and at most so many.
-#[derive(Drop)]
+#[derive(Clone, Copy)]
 pub enum Value {
     Fixed(u64),
     Number(u64, u64),
@@ -21,7 +21,7 @@ pub enum Value {
 }
 
 // A kind of line: its name and its value.
-#[derive(Drop)]
+#[derive(Clone, Copy)]
 pub struct Kind {
     pub name: Name,
     pub value: Value,
@@ -35,6 +35,7 @@ pub fn named(text: &[u8]) -> Name
     if 32 < text.len() {
         return Name { bytes, size: 0 };
     }
-    let size = bytes::copy(text, &mut bytes);
+    let size = text.len();
+    bytes[..size].copy_from_slice(text);
     Name { bytes, size }
 }

@@ -8,7 +8,7 @@ use digits::Case;
 
 // Where a walk stands in a line: how many characters of the name were passed; how many digits of bytes, or, of a number, 1 if any was; the number that they say; and
 // whether the line feed was passed.
-#[derive(Drop)]
+#[derive(Clone, Copy)]
 pub struct State {
     pub place: usize,
     pub digits: usize,
@@ -17,7 +17,7 @@ pub struct State {
 }
 
 // What a character does: the line can go on from it, or no right line does.
-#[derive(Drop)]
+#[derive(Clone, Copy)]
 pub enum Step {
     On(State),
     Off,

@@ -7,7 +7,7 @@ use crate::step;
 use crate::step::{State, Step};
 
 // What a text begins with: a right line of so many characters, with its number; or none, and the column where the text stopped being one.
-#[derive(Drop)]
+#[derive(Clone, Copy)]
 pub enum Found {
     Line(usize, u64),
     Stopped(usize),

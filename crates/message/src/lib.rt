@@ -1,5 +1,7 @@
 // Whole messages: sealing and opening in one call, on the sponge that streams are built on. Every call takes any set number and any lengths, and answers with
 // its listed number.
+#![tactic(auto)]
+
 ghost use Rattle.std.specs.Prelude.{◌≡◌, ◌++◌, ◌-◌, ◌≤◌, length, drop};
 ghost use Rattle.ascon.specs.Sets.{row_of, ad_limit, text_limit};
 ghost use Rattle.permutation.specs.Strings.{zeros};
@@ -11,7 +13,7 @@ use answers::Answer;
 use sponge::Way;
 
 // What a call answers: the answer, and the rounds run in the call.
-#[derive(Drop)]
+#[derive(Clone, Copy)]
 pub struct Outcome {
     pub answer: Answer,
     pub rounds: u64,

@@ -8,7 +8,7 @@ use answers::Answer;
 
 // What moving all records of a text answers: the answer; how many records were moved, or the number of the one that is refused, and 0 where no single one is; the line
 // and column at which that is wrong; and how many bytes were written.
-#[derive(Drop)]
+#[derive(Clone, Copy)]
 pub struct MovingAll {
     pub answer: Answer,
     pub records: u64,

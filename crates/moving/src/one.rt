@@ -7,7 +7,7 @@ use crate::route::Route;
 use answers::Answer;
 
 // What moving a record answers: the answer; the line and column at which the text is wrong; and how many bytes were taken and written.
-#[derive(Drop)]
+#[derive(Clone, Copy)]
 pub struct Moving {
     pub answer: Answer,
     pub line: usize,

@@ -6,7 +6,7 @@ ghost use Rattle.moving.specs.Moves.{is_known, read_by, write_by};
 use record::{Form, Reading, Record, Writing};
 
 // Where records are moved: from form 1 to form 2, and back; from the entries of a published test file of a set to form 1, and from form 1 to entries.
-#[derive(Drop)]
+#[derive(Clone, Copy)]
 pub enum Route {
     Forward,
     Back,

@@ -1,11 +1,13 @@
 // The Ascon permutation, bit-sliced on five 64-bit words: one round, the run of twelve, and those of the first and the last eight and six.
+#![tactic(auto)]
+
 ghost use Rattle.std.specs.Prelude.{◌≡◌, ◌≤◌};
 ghost use Rattle.std.proofs.Math.Seq.{slice};
 ghost use Rattle.permutation.specs.Round.{substitute, diffuse, round};
 ghost use Rattle.permutation.specs.Runs.{constants, rounds, permute, permute_words};
 
 // The five words of the state.
-#[derive(Drop)]
+#[derive(Clone, Copy)]
 pub struct State {
     pub x0: u64,
     pub x1: u64,
@@ -15,7 +17,7 @@ pub struct State {
 }
 
 // The runs that the cipher makes, each named by the constants that it takes.
-#[derive(Drop)]
+#[derive(Clone, Copy)]
 pub enum Run {
     Twelve,
     FirstEight,

@@ -7,7 +7,7 @@ ghost use Rattle.record.specs.Calls.{fitted};
 use digits::{Case, Pair};
 
 // The bytes of a line: the first `size` of 256 places.
-#[derive(Drop)]
+#[derive(Clone, Copy)]
 pub struct Field {
     pub bytes: [u8; 256],
     pub size: usize,

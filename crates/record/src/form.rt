@@ -10,7 +10,7 @@ use digits::Case;
 use lines::{Kind, Name, Value};
 
 // The two forms of a record's text: eight lines, or ten, of which two are for the form itself and for the chip.
-#[derive(Drop)]
+#[derive(Clone, Copy)]
 pub enum Form {
     One,
     Two,
@@ -18,7 +18,7 @@ pub enum Form {
 
 // A bench record. One in form has a known set, key, nonce and tag of its length, at most 256 bytes in the others, and rounds of at most seven digits; in form 2 also a
 // chip of 16 bits. Form 1 has no line for the chip, and spells only records with chip 0.
-#[derive(Drop)]
+#[derive(Clone, Copy)]
 pub struct Record {
     pub set: u64,
     pub chip: u64,

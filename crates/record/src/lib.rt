@@ -1,5 +1,7 @@
 // Bench records in their two forms: the record, its reader and its writer. Both take anything. The reader names the line and column at which a text is wrong, the
 // writer the first line that breaks its rule.
+#![tactic(auto)]
+
 mod field;
 mod form;
 mod reading;

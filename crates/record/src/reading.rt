@@ -9,7 +9,7 @@ use lines::{Step, Value};
 
 // What reading answers: the answer; the line and column at which a text is wrong, and whether it only ended too early, so that more of it can make a record; how many
 // bytes were taken; and the record.
-#[derive(Drop)]
+#[derive(Clone, Copy)]
 pub struct Reading {
     pub answer: Answer,
     pub line: usize,

@@ -11,7 +11,7 @@ use answers::Answer;
 use lines::Value;
 
 // What writing answers: the answer, the line of a broken record, the column 0, since a record that is handed over has none, and how many bytes were written.
-#[derive(Drop)]
+#[derive(Clone, Copy)]
 pub struct Writing {
     pub answer: Answer,
     pub line: usize,

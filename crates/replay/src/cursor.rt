@@ -10,7 +10,7 @@ use chip_log::Reading;
 use stream::Stream;
 
 // The bytes of a log, and the place in them where its next entry begins.
-#[derive(Drop)]
+#[derive(Clone, Copy)]
 pub struct Log<'a> {
     pub bytes: &'a [u8],
     pub place: usize,

@@ -9,7 +9,7 @@ use record::Field;
 use stream::{Direction, Outcome, Stream};
 
 // What a call on our stream gives: the answer, the output, the rounds, and the next state.
-#[derive(Drop)]
+#[derive(Clone, Copy)]
 pub struct Given {
     pub answer: Answer,
     pub out: Field,

@@ -1,4 +1,6 @@
 // Replaying the log of a chip's calls: each is fed to our own stream, from the ended state, and the first entry that is broken or differs decides.
+#![tactic(auto)]
+
 mod cursor;
 mod feeding;
 mod whole;

@@ -7,7 +7,7 @@ use crate::{cursor, window};
 use stream::Stream;
 
 // What is told of a log: its verdict, and the entry that decides, counted from 1; where all agree, how many there are.
-#[derive(Drop)]
+#[derive(Clone, Copy)]
 pub struct Conclusion {
     pub entry: u64,
     pub verdict: Verdict,

@@ -11,7 +11,7 @@ use chip_log::{Entry, Reading};
 use stream::Stream;
 
 // What is told of an entry, or of a log.
-#[derive(Drop)]
+#[derive(Clone, Copy)]
 pub enum Verdict {
     // The chip gave what our stream gives.
     Agrees,
@@ -28,7 +28,7 @@ pub enum Verdict {
 }
 
 // How far a stretch of a log was replayed: how many entries agreed, how many bytes they have, the stream's state behind them, and the verdict on what follows them.
-#[derive(Drop)]
+#[derive(Clone, Copy)]
 pub struct Stretch {
     pub entries: usize,
     pub taken: usize,
@@ -37,7 +37,7 @@ pub struct Stretch {
 }
 
 // One entry: its verdict, how many bytes it has, and the stream's state behind it.
-#[derive(Drop)]
+#[derive(Clone, Copy)]
 pub struct Step {
     pub verdict: Verdict,
     pub taken: usize,

@@ -1,4 +1,6 @@
 // The verdict on a record, and its report: three lines.
+#![tactic(auto)]
+
 ghost use Rattle.std.specs.Prelude.{◌≡◌, ◌+◌, ◌≤◌, length};
 ghost use Rattle.digits.specs.Numbers.{numeral};
 ghost use Rattle.digits.specs.Room.{line_of, laid, put};
@@ -7,7 +9,7 @@ ghost use Rattle.report.specs.Reports.{word, part, verdict_line, field_line, rep
 use answers::Answer;
 
 // What the bench says of a record: all agrees, or the first field that differs, or it can't be read.
-#[derive(Drop)]
+#[derive(Clone, Copy)]
 pub enum Verdict {
     Equal,
     Rounds,
@@ -18,7 +20,7 @@ pub enum Verdict {
 }
 
 // What reporting answers: the answer, and how many bytes were written.
-#[derive(Drop)]
+#[derive(Clone, Copy)]
 pub struct Reported {
     pub answer: Answer,
     pub written: usize,

@@ -1,5 +1,7 @@
 // Writes again the records that stand one after another in the first 65,536 bytes of standard input, of either form, in both forms: as they were read, in rooms around
 // their length, and with parts changed. The file `stdout` holds the second program's answers to the records in the file `stdin`.
+#![tactic(auto)]
+
 ghost use Rattle.std.specs.Prelude.{◌≡◌, ◌≤◌, length};
 ghost use Rattle.io.specs.Counts.{IsPrefixLen};
 
@@ -10,7 +12,7 @@ use record::{Field, Form, Record, Writing};
 const PLACES: usize = 1710;
 
 // How a part of a record is changed.
-#[derive(Drop)]
+#[derive(Clone, Copy)]
 enum Change {
     // A number, or a length, that no record allows.
     Over,

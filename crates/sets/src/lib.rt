@@ -1,4 +1,6 @@
 // The parameter sets: the one table of their numbers, the limits of data and text, the rounds of a message, and the first tests of a start.
+#![tactic(auto)]
+
 ghost use Rattle.std.specs.Prelude.{◌≡◌, ◌≤◌, ◌<◌, length, get_or};
 ghost use Rattle.permutation.specs.Runs.{rounds_of};
 ghost use Rattle.permutation.specs.Strings.{value_of};
@@ -17,7 +19,7 @@ pub const AD_LIMIT: usize = 65536;
 pub const TEXT_LIMIT: usize = 1048576;
 
 // A row of the table: the length of key, nonce and tag, that of a block, the run between blocks and its rounds, and the first word of a start.
-#[derive(Drop)]
+#[derive(Clone, Copy)]
 pub struct Row {
     key: usize,
     block: usize,

@@ -1,5 +1,7 @@
 // The cipher on five words: the start, a piece of data or text byte by byte, the end of the data, the end of the text with the tag. Streams and whole
 // messages are built on it. Each public function is total, and its contract speaks of the state's 40 bytes.
+#![tactic(auto)]
+
 ghost use Rattle.std.specs.Prelude.{◌≡◌, ◌+◌, ◌<◌, ◌≤◌, length, take};
 ghost use Rattle.ascon.specs.Sets.{row_of};
 ghost use Rattle.ascon.specs.Bytewise.{at};
@@ -9,7 +11,7 @@ ghost use Rattle.sponge.specs.Words.{byte_of, with_byte, with_bytes, feed_of, go
 use permutation::Run;
 
 // What stays in the state: the byte that goes out, or the one that comes.
-#[derive(Drop)]
+#[derive(Clone, Copy)]
 pub enum Way {
     Seal,
     Open,
@@ -69,7 +71,7 @@ fn take_byte(way: Way, w: &mut [u64; 5], place: usize, came: u8)
 }
 
 // The place of the next byte, and the byte that went out.
-#[derive(Drop)]
+#[derive(Clone, Copy)]
 struct Placed {
     place: usize,
     gone: u8,

@@ -1,5 +1,7 @@
 // Sealing, checking and opening streams. A state goes into each call and comes back from it; every call takes any state, any lengths and any order, and answers
 // with its listed number. What an opening hands out is unverified until its finish says done.
+#![tactic(auto)]
+
 ghost use Rattle.std.specs.Prelude.{true, false, ◌≡◌, [], ◌+◌, ◌-◌, ◌*◌, ◌≤◌, ◌<◌, take, drop};
 ghost use Rattle.ascon.specs.Sets.{row_of, text_limit};
 ghost use Rattle.stream.specs.declared.Direction.TheVariants.{Sealing, Checking, Opening};
@@ -10,7 +12,7 @@ use answers::Answer;
 use sponge::Way;
 
 // What a stream does with its text.
-#[derive(Drop)]
+#[derive(Clone, Copy)]
 pub enum Direction {
     Sealing,
     Checking,
@@ -18,7 +20,7 @@ pub enum Direction {
 }
 
 // What a stream takes next.
-#[derive(Drop)]
+#[derive(Clone, Copy)]
 pub enum Phase {
     Ad,
     Text,
@@ -27,7 +29,7 @@ pub enum Phase {
 
 // A stream's state. The key has the set's length, with zeros behind it; ad and text are the bytes taken so far; the place is that of the next byte in its
 // block; the limit is that of the text.
-#[derive(Drop)]
+#[derive(Clone, Copy)]
 pub struct Stream {
     pub words: [u64; 5],
     pub set: u64,
@@ -41,7 +43,7 @@ pub struct Stream {
 }
 
 // What a call answers: the answer, the rounds run in the call, and the next state.
-#[derive(Drop)]
+#[derive(Clone, Copy)]
 pub struct Outcome {
     pub answer: Answer,
     pub rounds: u64,

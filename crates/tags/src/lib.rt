@@ -1,4 +1,6 @@
 // Keys and tags, strings of at most 16 bytes: put into 16 bytes, given out, compared.
+#![tactic(auto)]
+
 ghost use Rattle.std.specs.Prelude.{◌≡◌};
 ghost use Rattle.permutation.specs.Strings.{same};
 ghost use Rattle.tags.specs.Tags.{sixteen_of, given_tag};
@@ -11,7 +13,7 @@ pub fn sixteen(string: &[u8]) -> [u8; 16]
     if 16 < string.len() {
         return all;
     }
-    bytes::copy(string, &mut all);
+    all[..string.len()].copy_from_slice(string);
     all
 }
 
@@ -23,7 +25,7 @@ pub fn give_tag(ours: [u8; 16], tag: &mut [u8])
     if 16 < n {
         return;
     }
-    bytes::copy(&ours[..n], tag);
+    tag.copy_from_slice(&ours[..n]);
 }
 
 // Whether two strings are one; where their lengths agree, every byte is looked at.

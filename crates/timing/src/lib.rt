@@ -1,4 +1,6 @@
 // The permutation, and the reading of digits, through a plain C boundary, for the host's timing program.
+#![tactic(auto)]
+
 ghost use Rattle.std.specs.Prelude.{◌≡◌};
 ghost use Rattle.timing.specs.Call.{called, permute_call, read_digits};
 

@@ -1,5 +1,7 @@
 // A long order, opened by a second walk, in each set: 1,048,576 bytes of ciphertext are checked in pieces, and then opened in smaller ones, with room for one of them.
 // Under another nonce both walks end with 9, and what the second one handed out was never verified. The file `stdout` holds the second program's answers.
+#![tactic(auto)]
+
 use libc::STDOUT_FILENO;
 use stream::{Direction, Outcome, Stream};
 
@@ -19,7 +21,7 @@ const NONCE: [u8; 16] = [
 ];
 
 // A stream, the rounds that it reported so far, how many of its calls were done, and all that it handed out, mixed.
-#[derive(Drop)]
+#[derive(Clone, Copy)]
 struct Walk {
     stream: Stream,
     rounds: u64,

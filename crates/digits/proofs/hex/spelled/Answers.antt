@@ -1,0 +1,17 @@
+-- `digits::hex::spelled` meets its contract.
+use Prim.Native.Nat.{◌≤◌}
+use native.Mathlib.Omega.{arith}
+use borrow.Author.Rules.{rules}
+use borrow.Author.Tests.{lt-ltb, le-ltb}
+use Rattle.digits.specs.declared.hex.Case.{Case}
+use Rattle.digits.specs.declared.hex.Case.TheVariants.{Lower, Upper}
+use Rattle.digits.specs.Hex.{letter_a, hex_digit_in}
+use Rattle.digits.proofs.hex.spelled.Goals as goal
+
+pub returns-then-value-lt10 : goal.returns-then-value-lt10
+unfolding hex_digit_in
+returns-then-value-lt10 c = rw (lt-ltb _ 10 c.if-value-lt10.true)
+
+pub returns : goal.returns
+unfolding hex_digit_in
+returns c = rw (le-ltb _ 10 c.if-value-lt10.false, ← c.letter_a.ensures)
