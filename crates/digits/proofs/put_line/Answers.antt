@@ -4,7 +4,6 @@ use mathlib.Core.List.{List, [], ◌∷◌, ◌++◌, append_assoc}
 use Prim.Native.Nat.{ℕ, ◌+◌, ◌≤◌}
 use native.Mathlib.Omega.{arith}
 use lib.ListN.{length, length-append}
-use borrow.Author.Rules.{rules}
 use Rattle.digits.specs.Room.{line_of, Laid, laid, put}
 use Rattle.digits.proofs.Room.{put_short, put_inside, behind, put_after, length_line}
 use Rattle.digits.proofs.put_line.Goals as goal

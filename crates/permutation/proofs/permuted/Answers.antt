@@ -1,5 +1,4 @@
 -- Each run is that of its constants.
-use mathlib.Core.Path.{sym, ap, ◌∙◌}
 use Rattle.permutation.specs.Runs.{constants, constants_of, permute}
 use Rattle.permutation.proofs.permuted.Goals as goal
 

@@ -1,17 +1,11 @@
 -- `digits::hex::put_bytes` meets its contract. The loop's invariant: the digits of the bytes put stand before what was there. The measure is the number of
 -- bytes left.
-use mathlib.Core.Path.{◌≡◌, refl, sym, ap, ◌∙◌}
-use mathlib.Core.List.{List, [], ◌∷◌, ◌++◌}
-use Prim.Native.Nat.{ℕ, zero, suc, ◌+◌, ◌-◌, ◌*◌, ◌/◌, ◌%◌, ◌≤◌, ◌<◌}
-use native.Mathlib.Numerals.{add-one}
-use native.Mathlib.Omega.{arith}
-use lib.ListN.{length, get_or, set, take, drop, length-set}
-use lib.Seq.{take-length}
-use borrow.Author.Rules.{rules}
+use mathlib.Core.Path.{◌≡◌}
+use mathlib.Core.List.{List, ◌++◌}
+use Prim.Native.Nat.{ℕ, ◌-◌, ◌*◌, ◌≤◌}
+use lib.ListN.{length, take, drop}
 use Rattle.digits.specs.declared.hex.Case.{Case}
-use Rattle.digits.specs.Hex.{hex_digit_in, hex_in}
-use Rattle.digits.proofs.Room.{put_short, put_is}
-use Rattle.digits.proofs.Spelling.{length_hex}
+use Rattle.digits.specs.Hex.{hex_in}
 use Rattle.digits.proofs.hex.put_bytes.Given as goal
 
 -- a place with the digits of the first i bytes put

@@ -2,7 +2,6 @@
 use mathlib.Core.Path.{◌≡◌, sym, ◌∙◌}
 use Prim.Native.Nat.{◌<◌}
 use native.Mathlib.Omega.{arith}
-use borrow.Author.Rules.{rules}
 use Rattle.digits.specs.Hex.{digit_in}
 use Rattle.digits.specs.declared.hex.Digit.TheVariants.{Value}
 use Rattle.digits.proofs.Spelling.{digit_spells}

@@ -1,11 +1,6 @@
 -- `digits::hex::spelled` meets its contract.
-use Prim.Native.Nat.{◌≤◌}
-use native.Mathlib.Omega.{arith}
-use borrow.Author.Rules.{rules}
 use borrow.Author.Tests.{lt-ltb, le-ltb}
-use Rattle.digits.specs.declared.hex.Case.{Case}
-use Rattle.digits.specs.declared.hex.Case.TheVariants.{Lower, Upper}
-use Rattle.digits.specs.Hex.{letter_a, hex_digit_in}
+use Rattle.digits.specs.Hex.{hex_digit_in}
 use Rattle.digits.proofs.hex.spelled.Goals as goal
 
 pub returns-then-value-lt10 : goal.returns-then-value-lt10

@@ -1,9 +1,6 @@
-use mathlib.Core.Path.{◌≡◌, refl}
-use Prim.Native.Nat.{ℕ, zero, suc, ◌+◌, ◌/◌, ◌≤◌, ◌<◌}
+use mathlib.Core.Path.{refl}
 use native.Mathlib.Omega.{arith}
-use borrow.Author.Rules.{rules}
-use borrow.Author.Tests.{le-ltb, lt-ltb}
-use Rattle.digits.specs.Numbers.{places_in, places}
+use Rattle.digits.specs.Numbers.{places}
 use Rattle.digits.proofs.numbers.number_length.Goals as goal
 
 pub loop-rest-init : goal.loop-rest-init

@@ -1,10 +1,7 @@
 -- `digits::numbers::number_length` meets its contract. The loop's invariant: the digits counted and those of the rest are all. The measure is the rest.
 --
-use mathlib.Core.Path.{◌≡◌, refl}
-use Prim.Native.Nat.{ℕ, zero, suc, ◌+◌, ◌/◌, ◌≤◌, ◌<◌}
-use native.Mathlib.Omega.{arith}
-use borrow.Author.Rules.{rules}
-use borrow.Author.Tests.{le-ltb, lt-ltb}
+use mathlib.Core.Path.{◌≡◌}
+use Prim.Native.Nat.{ℕ, ◌+◌, ◌≤◌}
 use Rattle.digits.specs.Numbers.{places_in, places}
 use Rattle.digits.proofs.numbers.number_length.Given as goal
 

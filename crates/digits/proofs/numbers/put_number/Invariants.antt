@@ -1,15 +1,10 @@
 -- `digits::numbers::put_number` meets its contract. The loop's invariant: the digits left of the rest, and what stands behind them, are the whole. The
 -- measure is the number of digits left.
-use mathlib.Core.Path.{◌≡◌, refl, sym, ap, ◌∙◌}
-use mathlib.Core.List.{List, [], ◌∷◌, ◌++◌, append_assoc}
-use Prim.Native.Nat.{ℕ, zero, suc, ◌+◌, ◌-◌, ◌/◌, ◌%◌, ◌≤◌, ◌<◌}
-use native.Mathlib.Numerals.{unary_clauses}
-use native.Mathlib.Omega.{arith}
-use lib.ListN.{length, set, drop, length-set}
-use borrow.Author.Rules.{rules}
-use Rattle.digits.specs.Numbers.{places, decimals, numeral}
-use Rattle.digits.proofs.Room.{put_short, put_is}
-use Rattle.digits.proofs.Numerals.{length_numeral}
+use mathlib.Core.Path.{◌≡◌}
+use mathlib.Core.List.{◌++◌}
+use Prim.Native.Nat.{◌≤◌}
+use lib.ListN.{length, drop}
+use Rattle.digits.specs.Numbers.{decimals}
 use Rattle.digits.proofs.numbers.put_number.Given as goal
 
 abbrev pub invariant-loop-i : goal.invariant-loop-i
