@@ -14,7 +14,7 @@ use Rattle.permutation.specs.Strings.{string_of_words, words_of_string}
 use Rattle.ascon.specs.Sets.{row_of}
 use Rattle.ascon.specs.Mode.{p}
 use Rattle.ascon.specs.Bytewise.{At, at, steps}
-use Rattle.ascon.proofs.Bytewise.{steps_left, out_left, out_left}
+use Rattle.ascon.proofs.Bytewise.{steps_left, out_left, out_left_lem}
 use Rattle.sponge.specs.Sponge.{keep_of, absorbed, given, crypted, crypted_of}
 use Rattle.sponge.specs.Words.{stepped}
 use Rattle.sets.proofs.Rows.{row_sizes}
@@ -96,7 +96,7 @@ loop-again c =
       length-set l.out l.i c.step.result.gone ∙ l.invariant.4,
       ap₂ (λ (s : At) (y : ℕ). out_left row.block (p row.between) (keep_of a.way) s (l.i + 1) piece (set l.out l.i y))
           v.is (c.step.ensures.0 ∙ gone_view l.w l.place x)
-          ∙ out_left row.block (p row.between) (keep_of a.way) here l.i piece l.out h k
+          ∙ out_left_lem row.block (p row.between) (keep_of a.way) here l.i piece l.out h k
           ∙ l.invariant.5,
     )
 
