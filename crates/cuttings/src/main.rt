@@ -4,8 +4,10 @@
 
 ghost use Rattle.std.specs.Prelude.{◌≡◌, ◌<◌, ◌≤◌, length};
 
-use libc::STDOUT_FILENO;
 use stream::{Direction, Outcome, Stream};
+
+// The number of standard output.
+const STDOUT_FILENO: i32 = 1;
 
 // How many cuttings are tried in each set and direction.
 const CUTTINGS: usize = 216;

@@ -3,8 +3,10 @@
 // them, with their rounds. The file `stdout` holds the second program's answers.
 #![tactic(auto)]
 
-use libc::STDOUT_FILENO;
 use stream::{Direction, Outcome, Phase, Stream};
+
+// The number of standard output.
+const STDOUT_FILENO: i32 = 1;
 
 // The sets of starts: 1 to 4, and three numbers that no set has.
 const SETS: [u64; 7] = [1, 2, 3, 4, 5, 0, 4294967299];

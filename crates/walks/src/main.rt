@@ -2,8 +2,10 @@
 // Under another nonce both walks end with 9, and what the second one handed out was never verified. The file `stdout` holds the second program's answers.
 #![tactic(auto)]
 
-use libc::STDOUT_FILENO;
 use stream::{Direction, Outcome, Stream};
+
+// The number of standard output.
+const STDOUT_FILENO: i32 = 1;
 
 // The limit of the streams, which is the length of the order.
 const LIMIT: u64 = 1048576;
