@@ -21,7 +21,7 @@ use Rattle.lines.specs.Laws.{fits, plain, Fit, FoundIn, Either, OneFeed}
 use Rattle.lines.proofs.Rows.{Rows}
 use Rattle.lines.proofs.Laws.{reads_lines, some_line}
 use Rattle.lines.proofs.Names.{named_is, named_fit}
-use Rattle.lines.proofs.Found.{Telling, kind_telling, either_telling, one_found}
+use Rattle.lines.proofs.FoundLaws.{Telling, kind_telling, either_telling, one_found}
 use Rattle.chip_log.specs.declared.form.Call.{Call}
 use Rattle.chip_log.specs.declared.form.Call.TheVariants.{Start1, Start2, Ad, Text, Finish}
 use Rattle.chip_log.specs.declared.form.Entry.{Entry}

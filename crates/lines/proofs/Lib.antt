@@ -5,7 +5,7 @@ pub mod Grammar
 pub mod Numbers
 pub mod Hex
 pub mod Feeds
-pub mod Found
+pub mod FoundLaws
 pub mod Pairs
 pub mod Laws
 pub mod Walks

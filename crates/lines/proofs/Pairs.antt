@@ -2,7 +2,7 @@
 use mathlib.Core.Path.{◌≡◌, refl, sym, ap, ◌∙◌}
 use mathlib.Core.Bool.{Bool, true, false, cond, ◌&&◌, false≢true}
 use mathlib.Core.List.{List, [], ◌∷◌, ◌++◌}
-use Prim.Native.Nat.{ℕ, zero, suc, ◌+◌, ◌-◌, ◌*◌, ◌/◌, ◌%◌, ◌≤◌, ◌<◌}
+use Prim.Native.Nat.{ℕ, zero, suc, ◌+◌, ◌*◌, ◌/◌, ◌%◌, ◌≤◌, ◌<◌}
 use native.Mathlib.Numerals.{add-one}
 use native.Mathlib.Omega.{arith}
 use lib.Dec.{eqb, ltb}
@@ -75,9 +75,9 @@ module _ (kind : Kind) (least most : ℕ) (case : Case) (fit : Fit kind) (hex : 
       go false = refl
 
   -- a line feed behind an odd number of digits
-  feed_step : (k : ℕ) → k % 2 ≡ 1 → step_of kind (behind k) 0x0a ≡ Off
+  odd-feed_step : (k : ℕ) → k % 2 ≡ 1 → step_of kind (behind k) 0x0a ≡ Off
   unfolding step_of feed_step
-  feed_step k h = rw (le-ltb kind.name.size kind.name.size (omega arith), hex, ne_eqb (k % 2) 0 (omega arith))
+  odd-feed_step k h = rw (le-ltb kind.name.size kind.name.size (omega arith), hex, ne_eqb (k % 2) 0 (omega arith))
 
   -- a digit of bytes
   hex_step : (k v : ℕ) → k / 2 < most → v < 16 → step_of kind (behind k) (hex_digit_in case v) ≡ On (behind (k + 1))
@@ -139,7 +139,7 @@ module _ (kind : Kind) (least most : ℕ) (case : Case) (fit : Fit kind) (hex : 
         ∙ ap (λ (q : Step). after 1 (onward (behind (2 * length x + 1)) q (λ u. walk (step_of kind) u rest))) (at (eqb b 0x0a) refl)
       where
         at : (t : Bool) → eqb b 0x0a ≡ t → step_of kind (behind (2 * length x + 1)) b ≡ Off
-        at true g = let feed : b ≡ 0x0a = eqb-true b 0x0a g in rw feed (feed_step (2 * length x + 1) (omega arith))
+        at true g = let feed : b ≡ 0x0a = eqb-true b 0x0a g in rw feed (odd-feed_step (2 * length x + 1) (omega arith))
         at false g = digit_step (2 * length x + 1) b (omega arith) (eqb-false b 0x0a g) ∙ ap (goes_by (2 * length x + 1)) f
 
     -- the digit that the pair blames is the wrong character
