@@ -1,4 +1,4 @@
-// The permutation, and the reading of digits, through a plain C boundary, for the host's timing program.
+// The permutation, and the reading of digits, as the host's timing program calls them; `timing_c` exports both to C.
 #![tactic(auto)]
 
 ghost use Rattle.std.specs.Prelude.{◌≡◌};
@@ -8,8 +8,7 @@ use digits::Digit;
 use permutation::Run;
 
 // Runs twelve, or v1's eight or six rounds, on the words and gives their number; any other number of rounds gives 0 and leaves the words.
-#[unsafe(no_mangle)]
-pub extern "C" fn kvistmaur_permute(rounds: u64, words: &mut [u64; 5]) -> u64
+pub fn kvistmaur_permute(rounds: u64, words: &mut [u64; 5]) -> u64
     ensures { called result words.new ≡ permute_call rounds words.old }
 {
     if rounds == 12 {
@@ -28,8 +27,7 @@ pub extern "C" fn kvistmaur_permute(rounds: u64, words: &mut [u64; 5]) -> u64
 }
 
 // Puts the values of the digits at the front of a text in their places, up to the first character that is no digit, and gives how many they are.
-#[unsafe(no_mangle)]
-pub extern "C" fn kvistmaur_read_digits(text: &mut [u8]) -> u64
+pub fn kvistmaur_read_digits(text: &mut [u8]) -> u64
     ensures { called result text.new ≡ read_digits text.old }
 {
     let mut i = 0;
