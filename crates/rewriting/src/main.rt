@@ -5,8 +5,13 @@
 ghost use Rattle.std.specs.Prelude.{◌≡◌, ◌≤◌, length};
 ghost use Rattle.io.specs.Counts.{IsPrefixLen};
 
-use libc::STDOUT_FILENO;
 use record::{Field, Form, Record, Writing};
+
+// The number of standard input.
+const STDIN_FILENO: i32 = 0;
+
+// The number of standard output.
+const STDOUT_FILENO: i32 = 1;
 
 // How many places a record is written in: more than any record takes.
 const PLACES: usize = 1710;
@@ -211,6 +216,6 @@ fn rewrite_all(text: &[u8])
 
 fn main() {
     let mut text = io::large_buffer();
-    let end = io::read_full(libc::STDIN_FILENO, &mut text);
+    let end = io::read_full(STDIN_FILENO, &mut text);
     rewrite_all(&text[..end]);
 }
