@@ -8,8 +8,9 @@ use std::process::Command;
 /// Lays a repository out. A shell does it: a script that this process had open for writing could not be run by another thread's child.
 const LAY_OUT: &str = r#"set -e
 rm -rf "$1"
-mkdir -p "$1/host" "$1/crates" "$1/target/bin" "$1/target/stamp"
+mkdir -p "$1/host" "$1/crates/bench" "$1/target/bin" "$1/target/stamp"
 cp "$2" "$1/bench"
+cp "$4" "$1/host/build"
 printf '#!/bin/sh\n%s\n' "$3" >"$1/host/run"
 chmod +x "$1/host/run"
 for file in crates.txt target/bin/bench target/stamp/bench; do : >"$1/$file"; done"#;
@@ -34,6 +35,7 @@ pub fn lay_out(name: &str, script: &str) -> PathBuf {
     let mut shell = Command::new("sh");
     shell.args(["-c", LAY_OUT, "sh"]).arg(&folder);
     shell.arg(root().join("bench")).arg(script);
+    shell.arg(root().join("host/build"));
     let status = shell.status().expect("the shell starts");
     assert!(status.success(), "the repository can be laid out");
     folder.join("bench")

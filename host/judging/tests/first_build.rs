@@ -12,32 +12,37 @@ use std::time::Instant;
 /// A kit that proves two crates as the kit does: it says much of each, waits some seconds between them for the file `go`, and takes a stamp
 /// for a built program. With the file `wrong` it finds something wrong in the second, with the file `killed` it is killed there;
 /// with the file `refused` it does nothing.
-const KIT: &str = r#"echo "$@" >>asked
+const KIT: &str = r#"cd ../..
+echo "$@" >>asked
+exec >&2
 [ ! -f refused ] || {
-    echo 'rt: crates.txt: a line is wrong' >&2
+    echo 'rt: crates.txt: a line is wrong'
     exit 2
 }
 echo 'fn digits::put: proved'
+echo 'crate digits: modules loaded=0 checked=1'
 echo 'logic=proved functions=1'
-echo 'rt: digits proved (1 s)'
 waited=0
 while [ ! -f go ]; do
     [ $((waited += 1)) -lt 500 ] || exit 1
     sleep 0.01
 done
-[ ! -f target/stamp/bench ] || {
-    echo 'rt: bench proved (unchanged since it was last proved)'
+[ ! -f crates/bench/out/bench.stamp ] || {
+    echo 'rt: nothing has changed since the last proved build'
     exit 0
 }
-: >target/bin/bench
+: >crates/bench/out/bench
 echo 'fn bench::turn: a place to look at'
 [ ! -f wrong ] || {
-    echo 'rt: bench NOT PROVED (exit 1, 2 s)'
+    echo 'logic=not-proved'
     exit 1
 }
 [ ! -f killed ] || kill -s KILL $$
-echo 'rt: bench proved (2 s)'
-: >target/stamp/bench"#;
+echo 'crate bench: modules loaded=1 checked=1'
+echo 'logic=proved functions=1'
+echo 'rt: running out/bench'
+echo 'bench: 0 records: 0 equal, 0 differ, 0 unread'
+: >crates/bench/out/bench.stamp"#;
 
 /// What the command says when it begins to build.
 const BEGINS: &str =
@@ -102,7 +107,7 @@ impl Repository {
     /// Gives how often the kit was asked.
     fn asked(&self) -> usize {
         let asked = fs::read_to_string(self.0.join("asked")).unwrap_or_default();
-        assert!(asked.lines().all(|words| words == "check bench"), "{asked}");
+        assert!(asked.lines().all(|words| words == "run"), "{asked}");
         asked.lines().count()
     }
 }
@@ -155,11 +160,11 @@ fn it_says_what_it_proves() {
     let repository = Repository::fresh("says");
     let mut child = repository.start();
     let mut errors = BufReader::new(child.stderr.take().expect("a pipe"));
-    let first = lines_up_to(&mut errors, "rt: digits proved (1 s)\n");
-    assert_eq!(first, format!("{BEGINS}rt: digits proved (1 s)\n"));
+    let first = lines_up_to(&mut errors, "bench: digits is proved\n");
+    assert_eq!(first, format!("{BEGINS}bench: digits is proved\n"));
     repository.make("go");
     let said = rest(child, errors);
-    assert_eq!(said, format!("rt: bench proved (2 s)\n{END}"));
+    assert_eq!(said, format!("bench: bench is proved\n{END}"));
     for _ in 0..2 {
         assert_eq!(repository.run(), (Some(1), END.to_string()));
     }
@@ -172,12 +177,12 @@ fn two_at_once() {
     let repository = Repository::fresh("two");
     let mut one = repository.start();
     let mut of_one = BufReader::new(one.stderr.take().expect("a pipe"));
-    lines_up_to(&mut of_one, "rt: digits proved (1 s)\n");
+    lines_up_to(&mut of_one, "bench: digits is proved\n");
     let mut other = repository.start();
     let mut of_other = BufReader::new(other.stderr.take().expect("a pipe"));
     assert_eq!(lines_up_to(&mut of_other, WAITS), WAITS);
     repository.make("go");
-    assert_eq!(rest(one, of_one), format!("rt: bench proved (2 s)\n{END}"));
+    assert_eq!(rest(one, of_one), format!("bench: bench is proved\n{END}"));
     assert_eq!(rest(other, of_other), END);
     assert_eq!(repository.asked(), 1);
 }
@@ -202,11 +207,11 @@ fn a_check_that_fails() {
     let repository = Repository::fresh("fails");
     repository.make("go");
     repository.make("wrong");
-    let shown = "fn bench::turn: a place to look at\nrt: bench NOT PROVED (exit 1, 2 s)\n";
+    let shown = "fn bench::turn: a place to look at\nlogic=not-proved\n";
     for asked in 1..=2 {
         let (status, said) = repository.run();
         assert_eq!(status, Some(2));
-        let wanted = format!("{BEGINS}rt: digits proved (1 s)\n{shown}{NOT_BUILT}");
+        let wanted = format!("{BEGINS}bench: digits is proved\n{shown}{NOT_BUILT}");
         assert_eq!((said, repository.asked()), (wanted, asked));
     }
     repository.shell("rm wrong", "sh");
@@ -217,7 +222,7 @@ fn a_check_that_fails() {
         assert_eq!(repository.run(), (Some(2), wanted));
         assert_eq!(repository.asked(), asked);
     }
-    repository.shell("rm refused target/stamp/bench; : >wrong", "sh");
+    repository.shell("rm refused target/stamp/bench crates/bench/out/bench.stamp; : >wrong", "sh");
     assert_eq!(repository.run().0, Some(2));
     assert_eq!(repository.asked(), 6);
 }
@@ -258,7 +263,7 @@ fn what_has_changed() {
 /// Says that a missing tool, list or folder of crates is status 2, and says what is missing.
 #[test]
 fn what_is_missing() {
-    let tools = r#"for tool in sh readlink dirname find date touch rm flock sleep; do ln -s "$(command -v "$tool")" kit; done"#;
+    let tools = r#"for tool in sh readlink dirname find date touch rm flock sleep cp mkdir; do ln -s "$(command -v "$tool")" kit; done"#;
     let mut ran = 0;
     for missing in ["kit/rt", "kit/flock", "crates.txt", "crates"] {
         let name = missing.replace('/', "-");
