@@ -2,7 +2,7 @@
 use std::path::Path;
 use std::process::Command;
 
-/// Links the static library `library`, which `host/archive` writes of the Rattle crate `name`. The copy outlives the library, which `rt ci` removes with its other results.
+/// Links the static library `library`, which `host/archive` writes of the Rattle crate `name`. The copy outlives the library, which the next `host/archive` writes anew.
 pub fn archive(name: &str, library: &str) {
     let host = Path::new(env!("CARGO_MANIFEST_DIR")).join("..");
     let status = Command::new(host.join("archive")).arg(name).status();
@@ -17,8 +17,18 @@ pub fn archive(name: &str, library: &str) {
         Path::new(&out).join(&file),
     )
     .expect("the library can be copied");
-    for source in ["archive", "../crates", "../crates.txt"] {
+    for source in ["archive", "../crates.txt"] {
         println!("cargo:rerun-if-changed={}", host.join(source).display());
+    }
+    // The kit's own folder in a crate changes with each check.
+    let crates = std::fs::read_dir(host.join("../crates")).expect("the folder of crates");
+    for folder in crates {
+        let folder = folder.expect("a crate").path();
+        for part in ["src", "specs", "proofs"].map(|part| folder.join(part)) {
+            if part.exists() {
+                println!("cargo:rerun-if-changed={}", part.display());
+            }
+        }
     }
     println!("cargo:rustc-link-search=native={out}");
     println!("cargo:rustc-link-lib=static={library}");
