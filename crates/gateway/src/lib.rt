@@ -1,5 +1,5 @@
-// The C boundary: whole messages here, and in `streams` streams whose state the caller keeps in an area of bytes. Each slice crosses as a pointer and a length; the
-// answer and the rounds come back in one word.
+// What crosses the C boundary, which `gateway_c` exports: whole messages here, and in `streams` streams whose state the caller keeps in an area of bytes. Each slice crosses
+// as a pointer and a length; the answer and the rounds come back in one word.
 #![tactic(auto)]
 
 mod area;
@@ -18,8 +18,7 @@ pub use streams::{
 };
 
 // Seals a message.
-#[unsafe(no_mangle)]
-pub extern "C" fn kvistmaur_seal(
+pub fn kvistmaur_seal(
     set: u64,
     key: &[u8],
     nonce: &[u8],
@@ -38,8 +37,7 @@ pub extern "C" fn kvistmaur_seal(
 }
 
 // Opens a message.
-#[unsafe(no_mangle)]
-pub extern "C" fn kvistmaur_open(
+pub fn kvistmaur_open(
     set: u64,
     key: &[u8],
     nonce: &[u8],

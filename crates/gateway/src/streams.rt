@@ -48,8 +48,7 @@ fn start(
 }
 
 // Starts a sealing.
-#[unsafe(no_mangle)]
-pub extern "C" fn kvistmaur_start_sealing(
+pub fn kvistmaur_start_sealing(
     set: u64,
     limit: u64,
     key: &[u8],
@@ -62,8 +61,7 @@ pub extern "C" fn kvistmaur_start_sealing(
 }
 
 // Starts a checking.
-#[unsafe(no_mangle)]
-pub extern "C" fn kvistmaur_start_checking(
+pub fn kvistmaur_start_checking(
     set: u64,
     limit: u64,
     key: &[u8],
@@ -76,8 +74,7 @@ pub extern "C" fn kvistmaur_start_checking(
 }
 
 // Starts an opening.
-#[unsafe(no_mangle)]
-pub extern "C" fn kvistmaur_start_opening(
+pub fn kvistmaur_start_opening(
     set: u64,
     limit: u64,
     key: &[u8],
@@ -90,8 +87,7 @@ pub extern "C" fn kvistmaur_start_opening(
 }
 
 // Takes a piece of the associated data, in every direction.
-#[unsafe(no_mangle)]
-pub extern "C" fn kvistmaur_stream_data(state: &mut [u8], ad: &[u8]) -> u64
+pub fn kvistmaur_stream_data(state: &mut [u8], ad: &[u8]) -> u64
     ensures { left result state.new ≡ ad_on state.old ad.now }
 {
     if !area::is_spelling(&*state) {
@@ -102,8 +98,7 @@ pub extern "C" fn kvistmaur_stream_data(state: &mut [u8], ad: &[u8]) -> u64
 }
 
 // Seals a piece of the text into `out`.
-#[unsafe(no_mangle)]
-pub extern "C" fn kvistmaur_stream_seal(state: &mut [u8], text: &[u8], out: &mut [u8]) -> u64
+pub fn kvistmaur_stream_seal(state: &mut [u8], text: &[u8], out: &mut [u8]) -> u64
     ensures { left_lent result state.new out.new ≡ text_on Sealing state.old text.now out.old }
 {
     if !area::is_spelling(&*state) {
@@ -115,8 +110,7 @@ pub extern "C" fn kvistmaur_stream_seal(state: &mut [u8], text: &[u8], out: &mut
 }
 
 // Takes a piece of the ciphertext, to be checked.
-#[unsafe(no_mangle)]
-pub extern "C" fn kvistmaur_stream_check(state: &mut [u8], cipher: &[u8]) -> u64
+pub fn kvistmaur_stream_check(state: &mut [u8], cipher: &[u8]) -> u64
     ensures { left_lent result state.new [] ≡ text_on Checking state.old cipher.now [] }
 {
     if !area::is_spelling(&*state) {
@@ -127,8 +121,7 @@ pub extern "C" fn kvistmaur_stream_check(state: &mut [u8], cipher: &[u8]) -> u64
 }
 
 // Opens a piece of the ciphertext into `out`. What stands there is unverified until `kvistmaur_finish_opening` says done, and a 9 does not take it back.
-#[unsafe(no_mangle)]
-pub extern "C" fn kvistmaur_stream_open(state: &mut [u8], cipher: &[u8], out: &mut [u8]) -> u64
+pub fn kvistmaur_stream_open(state: &mut [u8], cipher: &[u8], out: &mut [u8]) -> u64
     ensures { left_lent result state.new out.new ≡ text_on Opening state.old cipher.now out.old }
 {
     if !area::is_spelling(&*state) {
@@ -140,8 +133,7 @@ pub extern "C" fn kvistmaur_stream_open(state: &mut [u8], cipher: &[u8], out: &m
 }
 
 // Ends a sealing: the tag.
-#[unsafe(no_mangle)]
-pub extern "C" fn kvistmaur_finish_sealing(state: &mut [u8], tag: &mut [u8]) -> u64
+pub fn kvistmaur_finish_sealing(state: &mut [u8], tag: &mut [u8]) -> u64
     ensures { left_lent result state.new tag.new ≡ finish_on Sealing state.old tag.old }
 {
     if !area::is_spelling(&*state) {
@@ -153,8 +145,7 @@ pub extern "C" fn kvistmaur_finish_sealing(state: &mut [u8], tag: &mut [u8]) -> 
 }
 
 // Ends a checking: whether the tag is the right one.
-#[unsafe(no_mangle)]
-pub extern "C" fn kvistmaur_finish_checking(state: &mut [u8], tag: &[u8]) -> u64
+pub fn kvistmaur_finish_checking(state: &mut [u8], tag: &[u8]) -> u64
     ensures { left_lent result state.new tag.now ≡ finish_on Checking state.old tag.now }
 {
     if !area::is_spelling(&*state) {
@@ -165,8 +156,7 @@ pub extern "C" fn kvistmaur_finish_checking(state: &mut [u8], tag: &[u8]) -> u64
 }
 
 // Ends an opening: whether the tag is the right one; where it is, what was handed out is the plaintext.
-#[unsafe(no_mangle)]
-pub extern "C" fn kvistmaur_finish_opening(state: &mut [u8], tag: &[u8]) -> u64
+pub fn kvistmaur_finish_opening(state: &mut [u8], tag: &[u8]) -> u64
     ensures { left_lent result state.new tag.now ≡ finish_on Opening state.old tag.now }
 {
     if !area::is_spelling(&*state) {
@@ -177,8 +167,7 @@ pub extern "C" fn kvistmaur_finish_opening(state: &mut [u8], tag: &[u8]) -> u64
 }
 
 // Ends a stream without a tag: the area holds the ended state, and no key.
-#[unsafe(no_mangle)]
-pub extern "C" fn kvistmaur_stream_end(state: &mut [u8]) -> u64
+pub fn kvistmaur_stream_end(state: &mut [u8]) -> u64
     ensures { left result state.new ≡ end_on state.old }
 {
     if state.len() != area::LENGTH {
