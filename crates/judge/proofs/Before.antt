@@ -19,13 +19,13 @@ use Rattle.judge.proofs.Verdicts.{equal_agrees}
 
 -- a byte before a proper beginning
 longer : (a b : ℕ) (text other : List ℕ) → a ≡ b → ProperBeginning text other → ProperBeginning (a ∷ text) (b ∷ other)
-longer a b text other same p = record { rest = p.rest; more = p.more; goes_on_lem = λ j. same j ∷ p.goes_on_lem j }
+longer a b text other same p = record { rest = p.rest; more = p.more; goes_on = λ j. same j ∷ p.goes_on j }
 
 -- texts that were called equal and differ are such
 was_equal : (wanted found : List ℕ) → equal_before wanted found ≡ true → differ wanted found ≡ true → ProperBeginning wanted found ⊎ ProperBeginning found wanted
 was_equal [] [] e d = absurd (true≢false (sym d))
-was_equal [] (b ∷ found) e d = inl (record { rest = b ∷ found; more = omega arith; goes_on_lem = refl })
-was_equal (a ∷ wanted) [] e d = inr (record { rest = a ∷ wanted; more = omega arith; goes_on_lem = refl })
+was_equal [] (b ∷ found) e d = inl (record { rest = b ∷ found; more = omega arith; goes_on = refl })
+was_equal (a ∷ wanted) [] e d = inr (record { rest = a ∷ wanted; more = omega arith; goes_on = refl })
 was_equal (a ∷ wanted) (b ∷ found) e d = go (eqb a b) refl (was_equal wanted found) e d
   where
     go : (t : Bool) → eqb a b ≡ t → (equal_before wanted found ≡ true → differ wanted found ≡ true → ProperBeginning wanted found ⊎ ProperBeginning found wanted)
@@ -49,7 +49,7 @@ no_tail_before (a ∷ text) rest = rw (eq-eqb a a refl, no_tail_before text rest
 
 -- a wanted text that is a proper beginning was called equal, and differs
 found_is_longer : (wanted found : List ℕ) → ProperBeginning wanted found → (equal_before wanted found ≡ true) × (differ wanted found ≡ true)
-found_is_longer wanted found p = subst (λ (x : List ℕ). (equal_before wanted x ≡ true) × (differ wanted x ≡ true)) p.goes_on_lem (go p.rest p.more)
+found_is_longer wanted found p = subst (λ (x : List ℕ). (equal_before wanted x ≡ true) × (differ wanted x ≡ true)) p.goes_on (go p.rest p.more)
   where
     go : (rest : List ℕ) → 1 ≤ length rest → (equal_before wanted (wanted ++ rest) ≡ true) × (differ wanted (wanted ++ rest) ≡ true)
     go [] more = absurd (omega arith)
@@ -57,7 +57,7 @@ found_is_longer wanted found p = subst (λ (x : List ℕ). (equal_before wanted 
 
 -- so was a found text that is one, and it differs
 wanted_is_longer : (wanted found : List ℕ) → ProperBeginning found wanted → (equal_before wanted found ≡ true) × (differ wanted found ≡ true)
-wanted_is_longer wanted found p = subst (λ (x : List ℕ). (equal_before x found ≡ true) × (differ x found ≡ true)) p.goes_on_lem (go p.rest p.more)
+wanted_is_longer wanted found p = subst (λ (x : List ℕ). (equal_before x found ≡ true) × (differ x found ≡ true)) p.goes_on (go p.rest p.more)
   where
     go : (rest : List ℕ) → 1 ≤ length rest → (equal_before (found ++ rest) found ≡ true) × (differ (found ++ rest) found ≡ true)
     go [] more = absurd (omega arith)
@@ -88,7 +88,7 @@ no_tail wanted found e = go (tail_before wanted found) (eqb-true (length (tail_b
 
 -- a found text that is a proper beginning has an empty part
 cut_part : (wanted found : List ℕ) → ProperBeginning found wanted → (first_difference wanted found).part ≡ []
-cut_part wanted found p = subst (λ (x : List ℕ). (first_difference x found).part ≡ []) p.goes_on_lem (go p.rest p.more)
+cut_part wanted found p = subst (λ (x : List ℕ). (first_difference x found).part ≡ []) p.goes_on (go p.rest p.more)
   where
     go : (rest : List ℕ) → 1 ≤ length rest → (first_difference (found ++ rest) found).part ≡ []
     go [] more = absurd (omega arith)
@@ -96,7 +96,7 @@ cut_part wanted found p = subst (λ (x : List ℕ). (first_difference x found).p
 
 -- a wanted text that is one leaves the rest of the found text
 rest_part : (wanted found : List ℕ) (p : ProperBeginning wanted found) → (first_difference wanted found).part ≡ p.rest
-rest_part wanted found p = subst (λ (x : List ℕ). (first_difference wanted x).part ≡ p.rest) p.goes_on_lem (go p.rest p.more)
+rest_part wanted found p = subst (λ (x : List ℕ). (first_difference wanted x).part ≡ p.rest) p.goes_on (go p.rest p.more)
   where
     go : (rest : List ℕ) → 1 ≤ length rest → (first_difference wanted (wanted ++ rest)).part ≡ rest
     go [] more = absurd (omega arith)

@@ -4,7 +4,7 @@ use Rattle.judge.proofs.Differences.{tells, behind_common}
 use Rattle.judge.proofs.Verdicts.{equal_agrees, agrees_equal, other_cipher, read_verdict, unread_verdict, report_short, no_chip}
 use Rattle.judge.proofs.Windows.{final_window, final_step}
 use Rattle.judge.proofs.Sizes.{step_inside, short_window, step_waits}
-use Rattle.judge.proofs.Outputs.{no_output, goes_on_lem, stops, in_a_row, wrong_verdict}
+use Rattle.judge.proofs.Outputs.{no_output, goes_on, stops, in_a_row, wrong_verdict}
 
 -- judging promises it all
 pub judges : Judges
@@ -23,7 +23,7 @@ judges =
       unread = unread_verdict;
       short = report_short;
       nothing = no_output;
-      goes_on_lem = goes_on_lem;
+      goes_on = goes_on;
       stops = stops;
       in_a_row = in_a_row;
       chip = no_chip;

@@ -73,10 +73,10 @@ unfolding output_from
 no_output number = rw no_verdicts
 
 -- a record that is read gives its report, and then what is left gives its own
-pub goes_on_lem : (number : ℕ) (text : List ℕ) → (read_any text).answer ≡ Done
+pub goes_on : (number : ℕ) (text : List ℕ) → (read_any text).answer ≡ Done
     → output_from number text ≡ report_text number (verdict_read (read_any text)) ++ output_from (number + 1) (drop (read_any text).taken text)
 unfolding output_from
-goes_on_lem number text d =
+goes_on number text d =
     let b = any_inside text d in
     rw (verdicts_step text (omega arith), d)
 

@@ -36,7 +36,7 @@ verdict_before r =
 pub record ProperBeginning (text longer : List ℕ) : Type 0 where
   pub rest : List ℕ
   pub more : 1 ≤ length rest
-  pub goes_on_lem : text ++ rest ≡ longer
+  pub goes_on : text ++ rest ≡ longer
 
 -- of two texts
 pub record TwoRules (wanted found : List ℕ) : Type 0 where

@@ -109,7 +109,7 @@ pub record Judges : Type 0 where
   -- the output of no input is nothing
   pub nothing : (number : ℕ) → output_from number [] ≡ []
   -- a record that is read gives its report, and then what is left gives its own
-  pub goes_on_lem : (number : ℕ) (text : List ℕ) → (read_any text).answer ≡ Done
+  pub goes_on : (number : ℕ) (text : List ℕ) → (read_any text).answer ≡ Done
       → output_from number text ≡ report_text number (verdict_read (read_any text)) ++ output_from (number + 1) (drop (read_any text).taken text)
   -- a record that can not be read is the last
   pub stops : (number : ℕ) (text : List ℕ) → 1 ≤ length text → (read_any text).answer ≡ BrokenRecord

@@ -19,7 +19,7 @@ module _ {right : List ℕ → Type 0} where
       sym (append_assoc (take m text) (drop m (take n text)) v.rest)
       ∙ ap (λ (x : List ℕ). (x ++ drop m (take n text)) ++ v.rest) (sym (take-take m n text h))
       ∙ ap (λ (x : List ℕ). x ++ v.rest) (take-append-drop m (take n text)) in
-      record { rest = drop m (take n text) ++ v.rest; goes_on_lem = rw whole v.goes_on_lem }
+      record { rest = drop m (take n text) ++ v.rest; goes_on = rw whole v.goes_on }
 
   -- no column lies before another
   not_before : (text : List ℕ) (c d : ℕ) → LeavesAt right text c → LeavesAt right text d → c < d → ⊥
@@ -50,7 +50,7 @@ module _ {right : List ℕ → Type 0} where
           let k : size ≤ c = leb-true size c f in
           p.none size (record { inside = omega arith; whole = rw (up_to size k) at b.whole })
       short size b false f =
-          let whole : Viable right (take size other) = record { rest = []; goes_on_lem = rw (append-nil (take size other)) b.whole } in
+          let whole : Viable right (take size other) = record { rest = []; goes_on = rw (append-nil (take size other)) b.whole } in
           p.at h (rw e at (viable_shorter other c size (omega (arith, leb-false size c f)) whole))
 
 -- sets of the same lines are left at the same column
@@ -59,6 +59,6 @@ same_lines text c f p = record {
   none = λ size b. p.none size (record { inside = b.inside; whole = (f _).1 b.whole });
   first = p.first;
   inside = p.inside;
-  before = record { rest = p.before.rest; goes_on_lem = (f _).0 p.before.goes_on_lem };
-  at = λ h v. p.at h (record { rest = v.rest; goes_on_lem = (f _).1 v.goes_on_lem });
+  before = record { rest = p.before.rest; goes_on = (f _).0 p.before.goes_on };
+  at = λ h v. p.at h (record { rest = v.rest; goes_on = (f _).1 v.goes_on });
 }

@@ -87,7 +87,7 @@ module _ (right : List ℕ → Type 0) (feeds : OneFeed right) where
       let v = w.before in
       let whole : take (c - 1) text ++ v.rest ≡ l ++ 0x0a ∷ (take j more ++ v.rest) =
       ap (λ (x : List ℕ). x ++ v.rest) begun ∙ append_assoc l (0x0a ∷ take j more) v.rest in
-      let line : right (l ++ 0x0a ∷ (take j more ++ v.rest)) = rw whole at v.goes_on_lem in
+      let line : right (l ++ 0x0a ∷ (take j more ++ v.rest)) = rw whole at v.goes_on in
       let over : take j more ++ v.rest ≡ [] = feeds l (take j more ++ v.rest) line in
       let first : take (length l + 1) text ≡ l ++ 0x0a ∷ [] = rw (← one, e) (take-append-add l (0x0a ∷ more) 1) in
       w.none (length l + 1) (record {

@@ -151,10 +151,10 @@ module _ (kind : Kind) (ok : ℕ → ℕ → Type 0) (tail : ℕ → ℕ → Lis
       go false e = behind (eqb c 0x0a) refl (ltb-false _ _ e)
 
   alive : (p k n : ℕ) (b : Bool) → ok k n → Viable (Lines (left (standing p k n b))) []
-  alive p k n true o = record { rest = []; goes_on_lem = (n, (refl, refl)) }
+  alive p k n true o = record { rest = []; goes_on = (n, (refl, refl)) }
   alive p k n false o =
       let a = g.alive k n o in
-      record { rest = drop p (name_of kind) ++ (a.0 ++ 0x0a ∷ []); goes_on_lem = (a.1, (a.0, refl, a.2)) }
+      record { rest = drop p (name_of kind) ++ (a.0 ++ 0x0a ∷ []); goes_on = (a.1, (a.0, refl, a.2)) }
 
   -- a line feed is still to come
   not_over : (x ds : List ℕ) → [] ≡ x ++ (ds ++ 0x0a ∷ []) → ⊥

@@ -45,8 +45,8 @@ fixed_grammar own = record {
 rename : (left right : List ℕ → ℕ → Type 0) → ((line : List ℕ) (says : ℕ) → left line says ↔ right line says) → (text : List ℕ) (w : Walk) → Reached left text w → Reached right text w
 rename left right f text w r = record {
   inside = r.inside;
-  before = record { rest = r.before.rest; goes_on_lem = (r.before.goes_on_lem.0, (f _ _).0 r.before.goes_on_lem.1) };
-  beyond = λ h v. r.beyond h (record { rest = v.rest; goes_on_lem = (v.goes_on_lem.0, (f _ _).1 v.goes_on_lem.1) });
+  before = record { rest = r.before.rest; goes_on = (r.before.goes_on.0, (f _ _).0 r.before.goes_on.1) };
+  beyond = λ h v. r.beyond h (record { rest = v.rest; goes_on = (v.goes_on.0, (f _ _).1 v.goes_on.1) });
   whole = λ e. (f _ _).0 (r.whole e);
   over = λ size says h l. r.over size says h ((f _ _).1 l);
 }
@@ -70,7 +70,7 @@ stops kind text fit = go kind.value refl fit.valued
 
 -- there is a right line of each kind that fits
 pub some_line : (kind : Kind) → Fit kind → (line : List ℕ) × (says : ℕ) × Right kind line says
-some_line kind fit = let v = (stops kind [] fit).before in (v.rest, v.goes_on_lem.0, v.goes_on_lem.1)
+some_line kind fit = let v = (stops kind [] fit).before in (v.rest, v.goes_on.0, v.goes_on.1)
 
 -- ---- the law
 
@@ -113,10 +113,10 @@ module _ (left right : List ℕ → ℕ → Type 0) (text : List ℕ) where
         b.whole.1;
     first = p.first;
     inside = p.inside;
-    before = record { rest = p.before.rest; goes_on_lem = (p.before.goes_on_lem.0, inl p.before.goes_on_lem.1) };
+    before = record { rest = p.before.rest; goes_on = (p.before.goes_on.0, inl p.before.goes_on.1) };
     at = λ k v.
-        ⊎_elim (λ l. p.at k (record { rest = v.rest; goes_on_lem = (v.goes_on_lem.0, l) }))
-        (λ l. q.at (omega arith) (viable_shorter {right = Lines right} text d c h (record { rest = v.rest; goes_on_lem = (v.goes_on_lem.0, l) }))) v.goes_on_lem.1;
+        ⊎_elim (λ l. p.at k (record { rest = v.rest; goes_on = (v.goes_on.0, l) }))
+        (λ l. q.at (omega arith) (viable_shorter {right = Lines right} text d c h (record { rest = v.rest; goes_on = (v.goes_on.0, l) }))) v.goes_on.1;
   }
 
 -- the lines of two kinds in either order

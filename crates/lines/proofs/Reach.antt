@@ -58,13 +58,13 @@ module _ (step : State → ℕ → Step) (good : State → Type 0) (left : State
           let later : (size says : ℕ) → size ≤ suc (length text) → left s (take size (c ∷ text)) says
           → (w.state.ended ≡ true) × (size ≡ suc w.passed) × (says ≡ w.state.number) =
           elim [
-            | zero ↦ λ says h l. absurd (f.last s c _ _ ((f.end s says).1 l).0 ((o.1 _ _).1 (f.alive t o.0).goes_on_lem.1))
+            | zero ↦ λ says h l. absurd (f.last s c _ _ ((f.end s says).1 l).0 ((o.1 _ _).1 (f.alive t o.0).goes_on.1))
             | suc size ↦ λ says h l. let v = r.over size says (omega arith) ((o.1 _ _).0 l) in (v.0, omega (arith, v.1), v.2)
           ] in
           record {
             inside = omega (arith, r.inside);
-            before = record { rest = r.before.rest; goes_on_lem = (r.before.goes_on_lem.0, (o.1 _ _).1 r.before.goes_on_lem.1) };
-            beyond = λ h v. r.beyond (omega arith) (record { rest = v.rest; goes_on_lem = (v.goes_on_lem.0, (o.1 _ _).0 v.goes_on_lem.1) });
+            before = record { rest = r.before.rest; goes_on = (r.before.goes_on.0, (o.1 _ _).1 r.before.goes_on.1) };
+            beyond = λ h v. r.beyond (omega arith) (record { rest = v.rest; goes_on = (v.goes_on.0, (o.1 _ _).0 v.goes_on.1) });
             whole = λ k. (o.1 _ _).1 (r.whole k);
             over = later;
           }
@@ -77,7 +77,7 @@ module _ (step : State → ℕ → Step) (good : State → Type 0) (left : State
           record {
             inside = omega arith;
             before = f.alive s g;
-            beyond = λ h v. o v.rest v.goes_on_lem.0 v.goes_on_lem.1;
+            beyond = λ h v. o v.rest v.goes_on.0 v.goes_on.1;
             whole = λ k. (f.end s s.number).0 (k, refl);
             over = here;
           }

@@ -173,16 +173,16 @@ module _ {E C R A : Type 0}
           ∙ rw (← late) (sym b.refused)
 
   -- one that did goes on to a thing
-  goes_on_lem : (text : List ℕ) → early (reading text) ≡ true → (more : List ℕ) × Begun InForm text_of (text ++ more)
-  goes_on_lem text e =
+  goes_on : (text : List ℕ) → early (reading text) ≡ true → (more : List ℕ) × Begun InForm text_of (text ++ more)
+  goes_on text e =
       let b = early_stopped text e in
       let soon : b.soon ≡ true = sym b.holds.3 ∙ e in
-      texts.goes_on_lem answers.table text b.at_line b.at_column (rw soon at b.is)
+      texts.goes_on answers.table text b.at_line b.at_column (rw soon at b.is)
 
   -- a text ended too early exactly where it does not begin with a thing, and some more of it makes it begin with one
   pub ended_early : (text : List ℕ) → (early (reading text) ≡ true) ↔ ((Begun InForm text_of text → ⊥) × ((more : List ℕ) × Begun InForm text_of (text ++ more)))
   ended_early text = (
-    λ e. (λ b. false≢true (sym (begun_holds text b).1 ∙ e), goes_on_lem text e),
+    λ e. (λ b. false≢true (sym (begun_holds text b).1 ∙ e), goes_on text e),
     λ (none, (more, b)). go (early (reading text)) refl none more b,
   )
     where

@@ -232,14 +232,14 @@ module _ {E : Type 0} (read_at : ℕ → E → List ℕ → Found) (given : ℕ 
             let past : length x < column = ltb-true (length x) column (sym s.over) in
             let all : take (column - 1) x ≡ x = take_all (column - 1) x (omega arith) in
             let v = wrong.before in
-            let next : right_at bad s.last (x ++ v.rest) v.goes_on_lem.0 = rw all at v.goes_on_lem.1 in
+            let next : right_at bad s.last (x ++ v.rest) v.goes_on.0 = rw all at v.goes_on.1 in
             let r = read_before s.before text v.rest s.end s.last s.read in
             let behind : drop s.end (text ++ v.rest) ≡ x ++ v.rest = drop-append-le s.end text v.rest r.0 in
-            let f : read_at bad s.last (x ++ v.rest) ≡ Line (length (x ++ v.rest)) v.goes_on_lem.0 =
-            only bad s.last (x ++ v.rest) (Line (length (x ++ v.rest)) v.goes_on_lem.0) (omega arith, rw (take-length (x ++ v.rest)) next) in
+            let f : read_at bad s.last (x ++ v.rest) ≡ Line (length (x ++ v.rest)) v.goes_on.0 =
+            only bad s.last (x ++ v.rest) (Line (length (x ++ v.rest)) v.goes_on.0) (omega arith, rw (take-length (x ++ v.rest)) next) in
             let size : s.end + length (x ++ v.rest) ≡ length (text ++ v.rest) =
             omega (arith, length-append x v.rest, length-append text v.rest, length-drop s.end text, r.0) in
-            let here = read_more_lem s.before s.end s.last (text ++ v.rest) (length (x ++ v.rest)) v.goes_on_lem.0 r.1 (rw (behind, ← s.number) f) in
+            let here = read_more_lem s.before s.end s.last (text ++ v.rest) (length (x ++ v.rest)) v.goes_on.0 r.1 (rw (behind, ← s.number) f) in
             let c = completed (n - suc s.before) (suc s.before) (text ++ v.rest) _ (rw size at here) in
             let count : n - suc s.before + suc s.before ≡ n = omega (arith, s.fewer) in
             (v.rest ++ c.0, c.1, rw (← append_assoc text v.rest c.0) (rw count at c.2))

@@ -238,7 +238,7 @@ module _ {E C : Type 0}
   broken_decided text more line column e = broken_before read_at given 1 nothing right_at table.told table.only last text more line column e
 
   -- and a text that ended too early goes on to a thing
-  pub goes_on_lem : (text : List ℕ) (line column : ℕ) → outcome text ≡ broken_at line column true → (more : List ℕ) × Begun InForm text_of (text ++ more)
-  goes_on_lem text line column e =
+  pub goes_on : (text : List ℕ) (line column : ℕ) → outcome text ≡ broken_at line column true → (more : List ℕ) × Begun InForm text_of (text ++ more)
+  goes_on text line column e =
       let m = mended read_at given 1 nothing right_at table.told table.only table.some last text line column e in
       (m.0, whole_begun (text ++ m.0) (length (text ++ m.0)) m.1 m.2)

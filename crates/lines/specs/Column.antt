@@ -4,7 +4,7 @@ use Rattle.std.specs.Prelude.{cond, List, [], ◌∷◌, ◌++◌, ℕ, ◌+◌,
 -- a text is the beginning of some right line
 pub record Viable (right : List ℕ → Type 0) (text : List ℕ) : Type 0 where
   pub rest : List ℕ
-  pub goes_on_lem : right (text ++ rest)
+  pub goes_on : right (text ++ rest)
 
 -- a text begins with a right line of so many characters
 pub record Begins (right : List ℕ → Type 0) (text : List ℕ) (size : ℕ) : Type 0 where

@@ -279,9 +279,9 @@ module _ (form : Form) where
     content : Record
     read : AllRead (text ++ rest) (length (text ++ rest)) content
 
-  goes_on_lem : (text : List ℕ) → (read_call form text).early ≡ true → Mended text
+  goes_on : (text : List ℕ) → (read_call form text).early ≡ true → Mended text
   unfolding refused_at read_as
-  goes_on_lem text e = go (ended text)
+  goes_on text e = go (ended text)
     where
       broken_so : (line column : ℕ) (early : Bool) → early ≡ true → Broken text line column early → Mended text
       broken_so line column false f b = absurd (false≢true f)
@@ -298,7 +298,7 @@ module _ (form : Form) where
   unfolding read_as
   early_exactly text = (
     λ e.
-        let m = goes_on_lem text e in (
+        let m = goes_on text e in (
           λ b. false≢true (sym (ap (λ (r : Reading). r.early) (read_is text _ (begun_read form (lines_in form) (omega arith) text b))) ∙ e),
           (m.rest, (exactly (text ++ m.rest)).0 (ap (λ (r : Reading). r.answer) m.read.read)),
         ),
@@ -323,7 +323,7 @@ module _ (form : Form) where
   short text e = go m.rest refl
     where
       m : Mended text
-      m = goes_on_lem text e
+      m = goes_on text e
 
       go : (rest : List ℕ) → m.rest ≡ rest → length text < (most_bytes form)
       go [] f =

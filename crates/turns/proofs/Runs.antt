@@ -436,8 +436,8 @@ goes_farther r had wrote said input n k a = go (is_reading r.stage) refl
         (arith, length-append had [], length-append wrote (output_at r.stage bytes), length-append said (error_at r.stage bytes), moved_all_lem r.stage writing bytes, some_taken n r.left (k.leaves (writing_leaves r.stage writing))))
 
 -- a signal takes it no way back
-goes_on_lem : (r : Standing) (had wrote said : List ℕ) → far r.ended had wrote said ≤ far (turned r Again).ended (had ++ []) (wrote ++ to_output r Again) (said ++ to_error r Again)
-goes_on_lem r had wrote said =
+goes_on : (r : Standing) (had wrote said : List ℕ) → far r.ended had wrote said ≤ far (turned r Again).ended (had ++ []) (wrote ++ to_output r Again) (said ++ to_error r Again)
+goes_on r had wrote said =
     rw (turned_ended r Again) (omega (arith, length-append had [], length-append wrote (output_at r.stage []), length-append said (error_at r.stage [])))
 
 -- a run that has come so far as is enough has said the end
@@ -505,7 +505,7 @@ advances : (r : Standing) (had wrote said input : List ℕ) → Keeps r had wrot
     × (far r.ended had wrote said + moves (choice ∷ choices)
     ≤ far (turned r reply).ended (had ++ from_input r reply) (wrote ++ to_output r reply) (said ++ to_error r reply) + moves choices)
 advances r had wrote said input k asked (Moves n) choices e = (refl, e, omega (arith, goes_farther r had wrote said input n k asked))
-advances r had wrote said input k asked Interrupts choices e = (refl, e, omega (arith, goes_on_lem r had wrote said))
+advances r had wrote said input k asked Interrupts choices e = (refl, e, omega (arith, goes_on r had wrote said))
 advances r had wrote said input k asked Breaks choices e = absurd (omega arith)
 
 -- where no call fails, the end is said after enough calls

@@ -1,7 +1,7 @@
--- `bench::replays::goes_on_lem` meets its contract.
+-- `bench::replays::goes_on` meets its contract.
 use borrow.Author.Rules.{rules}
-use Rattle.bench.proofs.replays.goes_on_lem.Statement.{statement}
-use Rattle.bench.proofs.replays.goes_on_lem.Tie as tie
+use Rattle.bench.proofs.replays.goes_on.Statement.{statement}
+use Rattle.bench.proofs.replays.goes_on.Tie as tie
 
 is-none-requires : tie.Need-is-none-requires
 is-none-requires c κs = search rules

@@ -71,14 +71,14 @@ same_length c = c.before.before.before.loop.invariant.same
 returns : tie.Need-returns invariant-loop decreases-loop
 returns c =
     let g = c.before.before.before.loop.invariant in
-    record { replies = g.replies; is = g.is; number = g.number; over = inl (sym c.before.goes_on_lem.ensures ∙ not-true _ c.if1.true) }
+    record { replies = g.replies; is = g.is; number = g.number; over = inl (sym c.before.goes_on.ensures ∙ not-true _ c.if1.true) }
 
 replay-more-requires : tie.Need-replay-more-requires invariant-loop decreases-loop
 replay-more-requires c κs =
     let e = c.before in
     let l = e.before.before.before in
     let g = l.loop.invariant in
-    let runs = sym e.before.goes_on_lem.ensures ∙ not-false _ e.if1.false in
+    let runs = sym e.before.goes_on.ensures ∙ not-false _ e.if1.false in
     (omega (arith, g.same, l.before.before.before.requires), (g.room runs, (runs, g.number)))
 
 sub-turns : tie.Need-overflow-sub-turns invariant-loop decreases-loop
@@ -92,7 +92,7 @@ loop-again c =
     let o = c.before.before.replay-more in
     let e = c.before.before.before.before in
     let l = e.before.before.before in
-    let runs = sym e.before.goes_on_lem.ensures ∙ not-false _ e.if1.false in
+    let runs = sym e.before.goes_on.ensures ∙ not-false _ e.if1.false in
     one_more _ l.loop.buffer o.new.0 l.loop.state o.result l.loop.turns _ (omega arith) runs l.loop.invariant o.ensures o.auto.0
 
 same-length-2 : tie.Need-same-length-2 invariant-loop decreases-loop
