@@ -29,7 +29,7 @@ use Rattle.gateway.proofs.OneWord.{word_answer, word_rounds}
 use Rattle.gateway.proofs.OneToOne.{one_to_one}
 use Rattle.areas.specs.Areas.{Areas, ours}
 use Rattle.gateway.proofs as gateway
-use Rattle.letter.specs.Calls.{lent, Refused, Through}
+use Rattle.letter.specs.Calls.{lent, lent_mut, Refused, Through}
 use Rattle.letter.specs.Areas.{start_from, Keeps, EveryCall, Listed, RefusedWord, ThroughWord, Unchanged, Mismatch, Reported}
 use Rattle.letter.proofs.Calls.{answered, lifetimes}
 use Rattle.letter.proofs.Streams as streams
@@ -68,38 +68,38 @@ pub is_ours : (m : Areas) → Keeps m → m ≡ ours
 is_ours m k =
     λ j. record {
       start = λ start area. starts start.direction start refl area j;
-      ad = λ area piece. k.ad (lent area) (lent piece) (lifetimes 2) j;
+      ad = λ area piece. k.ad (lent_mut area) (lent piece) (lifetimes 2) j;
       text = λ d area piece out. texts d area piece out j;
       finish = λ d area tag. finishes d area tag j;
-      ends = λ area. k.ends (lent area) (lifetimes 1) j;
+      ends = λ area. k.ends (lent_mut area) (lifetimes 1) j;
     }
   where
     -- a start, by its direction
     starts : (d : Direction) (start : Start) → start.direction ≡ d → (area : List ℕ) → m.start start area ≡ start_on start area
     starts Sealing start e area =
         subst (λ (d : Direction). m.start (start_from d start.set start.limit start.key start.nonce) area ≡ start_on (start_from d start.set start.limit start.key start.nonce) area) (sym e)
-        (k.start_sealing start.set start.limit (lent start.key) (lent start.nonce) (lent area) (lifetimes 3))
+        (k.start_sealing start.set start.limit (lent start.key) (lent start.nonce) (lent_mut area) (lifetimes 3))
     starts Checking start e area =
         subst (λ (d : Direction). m.start (start_from d start.set start.limit start.key start.nonce) area ≡ start_on (start_from d start.set start.limit start.key start.nonce) area) (sym e)
-        (k.start_checking start.set start.limit (lent start.key) (lent start.nonce) (lent area) (lifetimes 3))
+        (k.start_checking start.set start.limit (lent start.key) (lent start.nonce) (lent_mut area) (lifetimes 3))
     starts Opening start e area =
         subst (λ (d : Direction). m.start (start_from d start.set start.limit start.key start.nonce) area ≡ start_on (start_from d start.set start.limit start.key start.nonce) area) (sym e)
-        (k.start_opening start.set start.limit (lent start.key) (lent start.nonce) (lent area) (lifetimes 3))
+        (k.start_opening start.set start.limit (lent start.key) (lent start.nonce) (lent_mut area) (lifetimes 3))
 
     texts : (d : Direction) (area piece out : List ℕ) → m.text d area piece out ≡ text_on d area piece out
-    texts Sealing area piece out = k.seal_piece (lent area) (lent piece) (lent out) (lifetimes 3)
+    texts Sealing area piece out = k.seal_piece (lent_mut area) (lent piece) (lent_mut out) (lifetimes 3)
     texts Checking area piece out =
-        let h = k.check (lent area) (lent piece) out in
+        let h = k.check (lent_mut area) (lent piece) out in
         let e = h.0 (lifetimes 2) in
         (λ j. left_lent (e j).word (e j).area (h.1 j)) ∙ sym (check_on_is area piece out)
-    texts Opening area piece out = k.open_piece (lent area) (lent piece) (lent out) (lifetimes 3)
+    texts Opening area piece out = k.open_piece (lent_mut area) (lent piece) (lent_mut out) (lifetimes 3)
 
     finishes : (d : Direction) (area tag : List ℕ) → m.finish d area tag ≡ finish_on d area tag
-    finishes Sealing area tag = k.finish_sealing (lent area) (lent tag) (lifetimes 2)
+    finishes Sealing area tag = k.finish_sealing (lent_mut area) (lent_mut tag) (lifetimes 2)
     finishes Checking area tag =
-        let h = k.finish_checking (lent area) (lent tag) in (λ j. left_lent (m.finish Checking area tag).word (m.finish Checking area tag).area (h.1 j)) ∙ h.0 (lifetimes 2)
+        let h = k.finish_checking (lent_mut area) (lent tag) in (λ j. left_lent (m.finish Checking area tag).word (m.finish Checking area tag).area (h.1 j)) ∙ h.0 (lifetimes 2)
     finishes Opening area tag =
-        let h = k.finish_opening (lent area) (lent tag) in (λ j. left_lent (m.finish Opening area tag).word (m.finish Opening area tag).area (h.1 j)) ∙ h.0 (lifetimes 2)
+        let h = k.finish_opening (lent_mut area) (lent tag) in (λ j. left_lent (m.finish Opening area tag).word (m.finish Opening area tag).area (h.1 j)) ∙ h.0 (lifetimes 2)
 
 -- and ours keep them
 pub keeps : Keeps ours

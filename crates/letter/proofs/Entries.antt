@@ -16,7 +16,7 @@ use Rattle.entry.proofs.Laws.{entries}
 use Rattle.entry.proofs as entry-crate
 use Rattle.moving.specs.declared.route.Route.TheVariants.{Import}
 use Rattle.moving.proofs.Routes as routes
-use Rattle.letter.specs.Calls.{lent}
+use Rattle.letter.specs.Calls.{lent, lent_mut}
 use Rattle.letter.specs.Records.{HandsBackNothing}
 use Rattle.letter.specs.Entries.{IsRead, Model, ours, Keeps, EveryCall, Listed, Unchanged, Reported}
 use Rattle.letter.proofs.Calls.{answered, lifetimes}
@@ -29,7 +29,7 @@ pub is_ours : (m : Model) → Keeps m → m ≡ ours
 is_ours m k =
     λ j. record {
       read = λ set number text. k.read set number (lent text) (lifetimes 1) j;
-      write = λ number entry out. k.write number entry (lent out) (lifetimes 1) j;
+      write = λ number entry out. k.write number entry (lent_mut out) (lifetimes 1) j;
     }
 
 -- and ours keep them

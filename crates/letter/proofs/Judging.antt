@@ -25,7 +25,7 @@ use Rattle.judge.proofs.Differences.{tells, told_same, told_at}
 use Rattle.judge.proofs.Laws.{judges}
 use Rattle.report.proofs as report
 use Rattle.judge.proofs as judge
-use Rattle.letter.specs.Calls.{lent}
+use Rattle.letter.specs.Calls.{lent, lent_mut}
 use Rattle.letter.specs.Judging.{Model, ours, Keeps, EveryCall, Listed, Unchanged, Reported}
 use Rattle.letter.proofs.Calls.{answered, lifetimes, Says, done_says, says}
 
@@ -38,8 +38,8 @@ is_ours m k =
       difference = λ wanted found. k.difference (lent wanted) (lent found) (lifetimes 2) j;
       differ = λ wanted found. k.differ wanted found tt j;
       judge = λ entry. k.judge entry tt j;
-      report = λ number verdict out. k.report number verdict (lent out) (lifetimes 1) j;
-      step = λ window over number out. k.step (lent window) over number (lent out) (lifetimes 2) j;
+      report = λ number verdict out. k.report number verdict (lent_mut out) (lifetimes 1) j;
+      step = λ window over number out. k.step (lent window) over number (lent_mut out) (lifetimes 2) j;
     }
 
 -- and ours keep them

@@ -24,7 +24,7 @@ use Rattle.message.proofs.Answered.{test_small, seal_answer, seal_refused, seal_
 use Rattle.sets.proofs as sets
 use Rattle.message.proofs as message
 use Rattle.gateway.proofs as gateway
-use Rattle.letter.specs.Calls.{lent, Refused, Through}
+use Rattle.letter.specs.Calls.{lent, lent_mut, Refused, Through}
 use Rattle.letter.specs.Messages.{Model, ours, seal_word, open_word, Keeps, EveryCall, Listed, Unchanged, Mismatch, Reported}
 use Rattle.letter.specs.Second.{Unrefused}
 use Rattle.letter.proofs.Calls.{answered, lifetimes, stopped}
@@ -36,13 +36,13 @@ pub is_ours : (m : Model) → Keeps m → m ≡ ours
 is_ours m k =
     λ j. record {
       start_test = λ set key nonce. k.start_test set key nonce tt j;
-      seal = λ set K N A P out tag. k.seal set (lent K) (lent N) (lent A) (lent P) (lent out) (lent tag) (lifetimes 6) j;
-      unseal = λ set K N A C T out. k.unseal set (lent K) (lent N) (lent A) (lent C) (lent T) (lent out) (lifetimes 6) j;
+      seal = λ set K N A P out tag. k.seal set (lent K) (lent N) (lent A) (lent P) (lent_mut out) (lent_mut tag) (lifetimes 6) j;
+      unseal = λ set K N A C T out. k.unseal set (lent K) (lent N) (lent A) (lent C) (lent T) (lent_mut out) (lifetimes 6) j;
       seal_word = λ set K N A P out tag.
-          let e = k.seal_word set (lent K) (lent N) (lent A) (lent P) (lent out) (lent tag) (lifetimes 6) in
+          let e = k.seal_word set (lent K) (lent N) (lent A) (lent P) (lent_mut out) (lent_mut tag) (lifetimes 6) in
           record { word = e.0 j; out = e.1.0 j; tag = e.1.1 j };
       open_word = λ set K N A C T out.
-          let e = k.open_word set (lent K) (lent N) (lent A) (lent C) (lent T) (lent out) (lifetimes 6) in
+          let e = k.open_word set (lent K) (lent N) (lent A) (lent C) (lent T) (lent_mut out) (lifetimes 6) in
           record { word = e.0 j; out = e.1 j };
     }
 

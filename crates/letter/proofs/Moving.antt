@@ -23,7 +23,7 @@ use Rattle.moving.specs.Laws.{Counts}
 use Rattle.moving.proofs.Routes as routes
 use Rattle.moving.proofs.Places.{Stops, all_stops}
 use Rattle.moving.proofs as moving-crate
-use Rattle.letter.specs.Calls.{lent, Refused}
+use Rattle.letter.specs.Calls.{lent, lent_mut, Refused}
 use Rattle.letter.specs.Moving.{Model, ours, Keeps, EveryCall, Listed, Unchanged, Reported}
 use Rattle.letter.proofs.Calls.{answered, lifetimes}
 
@@ -33,8 +33,8 @@ use Rattle.letter.proofs.Calls.{answered, lifetimes}
 pub is_ours : (m : Model) → Keeps m → m ≡ ours
 is_ours m k =
     λ j. record {
-      one = λ route number text out. k.one route number (lent text) (lent out) (lifetimes 2) j;
-      all = λ route text out. k.all route (lent text) (lent out) (lifetimes 2) j;
+      one = λ route number text out. k.one route number (lent text) (lent_mut out) (lifetimes 2) j;
+      all = λ route text out. k.all route (lent text) (lent_mut out) (lifetimes 2) j;
     }
 
 -- and ours keep them

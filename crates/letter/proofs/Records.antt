@@ -23,7 +23,7 @@ use Rattle.record.proofs.Any.{reads_any}
 use Rattle.digits.proofs as digits
 use Rattle.lines.proofs as lines
 use Rattle.record.proofs as record-crate
-use Rattle.letter.specs.Calls.{lent}
+use Rattle.letter.specs.Calls.{lent, lent_mut}
 use Rattle.letter.specs.Records.{IsRead, HandsBackNothing, Model, ours, Keeps, EveryCall, Listed, Unchanged, Reported}
 use Rattle.letter.proofs.Calls.{answered, lifetimes, Says, done_says, says}
 
@@ -35,7 +35,7 @@ is_ours m k =
     λ j. record {
       read = λ form text. k.read form (lent text) (lifetimes 1) j;
       read_any = λ text. k.read_any (lent text) (lifetimes 1) j;
-      write = λ form entry out. k.write form entry (lent out) (lifetimes 1) j;
+      write = λ form entry out. k.write form entry (lent_mut out) (lifetimes 1) j;
     }
 
 -- and ours keep them

@@ -28,7 +28,7 @@ use Rattle.stream.proofs.Tests.{text_passed}
 use Rattle.stream.proofs.Lent.{check_is, finish_is}
 use Rattle.history.specs.History.{Streams, ours}
 use Rattle.stream.proofs as stream
-use Rattle.letter.specs.Calls.{lent, Through}
+use Rattle.letter.specs.Calls.{lent, lent_mut, Through}
 use Rattle.letter.specs.Streams.{Keeps, EveryCall, Listed, Unchanged, Mismatch, Reported}
 use Rattle.letter.proofs.Calls.{answered, lifetimes, Says, says, stopped}
 
@@ -45,13 +45,13 @@ is_ours m k =
     }
   where
     texts : (d : Direction) (s : Stream) (piece out : List ℕ) → m.text d s piece out ≡ text_call d s piece out
-    texts Sealing s piece out = k.seal_piece s (lent piece) (lent out) (lifetimes 2)
+    texts Sealing s piece out = k.seal_piece s (lent piece) (lent_mut out) (lifetimes 2)
     texts Checking s piece out =
         let h = k.check s (lent piece) out in (λ j. called (h.0 (lifetimes 1) j) (h.1 j)) ∙ sym (check_is s piece out)
-    texts Opening s piece out = k.open_piece s (lent piece) (lent out) (lifetimes 2)
+    texts Opening s piece out = k.open_piece s (lent piece) (lent_mut out) (lifetimes 2)
 
     finishes : (d : Direction) (s : Stream) (tag : List ℕ) → m.finish d s tag ≡ finish_call d s tag
-    finishes Sealing s tag = k.finish_sealing s (lent tag) (lifetimes 1)
+    finishes Sealing s tag = k.finish_sealing s (lent_mut tag) (lifetimes 1)
     finishes Checking s tag =
         let h = k.finish_checking s (lent tag) in (λ j. called (h.0 (lifetimes 1) j) (h.1 j)) ∙ sym (finish_is Checking refl s tag)
     finishes Opening s tag =

@@ -13,7 +13,7 @@ use Rattle.gateway.specs.Spelling.{state_length, spelling, is_spelling, state_in
 use Rattle.gateway.specs.Calls.{left, left_lent, start_on, ad_on, text_on, finish_on, end_on}
 use Rattle.areas.specs.Areas.{Areas}
 use Rattle.gateway.proofs as gateway
-use Rattle.letter.specs.Calls.{Answered, Lent, holding, Leaves}
+use Rattle.letter.specs.Calls.{Answered, Lent, LentMut, holding, Leaves}
 
 -- ---- the calls
 
@@ -23,9 +23,9 @@ start_from d set limit key nonce = record { direction = d; set = set; limit = li
 
 -- the start of a direction gives what a contract allows
 abbrev pub StartKept : {L : Type 0} → Areas → Direction
-    → (L → ℕ × (ℕ × (Lent × (Lent × (Lent × Unit {0})))) → ℕ → ℕ × (ℕ × (Lent × (Lent × (Lent × Unit {0})))) → Type 0) → Type 0
+    → (L → ℕ × (ℕ × (Lent × (Lent × (LentMut × Unit {0})))) → ℕ → ℕ × (ℕ × (Lent × (Lent × (LentMut × Unit {0})))) → Type 0) → Type 0
 StartKept m d allowed =
-    (set limit : ℕ) (key nonce state : Lent) → let leaves = m.start (start_from d set limit key.now nonce.now) state.now in
+    (set limit : ℕ) (key nonce : Lent) (state : LentMut) → let leaves = m.start (start_from d set limit key.now nonce.now) state.now in
     Leaves allowed (set, (limit, (key, (nonce, (state, tt))))) leaves.word (set, (limit, (key, (nonce, (holding state leaves.area, tt)))))
 
 -- each gives what the contract of the code allows; `kvistmaur_stream_check`, `kvistmaur_finish_checking` and `kvistmaur_finish_opening` are lent nothing to write but the
@@ -34,23 +34,23 @@ pub record Keeps (m : Areas) : Type 0 where
   pub start_sealing : StartKept m Sealing gateway.kvistmaur_start_sealing.Reads.Learnt
   pub start_checking : StartKept m Checking gateway.kvistmaur_start_checking.Reads.Learnt
   pub start_opening : StartKept m Opening gateway.kvistmaur_start_opening.Reads.Learnt
-  pub ad : (state ad : Lent) → let leaves = m.ad state.now ad.now in
+  pub ad : (state : LentMut) (ad : Lent) → let leaves = m.ad state.now ad.now in
       Leaves gateway.kvistmaur_stream_data.Reads.Learnt (state, (ad, tt)) leaves.word (holding state leaves.area, (ad, tt))
-  pub seal_piece : (state text out : Lent) → let leaves = m.text Sealing state.now text.now out.now in
+  pub seal_piece : (state : LentMut) (text : Lent) (out : LentMut) → let leaves = m.text Sealing state.now text.now out.now in
       Leaves gateway.kvistmaur_stream_seal.Reads.Learnt (state, (text, (out, tt))) leaves.word
       (holding state leaves.area, (text, (holding out leaves.lent, tt)))
-  pub check : (state cipher : Lent) (out : List ℕ) → let leaves = m.text Checking state.now cipher.now out in
+  pub check : (state : LentMut) (cipher : Lent) (out : List ℕ) → let leaves = m.text Checking state.now cipher.now out in
       Leaves gateway.kvistmaur_stream_check.Reads.Learnt (state, (cipher, tt)) leaves.word (holding state leaves.area, (cipher, tt)) × (leaves.lent ≡ out)
-  pub open_piece : (state cipher out : Lent) → let leaves = m.text Opening state.now cipher.now out.now in
+  pub open_piece : (state : LentMut) (cipher : Lent) (out : LentMut) → let leaves = m.text Opening state.now cipher.now out.now in
       Leaves gateway.kvistmaur_stream_open.Reads.Learnt (state, (cipher, (out, tt))) leaves.word
       (holding state leaves.area, (cipher, (holding out leaves.lent, tt)))
-  pub finish_sealing : (state tag : Lent) → let leaves = m.finish Sealing state.now tag.now in
+  pub finish_sealing : (state tag : LentMut) → let leaves = m.finish Sealing state.now tag.now in
       Leaves gateway.kvistmaur_finish_sealing.Reads.Learnt (state, (tag, tt)) leaves.word (holding state leaves.area, (holding tag leaves.lent, tt))
-  pub finish_checking : (state tag : Lent) → let leaves = m.finish Checking state.now tag.now in
+  pub finish_checking : (state : LentMut) (tag : Lent) → let leaves = m.finish Checking state.now tag.now in
       Leaves gateway.kvistmaur_finish_checking.Reads.Learnt (state, (tag, tt)) leaves.word (holding state leaves.area, (tag, tt)) × (leaves.lent ≡ tag.now)
-  pub finish_opening : (state tag : Lent) → let leaves = m.finish Opening state.now tag.now in
+  pub finish_opening : (state : LentMut) (tag : Lent) → let leaves = m.finish Opening state.now tag.now in
       Leaves gateway.kvistmaur_finish_opening.Reads.Learnt (state, (tag, tt)) leaves.word (holding state leaves.area, (tag, tt)) × (leaves.lent ≡ tag.now)
-  pub ends : (state : Lent) → let leaves = m.ends state.now in
+  pub ends : (state : LentMut) → let leaves = m.ends state.now in
       Leaves gateway.kvistmaur_stream_end.Reads.Learnt (state, tt) leaves.word (holding state leaves.area, tt)
 
 -- each public call, and its one outcome

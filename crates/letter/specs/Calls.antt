@@ -2,7 +2,7 @@
 -- The kit reads the contract of a function f off its source: `f.Statement.statement` says that the code of f returns, and with what the contract allows; `f.Reads.Asked` is what
 -- it asks of the caller; `f.Reads.Learnt` is what a caller learns from that theorem, of lifetimes, arguments, result, and arguments at the return. A lent place a holds `a.now`.
 use Rattle.std.specs.Prelude.{◌≡◌, List, [], ◌∷◌, ◌⊎◌, ℕ, suc, ◌<◌}
-use Rattle.std.specs.Borrow.{Bor}
+use Rattle.std.specs.Borrow.{Bor, MutBor}
 use Rattle.answers.specs.declared.Answer.{Answer}
 use Rattle.answers.specs.declared.Answer.TheVariants.{Done, TagDiffers}
 
@@ -27,9 +27,17 @@ Lent = Bor (List ℕ)
 abbrev pub lent : List ℕ → Lent
 lent x = record { ref_ptr = (0, 0); now = x }
 
+-- a slice lent to be written
+abbrev pub LentMut : Type 0
+LentMut = MutBor (List ℕ)
+
+-- a list, lent from some place to be written
+abbrev pub lent_mut : List ℕ → LentMut
+lent_mut x = record { ref_ptr = (0, 0); ghost_name = 0; now = x }
+
 -- a lent place that then holds something else
-abbrev pub holding : Lent → List ℕ → Lent
-holding a x = record { ref_ptr = a.ptr; ghost_name = a.name; now = x }
+abbrev pub holding : LentMut → List ℕ → LentMut
+holding a x = record { ref_ptr = a.ref_ptr; ghost_name = a.ghost_name; now = x }
 
 -- a contract allows, for the arguments, a result and what the arguments then are
 abbrev pub Leaves : {L A R : Type 0} → (L → A → R → A → Type 0) → A → R → A → Type 0

@@ -13,7 +13,7 @@ use Rattle.entry.specs.Calls.{read_entry, write_entry}
 use Rattle.entry.specs.Laws as entry-laws
 use Rattle.entry.specs.Laws.{Begun, WrongAt}
 use Rattle.entry.proofs as entry-crate
-use Rattle.letter.specs.Calls.{Answered, Lent, holding, Leaves, Gives, Refused}
+use Rattle.letter.specs.Calls.{Answered, Lent, LentMut, holding, Leaves, Gives, Refused}
 use Rattle.letter.specs.Records.{HandsBackNothing}
 
 -- ---- the calls
@@ -30,7 +30,7 @@ ours = record { read = read_entry; write = write_entry }
 -- each gives what the contract of the code allows
 pub record Keeps (m : Model) : Type 0 where
   pub read : (set number : ℕ) (text : Lent) → Gives entry-crate.read.Reads.Learnt (set, (number, (text, tt))) (m.read set number text.now)
-  pub write : (number : ℕ) (entry : Record) (out : Lent) → let leaves = m.write number entry out.now in
+  pub write : (number : ℕ) (entry : Record) (out : LentMut) → let leaves = m.write number entry out.now in
       Leaves entry-crate.write.Reads.Learnt (number, (entry, (out, tt))) leaves.outcome (number, (entry, (holding out leaves.out, tt)))
 
 -- each public call, and its one outcome

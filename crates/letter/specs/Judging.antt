@@ -23,7 +23,7 @@ use Rattle.judge.specs.Verdicts.{verdict_on, differences}
 use Rattle.judge.specs.Steps.{verdict_read, StepLeaves, step_leaves, step_choices, step_call}
 use Rattle.report.proofs as report-crate
 use Rattle.judge.proofs as judge-crate
-use Rattle.letter.specs.Calls.{Answered, Lent, holding, Leaves, Gives, Refused}
+use Rattle.letter.specs.Calls.{Answered, Lent, LentMut, holding, Leaves, Gives, Refused}
 
 -- ---- the calls
 
@@ -44,9 +44,9 @@ pub record Keeps (m : Model) : Type 0 where
   pub difference : (wanted found : Lent) → Gives judge-crate.first_difference.Reads.Learnt (wanted, (found, tt)) (m.difference wanted.now found.now)
   pub differ : (wanted found : Field) → Gives judge-crate.fields_differ.Reads.Learnt (wanted, (found, tt)) (m.differ wanted found)
   pub judge : (entry : Record) → Gives judge-crate.judge.Reads.Learnt (entry, tt) (m.judge entry)
-  pub report : (number : ℕ) (verdict : Verdict) (out : Lent) → let leaves = m.report number verdict out.now in
+  pub report : (number : ℕ) (verdict : Verdict) (out : LentMut) → let leaves = m.report number verdict out.now in
       Leaves report-crate.report.Reads.Learnt (number, (verdict, (out, tt))) leaves.outcome (number, (verdict, (holding out leaves.out, tt)))
-  pub step : (window : Lent) (over : Bool) (number : ℕ) (out : Lent) → let leaves = m.step window.now over number out.now in
+  pub step : (window : Lent) (over : Bool) (number : ℕ) (out : LentMut) → let leaves = m.step window.now over number out.now in
       Leaves judge-crate.judge_window.Reads.Learnt (window, (over, (number, (out, tt)))) leaves.step (window, (over, (number, (holding out leaves.out, tt))))
 
 -- what `compare` asks of its caller, and what a caller learns from its contract. Where the result is a struct that holds a reference, the kit has no names for them; its own reading of a

@@ -14,7 +14,7 @@ use Rattle.gateway.specs.Word.{word_of}
 use Rattle.sets.proofs as sets
 use Rattle.message.proofs as message
 use Rattle.gateway.proofs as gateway
-use Rattle.letter.specs.Calls.{Answered, Lent, holding, Leaves, Gives, Refused, Through}
+use Rattle.letter.specs.Calls.{Answered, Lent, LentMut, holding, Leaves, Gives, Refused, Through}
 
 -- a sealing through the C boundary: the word, and what the places of the ciphertext and of the tag then hold
 pub record SealWord : Type 0 where
@@ -60,16 +60,16 @@ ours = record { start_test = start_test; seal = seal_call; unseal = open_call; s
 -- each gives what the contract of the code allows
 pub record Keeps (m : Model) : Type 0 where
   pub start_test : (set key nonce : ℕ) → Gives sets.start_test.Reads.Learnt (set, (key, (nonce, tt))) (m.start_test set key nonce)
-  pub seal : (set : ℕ) (key nonce ad text out tag : Lent) → let leaves = m.seal set key.now nonce.now ad.now text.now out.now tag.now in
+  pub seal : (set : ℕ) (key nonce ad text : Lent) (out tag : LentMut) → let leaves = m.seal set key.now nonce.now ad.now text.now out.now tag.now in
       Leaves message.seal.Reads.Learnt (set, (key, (nonce, (ad, (text, (out, (tag, tt))))))) leaves.outcome
       (set, (key, (nonce, (ad, (text, (holding out leaves.out, (holding tag leaves.tag, tt)))))))
-  pub unseal : (set : ℕ) (key nonce ad cipher tag out : Lent) → let leaves = m.unseal set key.now nonce.now ad.now cipher.now tag.now out.now in
+  pub unseal : (set : ℕ) (key nonce ad cipher tag : Lent) (out : LentMut) → let leaves = m.unseal set key.now nonce.now ad.now cipher.now tag.now out.now in
       Leaves message.«open».Reads.Learnt (set, (key, (nonce, (ad, (cipher, (tag, (out, tt))))))) leaves.outcome
       (set, (key, (nonce, (ad, (cipher, (tag, (holding out leaves.out, tt)))))))
-  pub seal_word : (set : ℕ) (key nonce ad text out tag : Lent) → let leaves = m.seal_word set key.now nonce.now ad.now text.now out.now tag.now in
+  pub seal_word : (set : ℕ) (key nonce ad text : Lent) (out tag : LentMut) → let leaves = m.seal_word set key.now nonce.now ad.now text.now out.now tag.now in
       Leaves gateway.kvistmaur_seal.Reads.Learnt (set, (key, (nonce, (ad, (text, (out, (tag, tt))))))) leaves.word
       (set, (key, (nonce, (ad, (text, (holding out leaves.out, (holding tag leaves.tag, tt)))))))
-  pub open_word : (set : ℕ) (key nonce ad cipher tag out : Lent) → let leaves = m.open_word set key.now nonce.now ad.now cipher.now tag.now out.now in
+  pub open_word : (set : ℕ) (key nonce ad cipher tag : Lent) (out : LentMut) → let leaves = m.open_word set key.now nonce.now ad.now cipher.now tag.now out.now in
       Leaves gateway.kvistmaur_open.Reads.Learnt (set, (key, (nonce, (ad, (cipher, (tag, (out, tt))))))) leaves.word
       (set, (key, (nonce, (ad, (cipher, (tag, (holding out leaves.out, tt)))))))
 

@@ -7,7 +7,7 @@ use Rattle.moving.specs.declared.route.Route.{Route}
 use Rattle.moving.specs.Moves.{text_by, MoveLeaves, move_leaves, move_faults, move_call, moved_with, text_in, outcome_in, AllLeaves, all_leaves, move_all_call}
 use Rattle.moving.specs.Laws.{Counts}
 use Rattle.moving.proofs as moving-crate
-use Rattle.letter.specs.Calls.{Answered, Lent, holding, Leaves, Refused}
+use Rattle.letter.specs.Calls.{Answered, Lent, LentMut, holding, Leaves, Refused}
 
 -- ---- the calls
 
@@ -22,9 +22,9 @@ ours = record { one = move_call; all = move_all_call }
 
 -- each gives what the contract of the code allows
 pub record Keeps (m : Model) : Type 0 where
-  pub one : (route : Route) (number : ℕ) (text out : Lent) → let leaves = m.one route number text.now out.now in
+  pub one : (route : Route) (number : ℕ) (text : Lent) (out : LentMut) → let leaves = m.one route number text.now out.now in
       Leaves moving-crate.move_record.Reads.Learnt (route, (number, (text, (out, tt)))) leaves.outcome (route, (number, (text, (holding out leaves.out, tt))))
-  pub all : (route : Route) (text out : Lent) → let leaves = m.all route text.now out.now in
+  pub all : (route : Route) (text : Lent) (out : LentMut) → let leaves = m.all route text.now out.now in
       Leaves moving-crate.move_all.Reads.Learnt (route, (text, (out, tt))) leaves.outcome (route, (text, (holding out leaves.out, tt)))
 
 -- each public call, and its one outcome

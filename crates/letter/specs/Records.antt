@@ -17,7 +17,7 @@ use Rattle.record.specs.Text.{text_of}
 use Rattle.digits.proofs as digits
 use Rattle.lines.proofs as lines
 use Rattle.record.proofs as record-crate
-use Rattle.letter.specs.Calls.{Answered, Lent, holding, Leaves, Gives, Refused}
+use Rattle.letter.specs.Calls.{Answered, Lent, LentMut, holding, Leaves, Gives, Refused}
 
 -- ---- the calls
 
@@ -35,7 +35,7 @@ ours = record { read = read_call; read_any = read_any; write = write_call }
 pub record Keeps (m : Model) : Type 0 where
   pub read : (form : Form) (text : Lent) → Gives record-crate.read.Reads.Learnt (form, (text, tt)) (m.read form text.now)
   pub read_any : (text : Lent) → Gives record-crate.read_any.Reads.Learnt (text, tt) (m.read_any text.now)
-  pub write : (form : Form) (entry : Record) (out : Lent) → let leaves = m.write form entry out.now in
+  pub write : (form : Form) (entry : Record) (out : LentMut) → let leaves = m.write form entry out.now in
       Leaves record-crate.write.Reads.Learnt (form, (entry, (out, tt))) leaves.outcome (form, (entry, (holding out leaves.out, tt)))
 
 -- each public call, and its one outcome; those of digits and lines first

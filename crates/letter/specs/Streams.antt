@@ -11,7 +11,7 @@ use Rattle.stream.specs.State.{rank_of, gives_tag, is_ad, ended}
 use Rattle.stream.specs.Calls.{limited_start_faults, piece_faults, text_faults, finish_faults, tag_faults, filled_rounds, closing_rounds, Start, start_call, ad_call, called, text_call, own_tag, finish_call}
 use Rattle.history.specs.History.{Streams}
 use Rattle.stream.proofs as stream
-use Rattle.letter.specs.Calls.{Answered, Lent, holding, Leaves, Gives, Refused, Through}
+use Rattle.letter.specs.Calls.{Answered, Lent, LentMut, holding, Leaves, Gives, Refused, Through}
 
 -- ---- the calls
 
@@ -22,13 +22,13 @@ pub record Keeps (m : Streams) : Type 0 where
       → Gives stream.Stream.start.Reads.Learnt (d, (set, (limit, (key, (nonce, tt)))))
       (m.start (record { direction = d; set = set; limit = limit; key = key.now; nonce = nonce.now }))
   pub ad : (s : Stream) (piece : Lent) → Gives stream.Stream.ad.Reads.Learnt (s, (piece, tt)) (m.ad s piece.now)
-  pub seal_piece : (s : Stream) (piece out : Lent) → let leaves = m.text Sealing s piece.now out.now in
+  pub seal_piece : (s : Stream) (piece : Lent) (out : LentMut) → let leaves = m.text Sealing s piece.now out.now in
       Leaves stream.Stream.seal.Reads.Learnt (s, (piece, (out, tt))) leaves.outcome (s, (piece, (holding out leaves.lent, tt)))
   pub check : (s : Stream) (piece : Lent) (out : List ℕ) → let leaves = m.text Checking s piece.now out in
       Gives stream.Stream.check.Reads.Learnt (s, (piece, tt)) leaves.outcome × (leaves.lent ≡ out)
-  pub open_piece : (s : Stream) (piece out : Lent) → let leaves = m.text Opening s piece.now out.now in
+  pub open_piece : (s : Stream) (piece : Lent) (out : LentMut) → let leaves = m.text Opening s piece.now out.now in
       Leaves stream.Stream.«open».Reads.Learnt (s, (piece, (out, tt))) leaves.outcome (s, (piece, (holding out leaves.lent, tt)))
-  pub finish_sealing : (s : Stream) (tag : Lent) → let leaves = m.finish Sealing s tag.now in
+  pub finish_sealing : (s : Stream) (tag : LentMut) → let leaves = m.finish Sealing s tag.now in
       Leaves stream.Stream.finish_sealing.Reads.Learnt (s, (tag, tt)) leaves.outcome (s, (holding tag leaves.lent, tt))
   pub finish_checking : (s : Stream) (tag : Lent) → let leaves = m.finish Checking s tag.now in
       Gives stream.Stream.finish_checking.Reads.Learnt (s, (tag, tt)) leaves.outcome × (leaves.lent ≡ tag.now)

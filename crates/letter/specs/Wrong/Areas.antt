@@ -9,7 +9,7 @@ use Rattle.stream.specs.State.{gives_text, gives_tag}
 use Rattle.gateway.specs.Spelling.{number_at}
 use Rattle.gateway.proofs as gateway
 use Rattle.letter.specs.Wrong.Streams.{three_bytes, zeros_tag}
-use Rattle.letter.specs.Calls.{Lent, lent, NeverLeaves, NoSet}
+use Rattle.letter.specs.Calls.{Lent, LentMut, lent, lent_mut, NeverLeaves, NoSet}
 
 -- ---- areas
 
@@ -61,8 +61,8 @@ direction_number Opening = 2
 -- ---- a contract allows no other number, with nothing else in the area and in a lent place
 
 -- what a start is handed
-abbrev pub handed_start : ℕ → ℕ → List ℕ → List ℕ → List ℕ → ℕ × (ℕ × (Lent × (Lent × (Lent × Unit {0}))))
-handed_start set limit K N area = (set, (limit, (lent K, (lent N, (lent area, tt)))))
+abbrev pub handed_start : ℕ → ℕ → List ℕ → List ℕ → List ℕ → ℕ × (ℕ × (Lent × (Lent × (LentMut × Unit {0}))))
+handed_start set limit K N area = (set, (limit, (lent K, (lent N, (lent_mut area, tt)))))
 
 abbrev pub StartsOnly : Direction → ℕ → ℕ → List ℕ → List ℕ → List ℕ → ℕ → List ℕ → Type 0
 StartsOnly Sealing set limit K N area number left =
@@ -77,34 +77,34 @@ StartsOnly Opening set limit K N area number left =
 
 abbrev pub DataOnly : List ℕ → List ℕ → ℕ → List ℕ → Type 0
 DataOnly area ad number left =
-    (n : ℕ) (x : List ℕ) → ((n ≡ number) × (x ≡ left) → ⊥) → NeverLeaves gateway.kvistmaur_stream_data.Reads.Learnt (lent area, (lent ad, tt)) n (lent x, (lent ad, tt))
+    (n : ℕ) (x : List ℕ) → ((n ≡ number) × (x ≡ left) → ⊥) → NeverLeaves gateway.kvistmaur_stream_data.Reads.Learnt (lent_mut area, (lent ad, tt)) n (lent_mut x, (lent ad, tt))
 
 -- a checking's text call is lent no place for its output
 abbrev pub TextsOnly : Direction → List ℕ → List ℕ → List ℕ → ℕ → List ℕ → List ℕ → Type 0
 TextsOnly Sealing area piece out number left place =
     (n : ℕ) (x y : List ℕ) → ((n ≡ number) × (x ≡ left) × (y ≡ place) → ⊥)
-    → NeverLeaves gateway.kvistmaur_stream_seal.Reads.Learnt (lent area, (lent piece, (lent out, tt))) n (lent x, (lent piece, (lent y, tt)))
+    → NeverLeaves gateway.kvistmaur_stream_seal.Reads.Learnt (lent_mut area, (lent piece, (lent_mut out, tt))) n (lent_mut x, (lent piece, (lent_mut y, tt)))
 TextsOnly Checking area piece out number left place =
     (n : ℕ) (x : List ℕ) → ((n ≡ number) × (x ≡ left) → ⊥)
-    → NeverLeaves gateway.kvistmaur_stream_check.Reads.Learnt (lent area, (lent piece, tt)) n (lent x, (lent piece, tt))
+    → NeverLeaves gateway.kvistmaur_stream_check.Reads.Learnt (lent_mut area, (lent piece, tt)) n (lent_mut x, (lent piece, tt))
 TextsOnly Opening area piece out number left place =
     (n : ℕ) (x y : List ℕ) → ((n ≡ number) × (x ≡ left) × (y ≡ place) → ⊥)
-    → NeverLeaves gateway.kvistmaur_stream_open.Reads.Learnt (lent area, (lent piece, (lent out, tt))) n (lent x, (lent piece, (lent y, tt)))
+    → NeverLeaves gateway.kvistmaur_stream_open.Reads.Learnt (lent_mut area, (lent piece, (lent_mut out, tt))) n (lent_mut x, (lent piece, (lent_mut y, tt)))
 
 -- nor is a finish that compares one for the tag
 abbrev pub FinishesOnly : Direction → List ℕ → List ℕ → ℕ → List ℕ → List ℕ → Type 0
 FinishesOnly Sealing area tag number left place =
     (n : ℕ) (x y : List ℕ) → ((n ≡ number) × (x ≡ left) × (y ≡ place) → ⊥)
-    → NeverLeaves gateway.kvistmaur_finish_sealing.Reads.Learnt (lent area, (lent tag, tt)) n (lent x, (lent y, tt))
+    → NeverLeaves gateway.kvistmaur_finish_sealing.Reads.Learnt (lent_mut area, (lent_mut tag, tt)) n (lent_mut x, (lent_mut y, tt))
 FinishesOnly Checking area tag number left place =
     (n : ℕ) (x : List ℕ) → ((n ≡ number) × (x ≡ left) → ⊥)
-    → NeverLeaves gateway.kvistmaur_finish_checking.Reads.Learnt (lent area, (lent tag, tt)) n (lent x, (lent tag, tt))
+    → NeverLeaves gateway.kvistmaur_finish_checking.Reads.Learnt (lent_mut area, (lent tag, tt)) n (lent_mut x, (lent tag, tt))
 FinishesOnly Opening area tag number left place =
     (n : ℕ) (x : List ℕ) → ((n ≡ number) × (x ≡ left) → ⊥)
-    → NeverLeaves gateway.kvistmaur_finish_opening.Reads.Learnt (lent area, (lent tag, tt)) n (lent x, (lent tag, tt))
+    → NeverLeaves gateway.kvistmaur_finish_opening.Reads.Learnt (lent_mut area, (lent tag, tt)) n (lent_mut x, (lent tag, tt))
 
 abbrev pub EndsOnly : List ℕ → ℕ → List ℕ → Type 0
-EndsOnly area number left = (n : ℕ) (x : List ℕ) → ((n ≡ number) × (x ≡ left) → ⊥) → NeverLeaves gateway.kvistmaur_stream_end.Reads.Learnt (lent area, tt) n (lent x, tt)
+EndsOnly area number left = (n : ℕ) (x : List ℕ) → ((n ≡ number) × (x ≡ left) → ⊥) → NeverLeaves gateway.kvistmaur_stream_end.Reads.Learnt (lent_mut area, tt) n (lent_mut x, tt)
 
 -- ---- the wrong answers
 

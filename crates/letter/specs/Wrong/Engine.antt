@@ -14,7 +14,7 @@ use Rattle.timing.proofs as timing
 use Rattle.sets.proofs as sets
 use Rattle.sponge.proofs as sponge
 use Rattle.tags.proofs as tags
-use Rattle.letter.specs.Calls.{lent, Never, Only, OnlyFrom, NeverLeaves, NoSet}
+use Rattle.letter.specs.Calls.{lent, lent_mut, Never, Only, OnlyFrom, NeverLeaves, NoSet}
 
 -- the second program's answers: the words after a start of sets 3 and 4 under the key and the nonce that count, those after nine ones in set 3 from zeros, and the tag of
 -- set 4 behind nine bytes of text and words of zeros
@@ -56,16 +56,16 @@ pub record Wrong : Type 0 where
   pub permuted_first_six : Never permutation.permuted.Reads.Learnt (of_words (zeros 5), (LastSix, tt)) (permute FirstSix (of_words (zeros 5)))
   -- x0 and x1 do not change places
   pub permute_words_swapped : let s = permute FirstSix (of_words (zeros 5)) in
-      NeverLeaves permutation.permute_words.Reads.Learnt (lent (zeros 5), (FirstSix, tt)) tt (lent (s.x1 ∷ s.x0 ∷ s.x2 ∷ s.x3 ∷ s.x4 ∷ []), (FirstSix, tt))
+      NeverLeaves permutation.permute_words.Reads.Learnt (lent_mut (zeros 5), (FirstSix, tt)) tt (lent_mut (s.x1 ∷ s.x0 ∷ s.x2 ∷ s.x3 ∷ s.x4 ∷ []), (FirstSix, tt))
   -- the constants do not fall by 10: round 1 does not take e0
-  pub permute_words_constant : NeverLeaves permutation.permute_words.Reads.Learnt (lent (zeros 5), (FirstSix, tt)) tt
-      (lent (to_words (rounds (0xf0 ∷ 0xe0 ∷ 0xd0 ∷ 0xc0 ∷ 0xb0 ∷ 0xa0 ∷ []) (of_words (zeros 5)))), (FirstSix, tt))
+  pub permute_words_constant : NeverLeaves permutation.permute_words.Reads.Learnt (lent_mut (zeros 5), (FirstSix, tt)) tt
+      (lent_mut (to_words (rounds (0xf0 ∷ 0xe0 ∷ 0xd0 ∷ 0xc0 ∷ 0xb0 ∷ 0xa0 ∷ []) (of_words (zeros 5)))), (FirstSix, tt))
   -- seven rounds are not run
-  pub permute_seven : Never timing.kvistmaur_permute.Reads.Learnt (7, (lent (zeros 5), tt)) 7
+  pub permute_seven : Never timing.kvistmaur_permute.Reads.Learnt (7, (lent_mut (zeros 5), tt)) 7
   -- reading does not go on behind `g`
-  pub read_digits_past : Never timing.kvistmaur_read_digits.Reads.Learnt (lent (0x30 ∷ 0x67 ∷ 0x31 ∷ []), tt) 3
+  pub read_digits_past : Never timing.kvistmaur_read_digits.Reads.Learnt (lent_mut (0x30 ∷ 0x67 ∷ 0x31 ∷ []), tt) 3
   -- a digit's place does not keep the character
-  pub read_digits_kept : NeverLeaves timing.kvistmaur_read_digits.Reads.Learnt (lent (0x31 ∷ []), tt) 1 (lent (0x31 ∷ []), tt)
+  pub read_digits_kept : NeverLeaves timing.kvistmaur_read_digits.Reads.Learnt (lent_mut (0x31 ∷ []), tt) 1 (lent_mut (0x31 ∷ []), tt)
   -- 0 is no set, nor is any number over 4: not 5, and not one whose low bits are a set's
   pub is_set_none : (set : ℕ) → NoSet set → Never sets.is_set.Reads.Learnt (set, tt) true
   -- and 1 to 4 are sets
@@ -111,11 +111,11 @@ pub record Wrong : Type 0 where
   -- opening, no bit of the old byte stays
   pub absorb_old_bit : Never sponge.absorb.Reads.Learnt (1, (Open, (0x8000000000000000 ∷ zeros 4, (0, (lent (0 ∷ []), tt))))) (0x8000000000000000 ∷ zeros 4)
   -- what goes out at the ninth byte is the first word's, and not the second's
-  pub crypt_next_block : NeverLeaves sponge.crypt.Reads.Learnt (1, (Seal, (zeros 5, (0, (lent (zeros 9), (lent (zeros 9), tt)))))) (permute_words FirstSix (zeros 5))
-      (1, (Seal, (zeros 5, (0, (lent (zeros 9), (lent (zeros 8 ++ (0xff ∷ [])), tt))))))
+  pub crypt_next_block : NeverLeaves sponge.crypt.Reads.Learnt (1, (Seal, (zeros 5, (0, (lent (zeros 9), (lent_mut (zeros 9), tt)))))) (permute_words FirstSix (zeros 5))
+      (1, (Seal, (zeros 5, (0, (lent (zeros 9), (lent_mut (zeros 8 ++ (0xff ∷ [])), tt))))))
   -- a piece behind the first is not copied
-  pub crypt_later_copied : NeverLeaves sponge.crypt.Reads.Learnt (1, (Seal, (0x0001000000000000 ∷ zeros 4, (1, (lent (0 ∷ []), (lent (0 ∷ []), tt)))))) (0x0001000000000000 ∷ zeros 4)
-      (1, (Seal, (0x0001000000000000 ∷ zeros 4, (1, (lent (0 ∷ []), (lent (0 ∷ []), tt))))))
+  pub crypt_later_copied : NeverLeaves sponge.crypt.Reads.Learnt (1, (Seal, (0x0001000000000000 ∷ zeros 4, (1, (lent (0 ∷ []), (lent_mut (0 ∷ []), tt)))))) (0x0001000000000000 ∷ zeros 4)
+      (1, (Seal, (0x0001000000000000 ∷ zeros 4, (1, (lent (0 ∷ []), (lent_mut (0 ∷ []), tt))))))
   -- closing empty data flips the last bit
   pub close_no_flip : Never sponge.close_ad.Reads.Learnt (1, (zeros 5, (0, tt))) (zeros 5)
   -- closing empty data does not flip a bit of the first word
@@ -131,9 +131,9 @@ pub record Wrong : Type 0 where
   -- a string of 17 bytes is not cut to 16
   pub sixteen_long : Never tags.sixteen.Reads.Learnt (lent (replicate 17 1), tt) (replicate 16 1)
   -- a place of 12 does not stay as it was
-  pub give_tag_nothing : NeverLeaves tags.give_tag.Reads.Learnt (replicate 16 1, (lent (zeros 12), tt)) tt (replicate 16 1, (lent (zeros 12), tt))
+  pub give_tag_nothing : NeverLeaves tags.give_tag.Reads.Learnt (replicate 16 1, (lent_mut (zeros 12), tt)) tt (replicate 16 1, (lent_mut (zeros 12), tt))
   -- a place of 17 stays as it was
-  pub give_tag_long : NeverLeaves tags.give_tag.Reads.Learnt (replicate 16 1, (lent (zeros 17), tt)) tt (replicate 16 1, (lent (replicate 17 1), tt))
+  pub give_tag_long : NeverLeaves tags.give_tag.Reads.Learnt (replicate 16 1, (lent_mut (zeros 17), tt)) tt (replicate 16 1, (lent_mut (replicate 17 1), tt))
   -- the beginning of a tag is not the tag
   pub same_tag_short : Never tags.same_tag.Reads.Learnt (lent (zeros 16), (lent (zeros 12), tt)) true
   -- the empty string is not the tag

@@ -8,7 +8,7 @@ use Rattle.record.specs.Form.{with_number, with_field, blank}
 use Rattle.record.specs.Calls.{refused_at, read_as, refused_with}
 use Rattle.moving.specs.Known.{first_entry}
 use Rattle.entry.proofs as entry-crate
-use Rattle.letter.specs.Calls.{lent, Never, NeverLeaves, NoSet}
+use Rattle.letter.specs.Calls.{lent, lent_mut, Never, NeverLeaves, NoSet}
 use Rattle.letter.specs.Wrong.Records.{case_of}
 
 pub record Wrong : Type 0 where
@@ -28,13 +28,13 @@ pub record Wrong : Type 0 where
   -- a number that no set has is answered 1, whatever the text
   pub read_set : (set number : ℕ) (text : List ℕ) (r : Reading) → NoSet set → (r.answer ≡ UnknownSet → ⊥) → Never entry-crate.read.Reads.Learnt (set, (number, (lent text, tt))) r
   -- a record out of form is not written, and that is said before the room is looked at
-  pub write_broken : (line column : ℕ) → Never entry-crate.write.Reads.Learnt (1, (blank, (lent [], tt))) (record { answer = NoRoom; line = line; column = column; written = 0 })
+  pub write_broken : (line column : ℕ) → Never entry-crate.write.Reads.Learnt (1, (blank, (lent_mut [], tt))) (record { answer = NoRoom; line = line; column = column; written = 0 })
   -- the line named is the record's own: the text is line 5 of it, and line 4 of an entry
-  pub write_line : Never entry-crate.write.Reads.Learnt (1, (with_field 7 (record { bytes = zeros 256; size = 257 }) (case_of 24), (lent [], tt))) (refused_with BrokenRecord 4)
+  pub write_line : Never entry-crate.write.Reads.Learnt (1, (with_field 7 (record { bytes = zeros 256; size = 257 }) (case_of 24), (lent_mut [], tt))) (refused_with BrokenRecord 4)
   -- nor is one with a chip
   pub write_chip : (line column written : ℕ)
-      → Never entry-crate.write.Reads.Learnt (1, (with_number 3 7 (case_of 24), (lent (zeros 200), tt))) (record { answer = Done; line = line; column = column; written = written })
+      → Never entry-crate.write.Reads.Learnt (1, (with_number 3 7 (case_of 24), (lent_mut (zeros 200), tt))) (record { answer = Done; line = line; column = column; written = written })
   -- a refusal changes no lent byte
-  pub write_touched : NeverLeaves entry-crate.write.Reads.Learnt (1, (blank, (lent (0 ∷ []), tt))) (refused_with BrokenRecord 1) (1, (blank, (lent (1 ∷ []), tt)))
+  pub write_touched : NeverLeaves entry-crate.write.Reads.Learnt (1, (blank, (lent_mut (0 ∷ []), tt))) (refused_with BrokenRecord 1) (1, (blank, (lent_mut (1 ∷ []), tt)))
   -- an entry does not go into a byte less
-  pub write_room : (line column written : ℕ) → Never entry-crate.write.Reads.Learnt (1, (case_of 24, (lent (zeros 140), tt))) (record { answer = Done; line = line; column = column; written = written })
+  pub write_room : (line column written : ℕ) → Never entry-crate.write.Reads.Learnt (1, (case_of 24, (lent_mut (zeros 140), tt))) (record { answer = Done; line = line; column = column; written = written })

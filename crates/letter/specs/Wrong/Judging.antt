@@ -13,7 +13,7 @@ use Rattle.judge.specs.declared.stepping.Step.TheVariants.{Stopped, Wait}
 use Rattle.judge.specs.Verdicts.{our_sealing}
 use Rattle.report.proofs as report
 use Rattle.judge.proofs as judge
-use Rattle.letter.specs.Calls.{Lent, lent, Never, Only, NeverLeaves, NoSet}
+use Rattle.letter.specs.Calls.{Lent, lent, lent_mut, Never, Only, NeverLeaves, NoSet}
 use Rattle.letter.specs.Judging.{compare_learnt}
 use Rattle.letter.specs.Wrong.Records.{case_of}
 
@@ -49,13 +49,13 @@ pub record Wrong : Type 0 where
   -- it does not have the wanted text's bytes
   pub tail_wanted : (part : Lent) → part.now ≡ 2 ∷ [] → Never judge.difference_tail.Reads.Learnt (lent (1 ∷ 2 ∷ []), (lent (1 ∷ []), tt)) part
   -- nor does it lie in other memory than the found text, also where it is empty
-  pub tail_elsewhere : (wanted found part : Lent) → (part.ptr.0 ≡ found.ptr.0 → ⊥) → Never judge.difference_tail.Reads.Learnt (wanted, (found, tt)) part
+  pub tail_elsewhere : (wanted found part : Lent) → (part.ref_ptr.0 ≡ found.ref_ptr.0 → ⊥) → Never judge.difference_tail.Reads.Learnt (wanted, (found, tt)) part
   -- the empty part of a text that is cut off does not lie at its beginning
-  pub tail_begin : (part : Lent) → part.ptr.1 ≡ 0 → Never judge.difference_tail.Reads.Learnt (lent (1 ∷ 2 ∷ []), (lent (1 ∷ []), tt)) part
+  pub tail_begin : (part : Lent) → part.ref_ptr.1 ≡ 0 → Never judge.difference_tail.Reads.Learnt (lent (1 ∷ 2 ∷ []), (lent (1 ∷ []), tt)) part
   -- in a comparison, too, a text that is cut off is not the same
   pub compare_cut : (r : Comparison) → r.difference ≡ Same → Never compare_learnt (lent (1 ∷ 2 ∷ []), (lent (1 ∷ []), tt)) r
   -- and the part belongs to the place: where the texts differ at 1, it does not lie at the beginning
-  pub compare_part : (r : Comparison) → r.part.ptr.1 ≡ 0 → Never compare_learnt (lent (1 ∷ 2 ∷ []), (lent (1 ∷ 3 ∷ []), tt)) r
+  pub compare_part : (r : Comparison) → r.part.ref_ptr.1 ≡ 0 → Never compare_learnt (lent (1 ∷ 2 ∷ []), (lent (1 ∷ 3 ∷ []), tt)) r
   -- fields differ where one holds a beginning of what the other holds, either way round
   pub fields_begun : Never judge.fields_differ.Reads.Learnt (field_of (1 ∷ 2 ∷ []), (field_of (1 ∷ []), tt)) false
   pub fields_longer : Never judge.fields_differ.Reads.Learnt (field_of (1 ∷ []), (field_of (1 ∷ 2 ∷ []), tt)) false
@@ -83,19 +83,19 @@ pub record Wrong : Type 0 where
   -- and its line is told
   pub judge_line : Never judge.judge.Reads.Learnt (blank, tt) (Unread 0 0)
   -- at the end of the input nothing is waited for
-  pub step_end : Never judge.judge_window.Reads.Learnt (lent [], (true, (1, (lent [], tt)))) Wait
+  pub step_end : Never judge.judge_window.Reads.Learnt (lent [], (true, (1, (lent_mut [], tt)))) Wait
   -- a window that is wrong at its first column is not stopped at its second
-  pub step_column : (written : ℕ) → Never judge.judge_window.Reads.Learnt (lent (ascii "x"), (true, (1, (lent (zeros 32), tt)))) (Stopped 1 2 written)
+  pub step_column : (written : ℕ) → Never judge.judge_window.Reads.Learnt (lent (ascii "x"), (true, (1, (lent_mut (zeros 32), tt)))) (Stopped 1 2 written)
   -- what no input can mend is not waited on
-  pub step_at_once : Never judge.judge_window.Reads.Learnt (lent (ascii "x"), (false, (1, (lent (zeros 32), tt)))) Wait
+  pub step_at_once : Never judge.judge_window.Reads.Learnt (lent (ascii "x"), (false, (1, (lent_mut (zeros 32), tt)))) Wait
   -- what can still become a record is not called broken
-  pub step_early : (line column written : ℕ) → Never judge.judge_window.Reads.Learnt (lent (ascii "set=1\nkey=0"), (false, (1, (lent (zeros 32), tt)))) (Stopped line column written)
+  pub step_early : (line column written : ℕ) → Never judge.judge_window.Reads.Learnt (lent (ascii "set=1\nkey=0"), (false, (1, (lent_mut (zeros 32), tt)))) (Stopped line column written)
   -- nor is what can still become a record of form 2
-  pub step_inside : (line column written : ℕ) → Never judge.judge_window.Reads.Learnt (lent (ascii "form"), (false, (1, (lent (zeros 32), tt)))) (Stopped line column written)
+  pub step_inside : (line column written : ℕ) → Never judge.judge_window.Reads.Learnt (lent (ascii "form"), (false, (1, (lent_mut (zeros 32), tt)))) (Stopped line column written)
   -- where the input has ended, it is of form 1, and at fault in its first column
-  pub step_inside_end : (written : ℕ) → Never judge.judge_window.Reads.Learnt (lent (ascii "form"), (true, (1, (lent (zeros 32), tt)))) (Stopped 1 5 written)
+  pub step_inside_end : (written : ℕ) → Never judge.judge_window.Reads.Learnt (lent (ascii "form"), (true, (1, (lent_mut (zeros 32), tt)))) (Stopped 1 5 written)
   -- a report without room is not done
-  pub report_room : Never report.report.Reads.Learnt (1, (Equal, (lent [], tt))) (record { answer = Done; written = 0 })
+  pub report_room : Never report.report.Reads.Learnt (1, (Equal, (lent_mut [], tt))) (record { answer = Done; written = 0 })
   -- the field of an unread record is its line, and not its column
-  pub report_column : NeverLeaves report.report.Reads.Learnt (1, (Unread 4 7, (lent (zeros 32), tt))) (record { answer = Done; written = 32 })
-      (1, (Unread 4 7, (lent (ascii "record=1\nverdict=unread\nfield=7\n"), tt)))
+  pub report_column : NeverLeaves report.report.Reads.Learnt (1, (Unread 4 7, (lent_mut (zeros 32), tt))) (record { answer = Done; written = 32 })
+      (1, (Unread 4 7, (lent_mut (ascii "record=1\nverdict=unread\nfield=7\n"), tt)))

@@ -23,7 +23,7 @@ use Rattle.record.specs.Known.{seven_lines, nine_lines, other_key}
 use Rattle.digits.proofs as digits
 use Rattle.lines.proofs as lines
 use Rattle.record.proofs as record-crate
-use Rattle.letter.specs.Calls.{lent, Never, Only, NeverLeaves, NoSet}
+use Rattle.letter.specs.Calls.{lent, lent_mut, Never, Only, NeverLeaves, NoSet}
 
 -- the record of the rules' whole case, with any rounds: set 1, key, nonce and tag of zeros, all else empty
 abbrev pub case_of : ℕ → Record
@@ -63,29 +63,29 @@ pub record Wrong : Type 0 where
   pub read_pair_lower : Never digits.read_pair.Reads.Learnt (Upper, (0x30, (0x61, tt))) (Byte 10)
   pub read_pair_lower_first : Never digits.read_pair.Reads.Learnt (Upper, (0x30, (0x61, tt))) BadFirst
   -- 1f is not put as `f1`
-  pub put_bytes_low : NeverLeaves digits.put_bytes.Reads.Learnt (Lower, (lent (0x1f ∷ []), (lent (zeros 2), tt))) 2 (Lower, (lent (0x1f ∷ []), (lent (ascii "f1"), tt)))
+  pub put_bytes_low : NeverLeaves digits.put_bytes.Reads.Learnt (Lower, (lent (0x1f ∷ []), (lent_mut (zeros 2), tt))) 2 (Lower, (lent (0x1f ∷ []), (lent_mut (ascii "f1"), tt)))
   -- nor in lower case where upper case is asked for
-  pub put_bytes_case : NeverLeaves digits.put_bytes.Reads.Learnt (Upper, (lent (0x1f ∷ []), (lent (zeros 2), tt))) 2 (Upper, (lent (0x1f ∷ []), (lent (ascii "1f"), tt)))
+  pub put_bytes_case : NeverLeaves digits.put_bytes.Reads.Learnt (Upper, (lent (0x1f ∷ []), (lent_mut (zeros 2), tt))) 2 (Upper, (lent (0x1f ∷ []), (lent_mut (ascii "1f"), tt)))
   -- 1f is not put where one place is lent
-  pub put_bytes_room : Never digits.put_bytes.Reads.Learnt (Lower, (lent (0x1f ∷ []), (lent (zeros 1), tt))) 2
+  pub put_bytes_room : Never digits.put_bytes.Reads.Learnt (Lower, (lent (0x1f ∷ []), (lent_mut (zeros 1), tt))) 2
   -- two bytes do not go into one place
-  pub put_text_room : Never digits.put_text.Reads.Learnt (lent (zeros 2), (lent (zeros 1), tt)) 2
+  pub put_text_room : Never digits.put_text.Reads.Learnt (lent (zeros 2), (lent_mut (zeros 1), tt)) 2
   -- one byte does not touch the second place
-  pub put_text_beyond : NeverLeaves digits.put_text.Reads.Learnt (lent (1 ∷ []), (lent (zeros 2), tt)) 1 (lent (1 ∷ []), (lent (1 ∷ 1 ∷ []), tt))
+  pub put_text_beyond : NeverLeaves digits.put_text.Reads.Learnt (lent (1 ∷ []), (lent_mut (zeros 2), tt)) 1 (lent (1 ∷ []), (lent_mut (1 ∷ 1 ∷ []), tt))
   -- an empty line has its line feed
-  pub put_line_feed : Never digits.put_line.Reads.Learnt (lent [], (lent [], (lent (zeros 1), tt))) 0
+  pub put_line_feed : Never digits.put_line.Reads.Learnt (lent [], (lent [], (lent_mut (zeros 1), tt))) 0
   -- a line feed does not go into no place
-  pub put_line_room : Never digits.put_line.Reads.Learnt (lent [], (lent [], (lent [], tt))) 1
+  pub put_line_room : Never digits.put_line.Reads.Learnt (lent [], (lent [], (lent_mut [], tt))) 1
   -- 10 has two digits
   pub number_length_ten : Never digits.number_length.Reads.Learnt (10, tt) 1
   -- 0 has one digit
   pub number_length_nought : Never digits.number_length.Reads.Learnt (0, tt) 0
   -- 10 is not put as `01`
-  pub put_number_ten : NeverLeaves digits.put_number.Reads.Learnt (10, (lent (zeros 2), tt)) 2 (10, (lent (ascii "01"), tt))
+  pub put_number_ten : NeverLeaves digits.put_number.Reads.Learnt (10, (lent_mut (zeros 2), tt)) 2 (10, (lent_mut (ascii "01"), tt))
   -- 10 is not put as one digit
-  pub put_number_room : Never digits.put_number.Reads.Learnt (10, (lent (zeros 1), tt)) 1
+  pub put_number_room : Never digits.put_number.Reads.Learnt (10, (lent_mut (zeros 1), tt)) 1
   -- 1 is not put as `2`
-  pub put_number_high : NeverLeaves digits.put_number.Reads.Learnt (1, (lent (zeros 1), tt)) 1 (1, (lent (0x32 ∷ []), tt))
+  pub put_number_high : NeverLeaves digits.put_number.Reads.Learnt (1, (lent_mut (zeros 1), tt)) 1 (1, (lent_mut (0x32 ∷ []), tt))
   -- a name of 33 bytes does not go into its places
   pub named_long : Never lines.named.Reads.Learnt (lent (zeros 33), tt) (record { bytes = zeros 32; size = 33 })
   -- a name keeps its length
@@ -156,12 +156,12 @@ pub record Wrong : Type 0 where
   -- a needless zero in the rounds is not at fault itself
   pub read_zero : (early : Bool) → Never record-crate.read.Reads.Learnt (One, (lent (seven_lines ++ ascii "rounds=024\n"), tt)) (refused_at 8 8 early)
   -- a record that is refused in writing has its line named, no column, and no byte written
-  pub write_no_line : (column : ℕ) → Never record-crate.write.Reads.Learnt (One, (blank, (lent [], tt))) (record { answer = BrokenRecord; line = 0; column = column; written = 0 })
-  pub write_column : (line column : ℕ) → Never record-crate.write.Reads.Learnt (One, (blank, (lent [], tt))) (record { answer = BrokenRecord; line = line; column = suc column; written = 0 })
-  pub write_touched : NeverLeaves record-crate.write.Reads.Learnt (One, (blank, (lent (0 ∷ []), tt))) (record { answer = BrokenRecord; line = 1; column = 0; written = 0 })
-      (One, (blank, (lent (1 ∷ []), tt)))
+  pub write_no_line : (column : ℕ) → Never record-crate.write.Reads.Learnt (One, (blank, (lent_mut [], tt))) (record { answer = BrokenRecord; line = 0; column = column; written = 0 })
+  pub write_column : (line column : ℕ) → Never record-crate.write.Reads.Learnt (One, (blank, (lent_mut [], tt))) (record { answer = BrokenRecord; line = line; column = suc column; written = 0 })
+  pub write_touched : NeverLeaves record-crate.write.Reads.Learnt (One, (blank, (lent_mut (0 ∷ []), tt))) (record { answer = BrokenRecord; line = 1; column = 0; written = 0 })
+      (One, (blank, (lent_mut (1 ∷ []), tt)))
   -- answer 10 comes before answer 6
-  pub write_room : (line column : ℕ) → Never record-crate.write.Reads.Learnt (One, (blank, (lent [], tt))) (record { answer = NoRoom; line = line; column = column; written = 0 })
+  pub write_room : (line column : ℕ) → Never record-crate.write.Reads.Learnt (One, (blank, (lent_mut [], tt))) (record { answer = NoRoom; line = line; column = column; written = 0 })
   -- a text of 257 bytes breaks line 5, and not the cipher's
   pub first_broken_text : Never record-crate.first_broken.Reads.Learnt (
     One,
@@ -230,6 +230,6 @@ pub record Wrong : Type 0 where
   pub first_broken_chip_line : Never record-crate.first_broken.Reads.Learnt (Two, (with_number 3 65_536 (case_of 24), tt)) 2
   -- form 1 does not drop a chip, and says so before it looks at the room
   pub write_chip : (line column written : ℕ)
-      → Never record-crate.write.Reads.Learnt (One, (with_number 3 7 (case_of 25), (lent (zeros 147), tt))) (record { answer = Done; line = line; column = column; written = written })
+      → Never record-crate.write.Reads.Learnt (One, (with_number 3 7 (case_of 25), (lent_mut (zeros 147), tt))) (record { answer = Done; line = line; column = column; written = written })
   pub write_chip_room : (line column : ℕ)
-      → Never record-crate.write.Reads.Learnt (One, (with_number 3 7 (case_of 25), (lent [], tt))) (record { answer = NoRoom; line = line; column = column; written = 0 })
+      → Never record-crate.write.Reads.Learnt (One, (with_number 3 7 (case_of 25), (lent_mut [], tt))) (record { answer = NoRoom; line = line; column = column; written = 0 })

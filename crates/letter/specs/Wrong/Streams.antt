@@ -13,7 +13,7 @@ use Rattle.stream.specs.declared.Phase.TheVariants.{Ad, Text, Ended}
 use Rattle.stream.specs.State.{gives_text, gives_tag, is_open, ended, is_sound}
 use Rattle.stream.proofs as stream
 use Rattle.letter.specs.Wrong.Engine.{started_three, started_four, nine_three, nine_tag}
-use Rattle.letter.specs.Calls.{Lent, lent, Never, NeverLeaves, NoSet}
+use Rattle.letter.specs.Calls.{Lent, lent, lent_mut, Never, NeverLeaves, NoSet}
 
 -- a stream at the start of its data: its set, direction and key
 abbrev pub begun_in : ℕ → Direction → List ℕ → Stream
@@ -59,13 +59,13 @@ handed s n = (s, (lent (zeros n), tt))
 
 -- the contract of a direction's text call does not allow an outcome, whatever comes back in the lent places; a checking's is lent no place for its output
 abbrev pub NeverText : Direction → Stream → List ℕ → List ℕ → Outcome → Type 0
-NeverText Sealing s piece out o = Never stream.Stream.seal.Reads.Learnt (s, (lent piece, (lent out, tt))) o
+NeverText Sealing s piece out o = Never stream.Stream.seal.Reads.Learnt (s, (lent piece, (lent_mut out, tt))) o
 NeverText Checking s piece out o = Never stream.Stream.check.Reads.Learnt (s, (lent piece, tt)) o
-NeverText Opening s piece out o = Never stream.Stream.«open».Reads.Learnt (s, (lent piece, (lent out, tt))) o
+NeverText Opening s piece out o = Never stream.Stream.«open».Reads.Learnt (s, (lent piece, (lent_mut out, tt))) o
 
 -- nor that of its finish
 abbrev pub NeverFinish : Direction → Stream → List ℕ → Outcome → Type 0
-NeverFinish Sealing s tag o = Never stream.Stream.finish_sealing.Reads.Learnt (s, (lent tag, tt)) o
+NeverFinish Sealing s tag o = Never stream.Stream.finish_sealing.Reads.Learnt (s, (lent_mut tag, tt)) o
 NeverFinish Checking s tag o = Never stream.Stream.finish_checking.Reads.Learnt (s, (lent tag, tt)) o
 NeverFinish Opening s tag o = Never stream.Stream.finish_opening.Reads.Learnt (s, (lent tag, tt)) o
 
