@@ -50,7 +50,7 @@ part_of x = record { bytes = x.now; block = x.ref_ptr.0; offset = x.ref_ptr.1 }
 abbrev pub difference_part : List ℕ → Bor (List ℕ) → Part
 difference_part wanted found =
     let d = first_difference wanted found.now in
-    record { bytes = d.part; block = found.ptr.0; offset = found.ptr.1 + d.place }
+    record { bytes = d.part; block = found.ref_ptr.0; offset = found.ref_ptr.1 + d.place }
 
 -- ---- both
 

@@ -10,7 +10,7 @@ use Rattle.answers.specs.Numbers.{number_of}
 use Rattle.chip_log.specs.declared.reading.Reading.{Reading}
 use Rattle.chip_log.specs.Calls.{read_as, refused_at, read_entry}
 use Rattle.chip_log.proofs.Laws.{reads_log}
-use Rattle.chip_log.proofs as log-crate
+use Rattle.chip_log.proofs as chip_log
 use Rattle.stream.specs.declared.Stream.{Stream}
 use Rattle.replay.specs.declared.whole.Conclusion.{Conclusion}
 use Rattle.replay.specs.declared.window.Verdict.{Verdict}
@@ -54,7 +54,7 @@ keeps =
 pub every_call : EveryCall
 every_call =
     record {
-      log_read = answered (λ M. log-crate.read.Met.met) (λ κ a. tt) (λ κ a r e p. p);
+      log_read = answered (λ M. chip_log.read.Met.met) (λ κ a. tt) (λ κ a r e p. p);
       replay_open = answered (λ M. replay-crate.«open».Met.met) (λ κ a. tt) (λ κ a r e p. p);
       replay_moved = answered (λ M. replay-crate.moved.Met.met) (λ κ a. tt) (λ κ a r e p. p);
       replay_entry = answered (λ M. replay-crate.entry.Met.met) (λ κ a. tt) (λ κ a r e p. p);

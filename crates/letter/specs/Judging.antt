@@ -1,9 +1,6 @@
 -- The first difference of two texts, the verdict on a record, its report and the step of the bench: all that is said of their calls.
-use Rattle.std.specs.Prelude.{◌≡◌, refl, Bool, false, List, ◌++◌, ◌↔◌, ◌⊎◌, ℕ, length, drop}
+use Rattle.std.specs.Prelude.{◌≡◌, Bool, false, List, ◌++◌, ◌↔◌, ◌⊎◌, ℕ, length, drop}
 use contract.Lifetimes.{Lfts}
-use base.Logic.{emp}
-use borrow.Fn.Claims.{AllOf}
-use borrow.Fn.Read.{all_models, no_know, r_top, r_last}
 use Rattle.answers.specs.declared.Answer.TheVariants.{Done}
 use Rattle.answers.specs.Order.{first}
 use Rattle.record.specs.declared.field.Field.{Field}
@@ -49,17 +46,12 @@ pub record Keeps (m : Model) : Type 0 where
   pub step : (window : Lent) (over : Bool) (number : ℕ) (out : LentMut) → let leaves = m.step window.now over number out.now in
       Leaves judge-crate.judge_window.Reads.Learnt (window, (over, (number, (out, tt)))) leaves.step (window, (over, (number, (holding out leaves.out, tt))))
 
--- what `compare` asks of its caller, and what a caller learns from its contract. Where the result is a struct that holds a reference, the kit has no names for them; its own reading of a
--- contract gives them
+-- what `compare` asks of its caller, and what a caller learns from its contract; its result is a struct that holds a reference
 abbrev pub compare_asked : Lfts 2 → Lent × (Lent × Unit {0}) → Type 0
-compare_asked κs a =
-    AllOf (all_models {Base = λ w. emp w.𝓤} {Know = no_know}
-    (λ w. (judge-crate.compare.clauses w.𝓛 w.𝓜.mem w.𝓡.run κs a).requires tt) (λ w. r_top) (λ w. refl) (λ w. refl) (λ w. refl)).owes
+compare_asked = judge-crate.compare.Reads.Asked
 
 abbrev pub compare_learnt : Lfts 2 → Lent × (Lent × Unit {0}) → Comparison → Lent × (Lent × Unit {0}) → Type 0
-compare_learnt κs a r e =
-    AllOf (all_models {Base = λ w. emp w.𝓤} {Know = no_know}
-    (λ w. (judge-crate.compare.clauses w.𝓛 w.𝓜.mem w.𝓡.run κs a).ensures tt r e) (λ w. r_last _) (λ w. refl) (λ w. refl) (λ w. refl)).tells
+compare_learnt = judge-crate.compare.Reads.Learnt
 
 -- each public call, and its one outcome
 pub record EveryCall : Type 2 where

@@ -1,9 +1,6 @@
 -- A chip's log, read and replayed: all that is said of its calls.
-use Rattle.std.specs.Prelude.{◌≡◌, refl, Bool, true, false, cond, List, [], ◌++◌, ◌↔◌, ◌⊎◌, ℕ, ◌≤◌, ◌<◌, length, take, drop}
+use Rattle.std.specs.Prelude.{◌≡◌, Bool, true, false, cond, List, [], ◌++◌, ◌↔◌, ◌⊎◌, ℕ, ◌≤◌, ◌<◌, length, take, drop}
 use contract.Lifetimes.{Lfts}
-use base.Logic.{emp}
-use borrow.Fn.Claims.{AllOf}
-use borrow.Fn.Read.{all_models, no_know, r_top, r_last}
 use Rattle.answers.specs.declared.Answer as answers
 use Rattle.answers.specs.declared.Answer.TheVariants.{Done, BrokenRecord}
 use Rattle.chip_log.specs.declared.reading.Reading.{Reading}
@@ -20,7 +17,7 @@ use Rattle.replay.specs.declared.window.Verdict.TheVariants.{Agrees, Answer, Out
 use Rattle.replay.specs.Cursor.{log_at}
 use Rattle.replay.specs.Replays.{is_agreed, at_end, stopped, further, step_by, stretch_of, told, replay_of}
 use Rattle.replay.specs.Laws.{Ours, FirstWrong}
-use Rattle.chip_log.proofs as log-crate
+use Rattle.chip_log.proofs as chip_log
 use Rattle.replay.proofs as replay-crate
 use Rattle.letter.specs.Calls.{Answered, Lent, Gives, Refused}
 
@@ -47,41 +44,28 @@ ours =
       replay = replay_of;
     }
 
--- what `open`, `moved` and `entry` ask of their caller, and what a caller learns from their contracts. Where an argument or the result is a struct that holds a
--- reference, the kit has no names for them; its own reading of a contract gives them
+-- what `open`, `moved` and `entry` ask of their caller, and what a caller learns from their contracts; an argument or the result is a struct that holds a reference
 abbrev pub open_asked : Lfts 1 → Lent × Unit {0} → Type 0
-open_asked κs a =
-    AllOf (all_models {Base = λ w. emp w.𝓤} {Know = no_know}
-    (λ w. (replay-crate.«open».clauses w.𝓛 w.𝓜.mem w.𝓡.run κs a).requires tt) (λ w. r_top) (λ w. refl) (λ w. refl) (λ w. refl)).owes
+open_asked = replay-crate.«open».Reads.Asked
 
 abbrev pub open_learnt : Lfts 1 → Lent × Unit {0} → Log → Lent × Unit {0} → Type 0
-open_learnt κs a r e =
-    AllOf (all_models {Base = λ w. emp w.𝓤} {Know = no_know}
-    (λ w. (replay-crate.«open».clauses w.𝓛 w.𝓜.mem w.𝓡.run κs a).ensures tt r e) (λ w. r_last _) (λ w. refl) (λ w. refl) (λ w. refl)).tells
+open_learnt = replay-crate.«open».Reads.Learnt
 
 abbrev pub moved_asked : Lfts 1 → Log × (ℕ × Unit {0}) → Type 0
-moved_asked κs a =
-    AllOf (all_models {Base = λ w. emp w.𝓤} {Know = no_know}
-    (λ w. (replay-crate.moved.clauses w.𝓛 w.𝓜.mem w.𝓡.run κs a).requires tt) (λ w. r_top) (λ w. refl) (λ w. refl) (λ w. refl)).owes
+moved_asked = replay-crate.moved.Reads.Asked
 
 abbrev pub moved_learnt : Lfts 1 → Log × (ℕ × Unit {0}) → Log → Log × (ℕ × Unit {0}) → Type 0
-moved_learnt κs a r e =
-    AllOf (all_models {Base = λ w. emp w.𝓤} {Know = no_know}
-    (λ w. (replay-crate.moved.clauses w.𝓛 w.𝓜.mem w.𝓡.run κs a).ensures tt r e) (λ w. r_last _) (λ w. refl) (λ w. refl) (λ w. refl)).tells
+moved_learnt = replay-crate.moved.Reads.Learnt
 
 abbrev pub entry_asked : Lfts 1 → Log × Unit {0} → Type 0
-entry_asked κs a =
-    AllOf (all_models {Base = λ w. emp w.𝓤} {Know = no_know}
-    (λ w. (replay-crate.entry.clauses w.𝓛 w.𝓜.mem w.𝓡.run κs a).requires tt) (λ w. r_top) (λ w. refl) (λ w. refl) (λ w. refl)).owes
+entry_asked = replay-crate.entry.Reads.Asked
 
 abbrev pub entry_learnt : Lfts 1 → Log × Unit {0} → Reading → Log × Unit {0} → Type 0
-entry_learnt κs a r e =
-    AllOf (all_models {Base = λ w. emp w.𝓤} {Know = no_know}
-    (λ w. (replay-crate.entry.clauses w.𝓛 w.𝓜.mem w.𝓡.run κs a).ensures tt r e) (λ w. r_last _) (λ w. refl) (λ w. refl) (λ w. refl)).tells
+entry_learnt = replay-crate.entry.Reads.Learnt
 
 -- each gives what the contract of the code allows
 pub record Keeps (m : Model) : Type 0 where
-  pub read : (text : Lent) → Gives log-crate.read.Reads.Learnt (text, tt) (m.read text.now)
+  pub read : (text : Lent) → Gives chip_log.read.Reads.Learnt (text, tt) (m.read text.now)
   pub opened : (bytes : Lent) → Gives open_learnt (bytes, tt) (m.opened bytes)
   pub moved : (log : Log) (place : ℕ) → Gives moved_learnt (log, (place, tt)) (m.moved log place)
   pub entry : (log : Log) → Gives entry_learnt (log, tt) (m.entry log)
@@ -90,7 +74,7 @@ pub record Keeps (m : Model) : Type 0 where
 
 -- each public call, and its one outcome
 pub record EveryCall : Type 2 where
-  pub log_read : Answered log-crate.read.Statement.statement log-crate.read.Reads.Asked log-crate.read.Reads.Learnt
+  pub log_read : Answered chip_log.read.Statement.statement chip_log.read.Reads.Asked chip_log.read.Reads.Learnt
       (λ r e. r) (λ (text, _). read_entry text.now)
   pub replay_open : Answered replay-crate.«open».Statement.statement open_asked open_learnt (λ r e. r) (λ (bytes, _). log_at bytes 0)
   pub replay_moved : Answered replay-crate.moved.Statement.statement moved_asked moved_learnt (λ r e. r) (λ (log, (place, _)). log_at log.bytes place)

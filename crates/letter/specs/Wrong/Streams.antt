@@ -214,8 +214,8 @@ pub record Wrong : Type 0 where
   pub sealed_front : TextOnly Sealing (fronted Sealing) three_bytes (zeros 3) (λ o. o.next ≡ stream_of (0x1010100405060708 ∷ zeros 4) Sealing Text 0 3 3 200)
   -- an opening hands out a piece's plaintext at once, and nothing else, and touches no byte behind it
   pub open_hands_out : (o : Outcome) (left : List ℕ) → (left ≡ 0x10 ∷ 0x10 ∷ 0x10 ∷ 7 ∷ 8 ∷ [] → ⊥)
-      → NeverLeaves stream.Stream.«open».Reads.Learnt (fronted Opening, (lent three_bytes, (lent (4 ∷ 5 ∷ 6 ∷ 7 ∷ 8 ∷ []), tt))) o
-      (fronted Opening, (lent three_bytes, (lent left, tt)))
+      → NeverLeaves stream.Stream.«open».Reads.Learnt (fronted Opening, (lent three_bytes, (lent_mut (4 ∷ 5 ∷ 6 ∷ 7 ∷ 8 ∷ []), tt))) o
+      (fronted Opening, (lent three_bytes, (lent_mut left, tt)))
   -- an empty piece that closes a byte of data reports the rounds of closing
   pub text_closing : (d : Direction) → TextOnly d (stream_of (zeros 5) d Ad 1 0 1 200) [] [] (λ o. o.rounds ≡ 6)
   -- those are 6 in set 3, and 8 in set 4
@@ -225,8 +225,8 @@ pub record Wrong : Type 0 where
   pub text_three : TextOnly Sealing (text_in 3 Sealing 0 0) (replicate 9 1) (zeros 9) (λ o. o.next.words ≡ nine_three)
   pub text_four : (d : Direction) → TextOnly d (text_in 4 d 0 0) (replicate 9 1) (zeros 9) (λ o. o.next.words ≡ 0x0101010101010101 ∷ 0x0100000000000000 ∷ zeros 3)
   -- a refused piece of text does not touch what it is lent
-  pub text_refused : NeverLeaves stream.Stream.seal.Reads.Learnt (ended, (lent [], (lent (0 ∷ []), tt))) (answering OutOfPhase 0 ended) (ended, (lent [], (lent (1 ∷ []), tt)))
-  pub open_piece_refused : NeverLeaves stream.Stream.«open».Reads.Learnt (ended, (lent [], (lent (0 ∷ []), tt))) (answering OutOfPhase 0 ended) (ended, (lent [], (lent (1 ∷ []), tt)))
+  pub text_refused : NeverLeaves stream.Stream.seal.Reads.Learnt (ended, (lent [], (lent_mut (0 ∷ []), tt))) (answering OutOfPhase 0 ended) (ended, (lent [], (lent_mut (1 ∷ []), tt)))
+  pub open_piece_refused : NeverLeaves stream.Stream.«open».Reads.Learnt (ended, (lent [], (lent_mut (0 ∷ []), tt))) (answering OutOfPhase 0 ended) (ended, (lent [], (lent_mut (1 ∷ []), tt)))
   -- ---- the end
 
   -- the ended state is not open, nor of another set than 1, nor says it another direction than sealing, nor has it a limit
@@ -250,5 +250,5 @@ pub record Wrong : Type 0 where
   pub finish_closing : (d : Direction) (tag : List ℕ) → length tag ≡ 16 → FinishOnly d (stream_of (zeros 5) d Ad 1 0 1 200) tag (λ o. (o.rounds ≡ 18) × (o.next ≡ ended))
   -- behind nine bytes the tag of set 4 is the second program's, and no other; where one is compared it is the right one
   pub finish_tag_four : (o : Outcome) (tag : List ℕ) → (tag ≡ nine_tag → ⊥)
-      → NeverLeaves stream.Stream.finish_sealing.Reads.Learnt (text_in 4 Sealing 9 9, (lent (zeros 16), tt)) o (text_in 4 Sealing 9 9, (lent tag, tt))
+      → NeverLeaves stream.Stream.finish_sealing.Reads.Learnt (text_in 4 Sealing 9 9, (lent_mut (zeros 16), tt)) o (text_in 4 Sealing 9 9, (lent_mut tag, tt))
   pub finish_yes_four : (d : Direction) → gives_tag d ≡ false → FinishOnly d (text_in 4 d 9 9) nine_tag (λ o. o.answer ≡ Done)

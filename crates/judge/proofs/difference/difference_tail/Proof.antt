@@ -41,8 +41,8 @@ returns c =
     let found = a.found.now in
     let place = (first_difference wanted found).place in
     let bytes = to_end found _ ∙ ap (λ (i : ℕ). drop i found) e ∙ sym (part_from wanted found) in
-    let offset : c.before.first-place.result + a.found.ptr.1 ≡ a.found.ptr.1 + place = omega (arith, e) in
-    λ j. record { bytes = bytes j; block = a.found.ptr.0; offset = offset j }
+    let offset : c.before.first-place.result + a.found.ref_ptr.1 ≡ a.found.ref_ptr.1 + place = omega (arith, e) in
+    λ j. record { bytes = bytes j; block = a.found.ref_ptr.0; offset = offset j }
 
 pub difference_tail_spec : {M : Type 1} → statement M
 difference_tail_spec = tie.close (tie.spec first-place-requires sub-result part-result-start part-result-end returns)
