@@ -1,0 +1,57 @@
+-- `message::process` meets its contract.
+use mathlib.Core.Path.{◌≡◌, ap, ap₂, ◌∙◌}
+use mathlib.Core.List.{List, ◌++◌}
+use Prim.Native.Nat.{ℕ, ◌-◌}
+use native.Mathlib.Omega.{arith}
+use lib.ListN.{length}
+use Rattle.permutation.specs.Strings.{Bytes, words_of_string, zeros}
+use Rattle.ascon.specs.Sets.{row_of}
+use Rattle.ascon.specs.Mode.{initialise, before_text}
+use Rattle.sponge.specs.declared.Way.TheVariants.{Seal}
+use Rattle.sponge.specs.Sponge.{started, absorbed, ad_closed, crypted_of, Crypted, finished}
+use Rattle.sets.proofs.Rows.{row_fits, row_sizes}
+use Rattle.tags.proofs.Compared.{sixteen_is}
+use Rattle.message.proofs.Whole.{started_is, before_is, crypted_is, tagged_is}
+use Rattle.message.proofs.process.Goals as goal
+
+pub returns : goal.returns
+returns c =
+    let text-place = c in
+    let ad-place = text-place in
+    let start-place = ad-place in
+    let key-place = start-place in
+    let s = key-place in
+    let a = s.args in
+    let pre = s.requires in
+    let row = row_of a.set in
+    let fits = row_fits a.set in
+    let K = a.key.now in
+    let N = a.nonce.now in
+    let A = a.ad.now in
+    let X = a.text.now in
+    let key : length K ≡ row.key = pre.key_len in
+    let nonce : length N ≡ row.key = pre.nonce_len in
+    let kb : Bytes K = record { at = λ i. omega (arith, s.shared_slice_known-1.given i) } in
+    let ab : Bytes A = record { at = λ i. omega (arith, s.shared_slice_known-3-1.given i) } in
+    let xb : Bytes X = record { at = λ i. omega (arith, s.shared_slice_known-4-1.given i) } in
+    let k : key-place.sixteen-key16.result ≡ K ++ zeros (16 - length K) =
+    key-place.sixteen-key16.ensures ∙ sixteen_is K (omega (arith, key, (row_sizes a.set).key)) in
+    let n : start-place.sixteen.result ≡ N ++ zeros (16 - length N) =
+    start-place.sixteen.ensures ∙ sixteen_is N (omega (arith, nonce, (row_sizes a.set).key)) in
+    let first : start-place.start-started.result ≡ words_of_string (initialise row K N) =
+    start-place.start-started.ensures ∙ ap₂ (λ (x y : List ℕ). started row x y) k n
+    ∙ started_is row fits K N key nonce kb in
+    let before : ad-place.close_ad-before.result ≡ words_of_string (before_text row K N A) =
+    ad-place.close_ad-before.ensures
+    ∙ ap (λ (w : List ℕ). ad_closed row w (length A))
+    (ad-place.absorb-absorbed.ensures ∙ ap (λ (w : List ℕ). absorbed row Seal w 0 A) first)
+    ∙ before_is row fits K N key nonce kb A ab in
+    let text =
+    text-place.crypt-after.ensures
+    ∙ ap (λ (w : List ℕ). crypted_of row a.way w 0 X a.out.now) before
+    ∙ crypted_is row fits K N key nonce kb a.way A X a.out.now pre.text_in_bounds in
+    let tag =
+    c.finish.ensures.value
+    ∙ ap₂ (λ (w x : List ℕ). finished row w (length X) x) (ap (λ (z : Crypted). z.words) text) k
+    ∙ ap (λ (t : List ℕ). t ++ zeros (16 - row.key)) (tagged_is row fits K N key nonce kb a.way A X xb) in
+    record { value = tag; out_after = ap (λ (z : Crypted). z.out) text }
