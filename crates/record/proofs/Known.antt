@@ -12,7 +12,7 @@ use Rattle.record.specs.Known.{Known}
 pub known : Known
 unfolding read_call read_any form_of inside_mark read_of step_of name_step feed_step value_step kind_of named value_kind with_value given refused_at read_as name names with_number with_field blank field_of row_of table digit_in
 known = record {
-  whole_case = refl;
+  whole_case_lem = refl;
   set_three = refl;
   set_four = refl;
   name = refl;

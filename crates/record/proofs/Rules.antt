@@ -14,7 +14,6 @@ use Rattle.digits.proofs.Spelling.{and_both}
 use Rattle.lines.specs.declared.kinds.Value.{Value}
 use Rattle.lines.specs.declared.kinds.Value.TheVariants.{Fixed, Number, Bytes}
 use Rattle.lines.specs.Laws.{fits}
-use Rattle.record.specs.declared.field.Field.{Field}
 use Rattle.record.specs.declared.form.Record.{Record}
 use Rattle.record.specs.Form.{is_field, is_keyed, number_at, field_at, with_number, with_field, value_kind, allows, keeps}
 use Rattle.record.proofs.Places.{each_part}

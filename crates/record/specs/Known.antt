@@ -30,7 +30,7 @@ nine_lines =
 
 pub record Known : Type 0 where
   -- the rules' whole case is read, with a further byte behind it
-  pub whole_case : read_call One (seven_lines ++ ascii "rounds=25\nx") ≡ read_as 147 (whole_case 1 0)
+  pub whole_case_lem : read_call One (seven_lines ++ ascii "rounds=25\nx") ≡ read_as 147 (whole_case 1 0)
   -- and in sets 3 and 4
   pub set_three : read_call One (ascii "set=3\n" ++ (drop 6 seven_lines ++ ascii "rounds=25\n")) ≡ read_as 147 (whole_case 3 0)
   pub set_four : read_call One (ascii "set=4\n" ++ (drop 6 seven_lines ++ ascii "rounds=25\n")) ≡ read_as 147 (whole_case 4 0)

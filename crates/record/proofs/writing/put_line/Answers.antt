@@ -1,0 +1,38 @@
+-- `record::writing::put_line` meets its contract.
+use mathlib.Core.Path.{◌≡◌, sym, ap₂, ◌∙◌}
+use mathlib.Core.List.{List}
+use Prim.Native.Nat.{ℕ}
+use lib.ListN.{take}
+use lib.Seq.{length-take-le, take-append_seam}
+use Rattle.digits.specs.Room.{line_of, put}
+use Rattle.digits.proofs.Room.{put_inside, put_count}
+use Rattle.record.specs.Text.{value_text, line_text}
+use Rattle.record.proofs.Names.{held_name}
+use Rattle.record.proofs.Bounds.{value_most}
+use Rattle.record.proofs.writing.put_line.Goals as goal
+
+pub slice_bounds-bytes-end : goal.slice_bounds-bytes-end
+slice_bounds-bytes-end c = (held_name _ _ c.name_of-name.ensures).inside
+
+pub slice_bounds-put_line-end : goal.slice_bounds-put_line-end
+slice_bounds-put_line-end c =
+    let n = c.name_of-name in sym (length-take-le n.result.size n.result.bytes (held_name _ _ n.ensures).inside)
+
+pub slice_bounds-value-end : goal.slice_bounds-value-end
+slice_bounds-value-end c = (put_inside _ _ _ _ c.put_value-count.ensures).0
+
+pub slice_bounds-put_line-end-2 : goal.slice_bounds-put_line-end-2
+slice_bounds-put_line-end-2 c =
+    let v = c.put_value-count in sym (length-take-le v.result v.new.out (put_inside _ _ _ _ v.ensures).0)
+
+pub returns : goal.returns
+unfolding line_text
+returns c =
+    let value-put : (let a = c.args in take c.put_value-count.result c.put_value-count.new.out ≡ value_text a.part a.entry) = let s = c in
+    let value = value_text s.args.part s.args.entry in
+    let whole = put_count value _ _ _ c.put_value-count.ensures (value_most s.args.part s.args.entry s.requires) in
+    ap₂ take whole.0 whole.1 ∙ take-append_seam value _ in
+    let a = c.args in
+    let n = c.name_of-name in
+    c.put_line.ensures
+    ∙ ap₂ (λ (x y : List ℕ). put (line_of x y) a.out.now) (held_name a.part n.result n.ensures).text_is value-put
