@@ -29,7 +29,7 @@ use Rattle.stream.specs.declared.Outcome.{Outcome}
 use Rattle.stream.specs.State.{is_direction, way_of, gives_text, gives_tag, is_ad, is_open, fits, is_sound}
 use Rattle.stream.specs.Calls.{closing_rounds, text_test, finish_test, Start, text_words, took_text, own_tag, tag_faults, finished_with, finish_call}
 use Rattle.stream.proofs.Tests.{own_direction}
-use Rattle.history.specs.History.{ours, Call, give_ad, give_text, finish, reply, History, begun, next, after, BytesIn, Started, state_at, rounds_at, published_out, Fitting.ad_fits, Fitting.text_fits, NeverRefused, PastRefused}
+use Rattle.history.specs.History.{ours, Call, give_ad, give_text, finish, reply, History, begun, next, after, BytesIn, Started, state_at, rounds_at, Fitting.ad_fits, Fitting.text_fits, NeverRefused, PastRefused}
 use Rattle.history.specs.Cuts.{RefusedCall, TextCut, TextCut.text_end, TextCut.text_refusal, TextCut.text_piece, Cut, Cut.ad_end, Cut.ad_refusal, Cut.ad_piece, Message, plain_of, published_tag, finish_answer, Whole}
 use Rattle.sponge.proofs.Fronts.{tag_is, l₁, b₁, processed_view}
 use Rattle.history.proofs.Rounds.{rounds_whole}
@@ -112,9 +112,9 @@ past_refused start begins calls b o piece out past =
 tag_published : (row : ParameterSet) → Fits row → (K : List ℕ) → length K ≡ row.key → (N A : List ℕ) (d : Direction) (T : List ℕ)
     → finalise row K (processed (way_of d) row K N A T).state ≡ (sealed row K N A (plain_of d row K N A T)).tag
 unfolding sealed
-tag_published row fits K key N A Sealing T = refl
-tag_published row fits K key N A Checking T = ap (λ (w : Processed). finalise row K w.state) (sym (encrypt_decrypted row fits K key N A T))
-tag_published row fits K key N A Opening T = ap (λ (w : Processed). finalise row K w.state) (sym (encrypt_decrypted row fits K key N A T))
+tag_published row fits K size N A Sealing T = refl
+tag_published row fits K size N A Checking T = ap (λ (w : Processed). finalise row K w.state) (sym (encrypt_decrypted row fits K size N A T))
+tag_published row fits K size N A Opening T = ap (λ (w : Processed). finalise row K w.state) (sym (encrypt_decrypted row fits K size N A T))
 
 module _ (start : Start) (begins : Started ours start) where
   abbrev d : Direction
@@ -183,8 +183,8 @@ module _ (start : Start) (begins : Started ours start) where
       follow cut (begun ours start) refl (reached start begins [] tt) (ap (λ (s : Stream). s.phase) (start_state start begins)) refl b (omega arith) m
 
   -- the stream's own tag is the published one
-  own_tag : (h : History) → Ready start begins h → own_tag h.stream ≡ published_tag start h.ad h.text
-  own_tag h y =
+  own_tag_published : (h : History) → Ready start begins h → own_tag h.stream ≡ published_tag start h.ad h.text
+  own_tag_published h y =
       let s : Stream = h.stream in
       let row = row_of start.set in
       let f = fit start begins in
@@ -230,7 +230,7 @@ module _ (start : Start) (begins : Started ours start) (h : History) (r : Reache
 
   -- the stream's own tag
   end_tag : own_tag h.stream ≡ published_tag start h.ad h.text
-  end_tag = own_tag start begins h at_end
+  end_tag = own_tag_published start begins h at_end
 
   -- the answer of its finish
   end_answer : (tag : List ℕ) → (finish_call start.direction h.stream tag).outcome.answer ≡ finish_answer start.direction row (published_tag start h.ad h.text) tag
