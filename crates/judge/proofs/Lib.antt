@@ -6,4 +6,3 @@ pub mod Windows
 pub mod Sizes
 pub mod Outputs
 pub mod Laws
-pub mod Returned
