@@ -1,7 +1,6 @@
 // The turns of the bench's program: what it does next, and how it ends. What it makes of each answer of the operating system stands in the definitions; there is no code.
 #![tactic(auto)]
 
-
 // How many records were judged equal, how many differ, and how many could not be read; the line and column where the unread one broke, 0 and 0 while there is none.
 #[derive(Clone, Copy)]
 pub struct Tally {
