@@ -40,7 +40,7 @@ loop-i-preserved c =
     let a = b.args in
     let row = row_of a.set in
     let x = get_or a.piece.now l.i 0 in
-    let v = turn row a.way (at l.w l.place) _ x l.invariant.2 l.invariant.1 (omega (arith, c.shared_slice_known-in-loop-i-1.given l.i)) (c.step-placed.ensures.place_after ∙ ap₂ (λ (n : ℕ) (run : Run). stepped n run a.way (at l.w l.place) x) b.block_length-block.ensures b.between-run.ensures) in (
+    let v = turn row a.way (at l.w l.place) _ x l.invariant.2 l.invariant.1 (search rules) (c.step-placed.ensures.place_after ∙ ap₂ (λ (n : ℕ) (run : Run). stepped n run a.way (at l.w l.place) x) b.block_length-block.ensures b.between-run.ensures) in (
       search rules,
       v.place,
       v.five,
