@@ -65,9 +65,9 @@ module _ (set number : ℕ) (known : is_set set ≡ true) (h : number ≤ larges
   line_bytes line least most x says e right = bytes_line_lem (kind_at set number line) (name number line) least most Upper (name_is number h set line) e right
 
   -- it is the line of a record that has its bytes there
-  line_of : (line : ℕ) {least most : ℕ} {x : List ℕ} (l : LineOf line least most x) (r : Record) → bytes_at line r ≡ l.bytes → x ≡ line_text number line r
+  line-line_of : (line : ℕ) {least most : ℕ} {x : List ℕ} (l : LineOf line least most x) (r : Record) → bytes_at line r ≡ l.bytes → x ≡ line_text number line r
   unfolding line_text
-  line_of line l r e = l.whole ∙ ap (λ (b : List ℕ). line_of (name number line) (hex_in Upper b)) (sym e)
+  line-line_of line l r e = l.whole ∙ ap (λ (b : List ℕ). line_of (name number line) (hex_in Upper b)) (sym e)
 
   -- a right line of nothing but its name
   name_line : (line : ℕ) (x : List ℕ) (says : ℕ) → form.value_kind (row_of set).key line ≡ Fixed 0 → Right (kind_at set number line) x says
@@ -175,9 +175,9 @@ module _ (set number : ℕ) (known : is_set set ≡ true) (h : number ≤ larges
       let r : Record = record_of key nonce text ad ct in
       let one_more = rows_lines (right_at set number) (given set number) (begun set) (line_text number) r in
       let t1 = one_more 0 _ _ r1 r1.rows.0 (name_line 1 r1.line r1.says refl r1.right) in
-      let t2 = one_more 1 _ _ r2 t1 (line_of 2 key r (held_field key.bytes)) in
-      let t3 = one_more 2 _ _ r3 t2 (line_of 3 nonce r (held_field nonce.bytes)) in
-      let t4 = one_more 3 _ _ r4 t3 (line_of 4 text r (held_field text.bytes)) in
-      let t5 = one_more 4 _ _ r5 t4 (line_of 5 ad r (held_field ad.bytes)) in
-      let t6 = one_more 5 _ _ r6 t5 (line_of 6 ct r (cipher_tag key nonce text ad ct)) in
+      let t2 = one_more 1 _ _ r2 t1 (line-line_of 2 key r (held_field key.bytes)) in
+      let t3 = one_more 2 _ _ r3 t2 (line-line_of 3 nonce r (held_field nonce.bytes)) in
+      let t4 = one_more 3 _ _ r4 t3 (line-line_of 4 text r (held_field text.bytes)) in
+      let t5 = one_more 4 _ _ r5 t4 (line-line_of 5 ad r (held_field ad.bytes)) in
+      let t6 = one_more 5 _ _ r6 t5 (line-line_of 6 ct r (cipher_tag key nonce text ad ct)) in
       (r, lines_listed key nonce text ad ct, one_more 6 x e r7 t6 (name_line 7 r7.line r7.says refl r7.right))

@@ -4,26 +4,11 @@ use Prim.Native.Nat.{ℕ, zero, suc, ◌+◌, ◌-◌, ◌≤◌}
 use mathlib.Core.List.{[], ◌∷◌}
 use native.Mathlib.Omega.{arith}
 use lib.ListN.{get_or}
-use borrow.Author.Rules.{rules}
 use Rattle.sets.proofs.Rows.{row_sizes}
 use Rattle.digits.specs.declared.hex.Case.TheVariants.{Upper}
 use Rattle.lines.specs.declared.kinds.Value.TheVariants.{Fixed, Bytes}
 use Rattle.entry.specs.Form.{value_kind}
-use Rattle.entry.proofs.form.value_of.Statement.{statement}
-use Rattle.entry.proofs.form.value_of.Tie as tie
-
-key-length-requires : tie.Need-key-length-requires
-key-length-requires c κs = search rules
-
--- a key has at most 16 bytes
-few : (c : tie.After-key-length) → c.key_length.result ≤ 16
-few c = omega (arith, c.key_length.ensures, (row_sizes c.before.args.set).key)
-
-cast-key : tie.Need-overflow-cast-key
-cast-key c = record { fits = omega (arith, few c) }
-
-add-t10 : tie.Need-overflow-add-t10
-add-t10 c = record { fits = omega (arith, few c.before) }
+use Rattle.entry.proofs.form.value_of.Goals as goal
 
 -- a line by its place in the list
 at_place : (line i : ℕ) → line - 1 ≡ suc i → line ≡ suc (suc i)
@@ -44,30 +29,36 @@ other key line h2 h3 h4 h5 h6 = go (line - 1) refl
     go (suc (suc (suc (suc (suc zero))))) e = absurd (h6 (at_place line 4 e))
     go (suc (suc (suc (suc (suc (suc i)))))) e = refl
 
-returns : tie.Need-returns
+pub overflow_cast-key : goal.overflow_cast-key
+overflow_cast-key c =
+    let few : (c.key_length-key.result ≤ 16) = omega (arith, c.key_length-key.ensures, (row_sizes c.args.set).key) in
+    record { fits = omega (arith, few) }
+
+pub overflow_add-result : goal.overflow_add-result
+overflow_add-result c =
+    let few : (c.key_length-key.result ≤ 16) = omega (arith, c.key_length-key.ensures, (row_sizes c.args.set).key) in
+    record { fits = omega (arith, few) }
+
+pub returns-in-2 : goal.returns-in-2
 unfolding value_kind
-returns c = rw c.match.keys1 (ap (λ (n : ℕ). Bytes n n Upper) c.before.key_length.ensures)
+returns-in-2 c = rw c.in-2.is (ap (λ (n : ℕ). Bytes n n Upper) c.key_length-key.ensures)
 
-returns-2 : tie.Need-returns-2
+pub returns-in-3 : goal.returns-in-3
 unfolding value_kind
-returns-2 c = rw c.match.keys2 (ap (λ (n : ℕ). Bytes n n Upper) c.before.key_length.ensures)
+returns-in-3 c = rw c.in-3.is (ap (λ (n : ℕ). Bytes n n Upper) c.key_length-key.ensures)
 
-returns-3 : tie.Need-returns-3
+pub returns-in-4 : goal.returns-in-4
 unfolding value_kind
-returns-3 c = rw c.match.keys3
+returns-in-4 c = rw c.in-4.is
 
-returns-4 : tie.Need-returns-4
+pub returns-in-5 : goal.returns-in-5
 unfolding value_kind
-returns-4 c = rw c.match.keys4
+returns-in-5 c = rw c.in-5.is
 
-returns-5 : tie.Need-returns-5
+pub returns-in-6 : goal.returns-in-6
 unfolding value_kind
-returns-5 c = rw c.match.keys5 (ap (λ (n : ℕ). Bytes n (n + 256) Upper) c.before.key_length.ensures)
+returns-in-6 c = rw c.in-6.is (ap (λ (n : ℕ). Bytes n (n + 256) Upper) c.key_length-key.ensures)
 
-returns-6 : tie.Need-returns-6
-returns-6 c =
-    let n = c.match.rest in
-    other _ c.before.before.args.line n.0.0.0.0.1 n.0.0.0.1 n.0.0.1 n.0.1 n.1
-
-pub value_of_spec : {M : Type 1} → statement M
-value_of_spec = tie.close (tie.spec key-length-requires cast-key add-t10 returns returns-2 returns-3 returns-4 returns-5 returns-6)
+pub returns-in_default : goal.returns-in_default
+returns-in_default c =
+    other _ c.args.line (λ e. omega (arith, e)) (λ e. omega (arith, e)) (λ e. omega (arith, e)) (λ e. omega (arith, e)) (λ e. omega (arith, e))
