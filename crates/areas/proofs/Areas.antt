@@ -28,7 +28,7 @@ use Rattle.gateway.specs.Laws.{Sized}
 use Rattle.gateway.specs.Calls.{Left, left, LeftLent, unspelled, left_by, start_on, ad_on, text_on, finish_on, end_on}
 use Rattle.gateway.proofs.OneWord.{word_answer, word_rounds}
 use Rattle.gateway.proofs.OneToOne.{one_to_one}
-use Rattle.gateway.proofs.Calls.{left_called, ad_on, text_on, finish_on}
+use Rattle.gateway.proofs.Calls.{left_called, ad_on_lem, text_on_lem, finish_on_lem}
 use Rattle.areas.specs.Areas.{ours, AreaHistory, spelled_history, reply_on, out_on, begun_on, next_on, after_on, StartedOn, Spelled, is_open_in, AreaTold, AreaLaw, AreaTaken, AreasTake}
 use Rattle.areas.proofs.Sizes.{reached_sized}
 
@@ -43,14 +43,14 @@ module _ (s : Stream) (sized : Sized s) where
 
   -- a piece of text, and a finish, in a direction
   pub text_spelled : (d : Direction) (piece out : List ℕ) → text_on d (spelling s) piece out ≡ left_called (text_call d s piece out)
-  text_spelled d piece out = sym (text_on (spelling s) yes d piece out) ∙ ap (λ (x : Stream). left_called (text_call d x piece out)) same
+  text_spelled d piece out = sym (text_on_lem (spelling s) yes d piece out) ∙ ap (λ (x : Stream). left_called (text_call d x piece out)) same
 
   pub finish_spelled : (d : Direction) (tag : List ℕ) → finish_on d (spelling s) tag ≡ left_called (finish_call d s tag)
-  finish_spelled d tag = sym (finish_on (spelling s) yes d tag) ∙ ap (λ (x : Stream). left_called (finish_call d x tag)) same
+  finish_spelled d tag = sym (finish_on_lem (spelling s) yes d tag) ∙ ap (λ (x : Stream). left_called (finish_call d x tag)) same
 
   -- any call
   reply_spelled : (call : Call) → reply_on ours (spelling s) call ≡ left_by (reply histories.ours s call)
-  reply_spelled (give_ad piece) = sym (ad_on (spelling s) yes piece) ∙ ap (λ (x : Stream). left_by (ad_call x piece)) same
+  reply_spelled (give_ad piece) = sym (ad_on_lem (spelling s) yes piece) ∙ ap (λ (x : Stream). left_by (ad_call x piece)) same
   reply_spelled (give_text d piece out) = ap (λ (r : LeftLent). left r.word r.area) (text_spelled d piece out)
   reply_spelled (finish d tag) = ap (λ (r : LeftLent). left r.word r.area) (finish_spelled d tag)
 

@@ -13,17 +13,17 @@ abbrev pub left_called : Called → LeftLent
 left_called call = left_beside (left_by call.outcome) call.lent
 
 module _ (area : List ℕ) (yes : is_spelling area ≡ true) where
-  pub ad_on : (piece : List ℕ) → left_by (ad_call (state_in area) piece) ≡ ad_on area piece
+  pub ad_on_lem : (piece : List ℕ) → left_by (ad_call (state_in area) piece) ≡ ad_on area piece
   unfolding ad_on
-  ad_on piece = rw yes
+  ad_on_lem piece = rw yes
 
-  pub text_on : (d : Direction) (piece out : List ℕ) → left_called (text_call d (state_in area) piece out) ≡ text_on d area piece out
+  pub text_on_lem : (d : Direction) (piece out : List ℕ) → left_called (text_call d (state_in area) piece out) ≡ text_on d area piece out
   unfolding text_on
-  text_on d piece out = rw yes
+  text_on_lem d piece out = rw yes
 
-  pub finish_on : (d : Direction) (tag : List ℕ) → left_called (finish_call d (state_in area) tag) ≡ finish_on d area tag
+  pub finish_on_lem : (d : Direction) (tag : List ℕ) → left_called (finish_call d (state_in area) tag) ≡ finish_on d area tag
   unfolding finish_on
-  finish_on d tag = rw yes
+  finish_on_lem d tag = rw yes
 
 module _ (area : List ℕ) (no : is_spelling area ≡ false) where
   pub ad_off : (piece : List ℕ) → unspelled area ≡ ad_on area piece

@@ -1,8 +1,8 @@
 -- Each state has one spelling, and each spelling is one state's.
 use mathlib.Core.Path.{◌≡◌, refl, sym, ap, ap₂, ◌∙◌, subst}
-use mathlib.Core.Bool.{true, false, ◌&&◌, and-eq-true_iff, true≢false}
+use mathlib.Core.Bool.{true, ◌&&◌, and-eq-true_iff, true≢false}
 use mathlib.Core.List.{List, [], ◌∷◌, ◌++◌, append_assoc, append-nil}
-use Prim.Native.Nat.{ℕ, zero, suc, ◌+◌, ◌-◌, ◌*◌, ◌^◌, ◌≤◌, ◌<◌}
+use Prim.Native.Nat.{ℕ, zero, suc, ◌+◌, ◌*◌, ◌^◌, ◌≤◌, ◌<◌}
 use native.Mathlib.Nat.{not-suc-le-zero, le_of_suc-le-suc}
 use native.Mathlib.Omega.{arith}
 use lib.Dec.{eqb, leb, lit<}
@@ -164,9 +164,9 @@ module _ (s : Stream) (sized : Sized s) where
       }
 
   -- it is a spelling
-  is_spelling : is_spelling (spelling s) ≡ true
+  is_spelling-spelling : is_spelling (spelling s) ≡ true
   unfolding is_spelling
-  is_spelling =
+  is_spelling-spelling =
       rw (
         eq-eqb (length (spelling s)) state_length (length_spelling s sized.five sized.sixteen),
         number_is 1 (omega arith) (omega (arith, rank_most s.direction)),
@@ -236,10 +236,10 @@ pub one_to_one : OneToOne
 unfolding spelling bytes_of
 one_to_one =
     record {
-      spelled = λ s sized. (is_spelling s sized, there s sized);
+      spelled = λ s sized. (is_spelling-spelling s sized, there s sized);
       bytes = λ s sized. bytes_append (bytes_words s.words) (bytes_append sized.key (bytes_words (numbers_of s)));
       spells = λ area bytes yes. (sizes area bytes yes, back area bytes yes);
       one_state = λ s t u v e. sym (there s u) ∙ ap state_in e ∙ there t v;
-      no_state = λ area no s sized e. true≢false (sym (is_spelling s sized) ∙ ap is_spelling e ∙ no);
+      no_state = λ area no s sized e. true≢false (sym (is_spelling-spelling s sized) ∙ ap is_spelling e ∙ no);
       ended_is = refl;
     }
