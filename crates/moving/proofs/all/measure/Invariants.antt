@@ -1,0 +1,25 @@
+-- `moving::all::measure` meets its contract. The loop's invariant: what the records left come to, behind those measured, is what all come to. The measure is the
+-- number of bytes left.
+use mathlib.Core.Path.{◌≡◌}
+use mathlib.Core.Bool.{true}
+use mathlib.Core.List.{List}
+use Prim.Native.Nat.{ℕ, ◌-◌}
+use lib.ListN.{length}
+use Rattle.moving.specs.declared.route.Route.{Route}
+use Rattle.moving.specs.Moves.{is_known}
+use Rattle.moving.proofs.Steps.{Left}
+use Rattle.moving.proofs.all.measure.Given as goal
+
+-- what holds before a record is measured
+pub record Measured (route : Route) (text scratch : List ℕ) (at records size : ℕ) : Type 0 where
+  pub before : List ℕ
+  pub places : length scratch ≡ 1_706
+  pub sum : size ≡ length before
+  pub known : is_known route ≡ true
+  pub left : Left route text at records before
+
+abbrev pub invariant-loop-at : goal.invariant-loop-at
+invariant-loop-at l = Measured l.route l.text l.scratch l.at l.records l.size
+
+abbrev pub decreases-loop-at : goal.decreases-loop-at
+decreases-loop-at l = length l.text - l.at
