@@ -5,12 +5,12 @@ use mathlib.Core.List.{List, ◌++◌}
 use mathlib.Core.Logic.{◌↔◌}
 use Prim.Native.Nat.{ℕ, ◌+◌, ◌/◌, ◌%◌}
 use lib.Dec.{eqb}
-use lib.ListN.{length, take}
+use lib.ListN.{length}
 use Rattle.answers.specs.declared.Answer.TheVariants.{Done}
 use Rattle.answers.specs.Numbers.{number_of}
 use Rattle.answers.proofs.Numbers.{done_is}
 use Rattle.ascon.specs.Sets.{row_of}
-use Rattle.ascon.specs.Mode.{decrypted, sealed}
+use Rattle.ascon.specs.Mode.{sealed}
 use Rattle.stream.specs.declared.Direction.{Direction}
 use Rattle.stream.specs.declared.Direction.TheVariants.{Sealing, Checking, Opening}
 use Rattle.stream.specs.declared.Stream.{Stream}
@@ -18,8 +18,8 @@ use Rattle.stream.specs.State.{gives_tag, is_open}
 use Rattle.stream.specs.Calls.{Start, finish_call}
 use Rattle.history.specs.History.{Call, History, begun, after, BytesIn}
 use Rattle.history.specs.History as histories
-use Rattle.history.specs.Cuts.{Message, start_towards, Whole}
-use Rattle.history.proofs.History.{key, reached}
+use Rattle.history.specs.Cuts.{start_towards, Whole}
+use Rattle.history.proofs.History.{key}
 use Rattle.history.proofs.Cuts.{whole_taken, whole}
 use Rattle.history.proofs.Directions.{checks_whole, opens_whole, first_plaintext, cutting_does_not_matter}
 use Rattle.gateway.specs.Spelling.{spelling, state_in}
