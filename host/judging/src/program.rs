@@ -35,7 +35,7 @@ pub fn file() -> PathBuf {
     stand_in().unwrap_or_else(|| root().join("target/bin/bench"))
 }
 
-/// Gives the words that start the program of a checkout, in which `rt check bench` built it.
+/// Gives the words that start the program of a checkout, in which `host/build bench` built it.
 fn words_in(folder: &Path) -> Vec<PathBuf> {
     vec![folder.join("host/run"), "bench".into()]
 }

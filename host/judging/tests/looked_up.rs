@@ -12,6 +12,6 @@ fn the_list_of_digits_stands_in_the_program() {
     for (value, digit) in lower.chain(upper) {
         list[usize::from(*digit)] = value;
     }
-    let program = fs::read(file()).expect("the file of the program, which `rt check bench` writes");
+    let program = fs::read(file()).expect("the file of the program, which `host/build bench` writes");
     assert!(program.windows(list.len()).any(|part| *part == list));
 }

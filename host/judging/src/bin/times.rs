@@ -1,6 +1,6 @@
 //! Times the program and the second program on the same records, in one run, and prints the ratios of the best times.
 //!
-//! `times [FOLDER]`: with the folder of another checkout, say of the commit before a change, the program that `rt check bench` built there is timed
+//! `times [FOLDER]`: with the folder of another checkout, say of the commit before a change, the program that `host/build bench` built there is timed
 //! in turn with them.
 
 use judging::classes::many;
