@@ -1,5 +1,4 @@
 -- Laws of replaying a log.
-pub mod Held
 pub mod Places
 pub mod Stretches
 pub mod Windows

@@ -6,40 +6,14 @@ use Prim.Native.Nat.{ℕ, ◌-◌, ◌≤◌, ◌<◌, min}
 use native.Mathlib.Omega.{arith}
 use lib.Dec.{leb}
 use lib.ListN.{length, take, drop, length-drop, drop_of_length-le}
-use lib.Seq.{length-take-le, take_all, take-nil, drop-length}
+use lib.Seq.{take_all, take-nil, drop-length}
 use borrow.Author.Tests.{leb-true, leb-false}
-use borrow.Author.Rules.{rules}
 use Rattle.ascon.specs.Sets.{row_of, text_limit}
 use Rattle.stream.specs.declared.Direction.TheVariants.{Sealing}
 use Rattle.stream.specs.declared.Outcome.{Outcome}
 use Rattle.stream.specs.Calls.{start_call}
 use Rattle.replay.specs.Feeding.{silent, started, in_places}
-use Rattle.replay.proofs.feeding.start.Statement.{statement}
-use Rattle.replay.proofs.feeding.start.Tie as tie
-
-key-length-requires : tie.Need-key-length-requires
-key-length-requires c κs = search rules
-
-lesser-requires : tie.Need-lesser-requires
-lesser-requires c κs = search rules
-
-slice-aggregate-start : tie.Need-slice-aggregate-start
-slice-aggregate-start c = sym (length-take-le c.before.lesser.result c.before.before.before.before.args.input.now (omega (arith, c.before.lesser.ensures)))
-
-sub-start : tie.Need-overflow-sub-start
-sub-start c = search rules
-
-part-start-start : tie.Need-slice-bounds-start-start
-part-start-start c = search rules
-
-part-start-end : tie.Need-slice-bounds-start-end
-part-start-end c = search rules
-
-start-requires : tie.Need-start-requires
-start-requires c κs = search rules
-
-without-out-requires : tie.Need-without-out-requires
-without-out-requires c κs = search rules
+use Rattle.replay.proofs.feeding.start.Goals as goal
 
 -- where a text is cut at a number or at its end, what stands before and behind is what the number takes and drops
 record CutAt (k : ℕ) (x : List ℕ) (cut : ℕ) : Type 0 where
@@ -62,29 +36,14 @@ cut_at k x = go (leb k (length x)) refl
           behind = ap (take (length x - length x)) (drop-length x) ∙ take-nil (length x - length x) ∙ sym (drop_of_length-le x {i = k} (omega arith));
         })
 
-returns : tie.Need-returns
+pub returns : goal.returns
 unfolding started
 returns c =
-    let s = c.before.before.before.before.before.before.before.args in
+    let s = c.args in
     let x = s.input.now in
     let key = (row_of s.set).key in
-    let l = c.before.before.before.before in
-    let cut : l.lesser.result ≡ min key (length x) = l.lesser.ensures ∙ ap (λ (k : ℕ). min k (length x)) l.before.key_length.ensures in
-    let parts : CutAt key x l.lesser.result = subst (λ (k : ℕ). CutAt key x k) (sym cut) (cut_at key x) in
-    c.without-out.ensures
+    let cut : c.lesser-cut.result ≡ min key (length x) = c.lesser-cut.ensures ∙ ap (λ (k : ℕ). min k (length x)) c.key_length.ensures in
+    let parts : CutAt key x c.lesser-cut.result = subst (λ (k : ℕ). CutAt key x k) (sym cut) (cut_at key x) in
+    c.without_out.ensures
     ∙ ap (λ (o : Outcome). in_places (silent o))
-    (c.before.start.ensures ∙ (λ j. start_call (record { direction = Sealing; set = s.set; limit = text_limit; key = parts.before j; nonce = parts.behind j })))
-
-pub start_spec : {M : Type 1} → statement M
-start_spec =
-    tie.close
-    (tie.spec
-    key-length-requires
-    lesser-requires
-    slice-aggregate-start
-    sub-start
-    part-start-start
-    part-start-end
-    start-requires
-    without-out-requires
-    returns)
+    (c.start.ensures ∙ (λ j. start_call (record { direction = Sealing; set = s.set; limit = text_limit; key = parts.before j; nonce = parts.behind j })))
