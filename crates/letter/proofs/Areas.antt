@@ -249,11 +249,11 @@ unchanged =
         → (Refused call.outcome.answer → (call.lent ≡ place) × (call.outcome.next ≡ state_in area) × (call.outcome.rounds ≡ 0))
         → (b : Bool) → is_spelling area ≡ b → let leaves = cond b (left_beside (left_by call.outcome) call.lent) (left_beside (unspelled area) place) in
         RefusedWord leaves.word → (leaves.area ≡ area) × (leaves.lent ≡ place) × (leaves.word / 16 ≡ 0)
-    placed area bytes call place keeps true spelt r =
+    placed area bytes call place stays true spelt r =
         let o = call.outcome in
-        let kept = keeps (word_refused o r) in
+        let kept = stays (word_refused o r) in
         (kept_area area bytes spelt o kept.1, kept.0, word_rounds o.answer o.rounds ∙ kept.2)
-    placed area bytes call place keeps false spelt r = (refl, refl, refl)
+    placed area bytes call place stays false spelt r = (refl, refl, refl)
 
 -- 8 is not 0, and not 9
 not_done : (unspelled []).word % 16 ≡ 0 → ⊥

@@ -102,7 +102,7 @@ abbrev pub Returns : Route → Route → Type 0
 Returns Forward back = back ≡ Back
 Returns Back back = back ≡ Forward
 Returns (Import set) back = back ≡ Export
-Returns Export back = ⊥
+Returns Export _ = ⊥
 
 pub record Moves (route : Route) : Type 0 where
   -- ---- one record

@@ -9,20 +9,19 @@ use lib.Dec.{eqb, leb}
 use lib.ListN.{length, take}
 use Rattle.answers.specs.declared.Answer.{Answer}
 use Rattle.answers.specs.declared.Answer.TheVariants.{Done, TagLength, PastLimit, NoRoom, OutOfPhase, BrokenState}
-use Rattle.answers.specs.Numbers.{number_of, is_done}
+use Rattle.answers.specs.Numbers.{number_of}
 use Rattle.answers.specs.Order.{Choice, ◌when◌, first}
 use Rattle.answers.proofs.Numbers.{done_is}
 use Rattle.permutation.specs.Strings.{Bytes, zeros}
 use Rattle.ascon.specs.Sets.{table, is_set, row_of, ad_limit}
 use Rattle.stream.specs.declared.Direction.{Direction}
 use Rattle.stream.specs.declared.Direction.TheVariants.{Sealing}
-use Rattle.stream.specs.declared.Stream.{Stream}
 use Rattle.stream.specs.State.{gives_text, gives_tag, is_ad, all_zero, ended, is_sound}
 use Rattle.stream.specs.Calls.{Start, piece_faults, text_faults, finish_faults, tag_faults}
 use Rattle.history.specs.History.{Call, give_ad, give_text, finish, BytesIn}
 use Rattle.history.specs.Cuts.{published_tag}
 use Rattle.history.proofs.Directions.{yes_published}
-use Rattle.gateway.specs.Spelling.{state_length, spelling, is_spelling, state_in}
+use Rattle.gateway.specs.Spelling.{spelling, is_spelling, state_in}
 use Rattle.gateway.proofs.OneToOne.{one_to_one}
 use Rattle.areas.specs.Areas.{Areas, AreaHistory, reply_on, begun_on, after_on, StartedOn, is_open_in}
 use Rattle.areas.specs.Cuts.{AreaCutting}

@@ -29,7 +29,7 @@ use Rattle.replay.specs.declared.whole.Conclusion.{Conclusion}
 use Rattle.replay.specs.declared.window.Stretch.{Stretch}
 use Rattle.replay.specs.declared.window.Verdict.TheVariants.{Agrees, Answer, Out, Rounds, Unread, Open}
 use Rattle.replay.specs.Feeding.{started, sealed_piece, finished}
-use Rattle.replay.specs.Replays.{compared, step_on, step_of, stretch_of, replay_of, step_by}
+use Rattle.replay.specs.Replays.{compared, step_on, stretch_of, replay_of, step_by}
 use Rattle.replay.proofs.Laws.{replays}
 use Rattle.letter.specs.Replays.{line_of}
 use Rattle.letter.specs.Wrong.Replays.{Wrong}
