@@ -8,6 +8,7 @@ mod decimal;
 mod moves;
 mod progress;
 mod replays;
+mod system;
 mod tally;
 mod whole;
 
@@ -21,26 +22,24 @@ ghost use Rattle.turns.specs.Laws.{OneAnswer, Turned, Ran};
 ghost use Rattle.bench.specs.Tasks.{word_task, set_task, task_of};
 
 use decimal::Decimal;
-use libc::STDIN_FILENO;
 use moving::Route;
 use progress::{Heard, Progress};
+use system::{STDERR_FILENO, System};
 use turns::{Ending, Stage, Tally};
 
 // One read from standard input into a place that has room, so that a read of no byte means the end of the input.
-fn read_some(room: &mut [u8]) -> Heard
+fn read_some(system: &mut System, room: &mut [u8]) -> Heard
     requires { 1 ≤ length room.old }
     ensures { moved_by result ≤ length room.old }
 {
-    let count = libc::read(STDIN_FILENO, room);
-    progress::hear(count, os::errno())
+    system.read(room)
 }
 
 // One write of bytes to a descriptor.
-fn write_some(to: i32, bytes: &[u8]) -> Heard
+fn write_some(system: &mut System, to: i32, bytes: &[u8]) -> Heard
     ensures { moved_by result ≤ length bytes.now }
 {
-    let count = libc::write(to, bytes);
-    progress::hear(count, os::errno())
+    system.write(to, bytes)
 }
 
 // Moves the window to the front of the buffer.
@@ -58,7 +57,7 @@ fn move_to_front(buffer: &mut [u8], start: usize, filled: usize)
 }
 
 // Reads more of the input behind the window.
-fn read_more(buffer: &mut [u8], mut p: Progress) -> Progress
+fn read_more(system: &mut System, buffer: &mut [u8], mut p: Progress) -> Progress
     requires start_le_filled { p.start ≤ p.filled }
     requires filled_in_bounds { p.filled ≤ length buffer.old }
     requires start_in_bounds { p.filled - p.start < length buffer.old }
@@ -68,14 +67,14 @@ fn read_more(buffer: &mut [u8], mut p: Progress) -> Progress
     let filled = p.filled;
     move_to_front(&mut *buffer, start, filled);
     let size = filled - start;
-    let heard = read_some(&mut buffer[size..]);
+    let heard = read_some(system, &mut buffer[size..]);
     p.start = 0;
     p.filled = size;
     progress::after_read(p, heard)
 }
 
 // Writes what is left of the text, to standard output or to standard error.
-fn write_more(text: &[u8], p: Progress) -> Progress
+fn write_more(system: &mut System, text: &[u8], p: Progress) -> Progress
     requires from_le_size { p.from ≤ p.size }
     requires size_in_bounds { p.size ≤ length text.now }
     ensures { Less p result }
@@ -83,20 +82,20 @@ fn write_more(text: &[u8], p: Progress) -> Progress
     let from = p.from;
     let size = p.size;
     let stage = p.stage;
-    let heard = write_some(progress::descriptor(stage), &text[from..size]);
+    let heard = write_some(system, progress::descriptor(stage), &text[from..size]);
     progress::after_write(p, heard)
 }
 
 // The one call to the operating system that is next, where there is one.
-fn call(buffer: &mut [u8], text: &[u8], p: Progress) -> Progress
+fn call(system: &mut System, buffer: &mut [u8], text: &[u8], p: Progress) -> Progress
     requires { Sound p buffer.old text.now }
     ensures sound { Sound result buffer.new text.now }
     ensures one_answer { OneAnswer (view p buffer.old text.now) (view result buffer.new text.now) }
 {
     let stage = p.stage;
     match stage {
-        Stage::Read => read_more(buffer, p),
-        Stage::Write | Stage::Say => write_more(text, p),
+        Stage::Read => read_more(system, buffer, p),
+        Stage::Write | Stage::Say => write_more(system, text, p),
         _ => p,
     }
 }
@@ -142,19 +141,19 @@ fn close(text: &mut [u8], mut p: Progress) -> Progress
 }
 
 // One turn: a call to the operating system, and what follows from its answer.
-fn turn(buffer: &mut [u8], text: &mut [u8], mut p: Progress) -> Progress
+fn turn(system: &mut System, buffer: &mut [u8], text: &mut [u8], mut p: Progress) -> Progress
     requires { Sound p buffer.old text.old }
     ensures sound { Sound result buffer.new text.new }
     ensures turned { Turned (view p buffer.old text.old) (view result buffer.new text.new) }
 {
-    p = call(&mut *buffer, text, p);
+    p = call(system, &mut *buffer, text, p);
     p = look(buffer, &mut *text, p);
     close(text, p)
 }
 
 // Turn after turn until nothing is left to do. A proved loop has to end, and nothing says that the input does: it counts its turns down, from a number that no run
 // uses up.
-fn run(buffer: &mut [u8], text: &mut [u8]) -> Progress
+fn run(system: &mut System, buffer: &mut [u8], text: &mut [u8]) -> Progress
     requires most_bytes_in_bounds { most_bytes Two < length buffer.old }
     requires in_bounds { 256 ≤ length text.old }
     ensures { Ran (view result buffer.new text.new) }
@@ -181,24 +180,24 @@ fn run(buffer: &mut [u8], text: &mut [u8]) -> Progress
         if let Stage::Over(_) = stage {
             return p;
         }
-        p = turn(&mut *buffer, &mut *text, p);
+        p = turn(&mut *system, &mut *buffer, &mut *text, p);
         turns -= 1;
     }
     p
 }
 
 // Says on standard error why a run came to no proper end.
-fn explain(stage: Stage) {
+fn explain(system: &System, stage: Stage) {
     let Stage::Over(ending) = stage else {
-        io::write_all(libc::STDERR_FILENO, b"bench: too many turns\n");
+        io::write_all(STDERR_FILENO, b"bench: too many turns\n");
         return;
     };
     match ending {
         Ending::Said => {}
-        Ending::ReadFailed => os::fail(b"bench: reading failed"),
-        Ending::WriteFailed | Ending::SayFailed => os::fail(b"bench: writing failed"),
+        Ending::ReadFailed => system.fail(b"bench: reading failed"),
+        Ending::WriteFailed | Ending::SayFailed => system.fail(b"bench: writing failed"),
         Ending::TooMany => {
-            io::write_all(libc::STDERR_FILENO, b"bench: too many records\n");
+            io::write_all(STDERR_FILENO, b"bench: too many records\n");
         }
     }
 }
@@ -261,26 +260,31 @@ fn task_of(words: usize, word: &[u8], set: &[u8]) -> Task
 }
 
 // Judges the records on standard input.
-fn judge_all() {
+fn judge_all(system: &mut System) {
     let mut space = io::large_buffer();
     let mut report = [0; 256];
-    let p = run(&mut space, &mut report);
+    let p = run(&mut *system, &mut space, &mut report);
     let stage = p.stage;
-    explain(stage);
+    explain(system, stage);
 }
 
 // Does what the program's words ask. A word that is too long for its place comes as an empty one, which names no task and spells no number.
-fn main() {
+fn main(rt: HostRuntime) {
+    let mut system = System::new(rt.stdin(), rt.stdout(), rt.stderr());
     let mut word = [0; 16];
     let mut set = [0; 32];
-    let word_size = os::arg(1, &mut word);
-    let set_size = os::arg(2, &mut set);
-    match task_of(os::arg_count(), &word[..word_size], &set[..set_size]) {
-        Task::Judge => judge_all(),
-        Task::Move(route) => moves::carry(route),
-        Task::Replay => replays::replay(),
+    let word_size = system::read_word(&rt, 1, &mut word);
+    let set_size = system::read_word(&rt, 2, &mut set);
+    match task_of(
+        system::count_words(&rt),
+        &word[..word_size],
+        &set[..set_size],
+    ) {
+        Task::Judge => judge_all(&mut system),
+        Task::Move(route) => moves::carry(&mut system, route),
+        Task::Replay => replays::replay(&mut system),
         Task::Unknown => {
-            io::write_all(libc::STDERR_FILENO, b"bench: unknown task\n");
+            io::write_all(STDERR_FILENO, b"bench: unknown task\n");
         }
     }
 }

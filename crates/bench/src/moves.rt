@@ -4,6 +4,7 @@ ghost use Rattle.bench.specs.Lines.{Follows};
 ghost use Rattle.bench.specs.Moves.{Places, written_in, record_words, place_words, moved_words};
 ghost use Rattle.bench.specs.Whole.{Carries};
 
+use crate::system::{STDERR_FILENO, STDOUT_FILENO, System};
 use crate::whole::{Input, Output};
 use crate::{tally, whole};
 use moving::{MovingAll, Route};
@@ -81,33 +82,33 @@ fn put_words(moved: MovingAll, out: &mut [u8]) -> usize
 }
 
 // Says how a moving ended, on standard error.
-fn say(moved: MovingAll) {
+fn say(system: &mut System, moved: MovingAll) {
     let mut words = [0; 256];
     let size = put_words(moved, &mut words);
-    if let Output::Whole = whole::write_all(libc::STDERR_FILENO, &words[..size]) {
+    if let Output::Whole = whole::write_all(system, STDERR_FILENO, &words[..size]) {
         return;
     }
-    os::fail(b"bench: writing failed");
+    system.fail(b"bench: writing failed");
 }
 
 // Writes as much of a text as the moving wrote to standard output, and then says how the moving ended.
-fn hand_out(moved: MovingAll, text: &[u8])
+fn hand_out(system: &mut System, moved: MovingAll, text: &[u8])
     requires { moved.written ≤ length text.now }
 {
     let size = moved.written;
-    if let Output::Whole = whole::write_all(libc::STDOUT_FILENO, &text[..size]) {
-        say(moved);
+    if let Output::Whole = whole::write_all(system, STDOUT_FILENO, &text[..size]) {
+        say(system, moved);
         return;
     }
-    os::fail(b"bench: writing failed");
+    system.fail(b"bench: writing failed");
 }
 
 // Reads all of standard input into a place, and moves its records on a route into the output.
-fn move_input(route: Route, place: &mut [u8], out: &mut [u8]) -> Carried
+fn move_input(system: &mut System, route: Route, place: &mut [u8], out: &mut [u8]) -> Carried
     ensures carries { Carries route place.old result out.old out.new }
     ensures result_in_bounds { written_in result ≤ length out.new }
 {
-    match whole::read_all(&mut *place) {
+    match whole::read_all(system, &mut *place) {
         Input::Whole(size) => Carried::Moved(moving::move_all(route, &place[..size], out)),
         Input::TooLong => Carried::TooLong,
         Input::Failed => Carried::Unread,
@@ -116,20 +117,20 @@ fn move_input(route: Route, place: &mut [u8], out: &mut [u8]) -> Carried
 }
 
 // Moves all records on standard input on a route, and says how that ended.
-pub(crate) fn carry(route: Route) {
+pub(crate) fn carry(system: &mut System, route: Route) {
     let mut text = input_place();
     let mut out = output_place();
-    match move_input(route, &mut text, &mut out) {
-        Carried::Moved(moved) => hand_out(moved, &out),
+    match move_input(&mut *system, route, &mut text, &mut out) {
+        Carried::Moved(moved) => hand_out(system, moved, &out),
         Carried::TooLong => {
             io::write_all(
-                libc::STDERR_FILENO,
+                STDERR_FILENO,
                 b"bench: the input has more than 1048576 bytes\n",
             );
         }
-        Carried::Unread => os::fail(b"bench: reading failed"),
+        Carried::Unread => system.fail(b"bench: reading failed"),
         Carried::Endless => {
-            io::write_all(libc::STDERR_FILENO, b"bench: too many turns\n");
+            io::write_all(STDERR_FILENO, b"bench: too many turns\n");
         }
     }
 }

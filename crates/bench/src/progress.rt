@@ -4,10 +4,14 @@ ghost use Rattle.turns.specs.Tallies.{records_of, largest};
 ghost use Rattle.turns.specs.Run.{behind, failed};
 ghost use Rattle.bench.specs.Progress.{descriptor_of, doing, heard_of, failing, reporting, stepped, read_more, wrote_more, Takes, moved_by};
 
+use crate::system::{STDERR_FILENO, STDOUT_FILENO};
 use crate::tally;
 use judge::Step;
 use report::Verdict;
 use turns::{Ending, Stage, Tally};
+
+// The number of the error by which a call says that a signal came before it moved any byte.
+const EINTR: i32 = 4;
 
 // What the operating system answered a read or a write: it moved so many bytes, a signal came before it moved any, or it failed.
 #[derive(Clone, Copy)]
@@ -35,8 +39,8 @@ pub(crate) fn descriptor(stage: Stage) -> i32
     ensures { result ≡ descriptor_of stage }
 {
     match stage {
-        Stage::Say => libc::STDERR_FILENO,
-        _ => libc::STDOUT_FILENO,
+        Stage::Say => STDERR_FILENO,
+        _ => STDOUT_FILENO,
     }
 }
 
@@ -63,7 +67,7 @@ pub(crate) fn hear(count: isize, error: i32) -> Heard
     if 0 <= count {
         return Heard::Moved(count as usize);
     }
-    if error == libc::EINTR {
+    if error == EINTR {
         return Heard::Again;
     }
     Heard::Failed

@@ -9,6 +9,7 @@ ghost use Rattle.bench.specs.Progress.{moved_by};
 ghost use Rattle.bench.specs.Replays.{is_none, is_running, with_fault, stretched, HeardBytes, HeardAs, HeardOne, ReplayedAll, verdict_words, report_words, end_line, last_words};
 
 use crate::progress::Heard;
+use crate::system::{STDERR_FILENO, STDOUT_FILENO, System};
 use crate::whole::Output;
 use crate::{tally, whole};
 use replay::{Stretch, Verdict};
@@ -132,7 +133,7 @@ pub(crate) fn after_read(buffer: &mut [u8], state: Replaying, heard: Heard) -> R
 }
 
 // One read behind what is left, and the replay of what it brought.
-fn replay_more(buffer: &mut [u8], state: Replaying) -> Replaying
+fn replay_more(system: &mut System, buffer: &mut [u8], state: Replaying) -> Replaying
     requires most_bytes_in_bounds { most_bytes < length buffer.old }
     requires left_lt_most_bytes { state.left < most_bytes }
     requires state_value { is_running state ≡ true }
@@ -140,12 +141,12 @@ fn replay_more(buffer: &mut [u8], state: Replaying) -> Replaying
     ensures { HeardOne state buffer.old result buffer.new }
 {
     let left = state.left;
-    let heard = crate::read_some(&mut buffer[left..]);
+    let heard = crate::read_some(system, &mut buffer[left..]);
     after_read(buffer, state, heard)
 }
 
 // Replays the log on standard input, read by read, until a verdict is told. Its turns are counted down from a number that no run uses up.
-fn replay_all(buffer: &mut [u8]) -> Replaying
+fn replay_all(system: &mut System, buffer: &mut [u8]) -> Replaying
     requires { most_bytes < length buffer.old }
     ensures { ReplayedAll result buffer.new }
 {
@@ -162,7 +163,7 @@ fn replay_all(buffer: &mut [u8]) -> Replaying
         if !goes_on(state) {
             return state;
         }
-        let next = replay_more(&mut *buffer, state);
+        let next = replay_more(&mut *system, &mut *buffer, state);
         state = next;
         turns -= 1;
     }
@@ -235,43 +236,43 @@ fn put_last(entry: u64, verdict: Verdict, out: &mut [u8]) -> usize
 }
 
 // Says how a replay ended, on standard error.
-fn say(entry: u64, verdict: Verdict) {
+fn say(system: &mut System, entry: u64, verdict: Verdict) {
     let mut words = [0; 256];
     let size = put_last(entry, verdict, &mut words);
-    if let Output::Whole = whole::write_all(libc::STDERR_FILENO, &words[..size]) {
+    if let Output::Whole = whole::write_all(system, STDERR_FILENO, &words[..size]) {
         return;
     }
-    os::fail(b"bench: writing failed");
+    system.fail(b"bench: writing failed");
 }
 
 // Writes the report of a replay to standard output, and then says how it ended.
-fn hand_out(entry: u64, verdict: Verdict) {
+fn hand_out(system: &mut System, entry: u64, verdict: Verdict) {
     let mut report = [0; 256];
     let size = put_report(entry, verdict, &mut report);
-    if let Output::Whole = whole::write_all(libc::STDOUT_FILENO, &report[..size]) {
-        say(entry, verdict);
+    if let Output::Whole = whole::write_all(system, STDOUT_FILENO, &report[..size]) {
+        say(system, entry, verdict);
         return;
     }
-    os::fail(b"bench: writing failed");
+    system.fail(b"bench: writing failed");
 }
 
 // Replays the log on standard input, and says how that ended.
-pub(crate) fn replay() {
+pub(crate) fn replay(system: &mut System) {
     let mut space = io::large_buffer();
-    let state = replay_all(&mut space);
+    let state = replay_all(&mut *system, &mut space);
     let fault = state.fault;
     let verdict = state.verdict;
     match fault {
         Fault::None => {
             if is_open(verdict) {
-                io::write_all(libc::STDERR_FILENO, b"bench: too many turns\n");
+                io::write_all(STDERR_FILENO, b"bench: too many turns\n");
                 return;
             }
-            hand_out(entry_of(state.entries, verdict), verdict);
+            hand_out(system, entry_of(state.entries, verdict), verdict);
         }
-        Fault::Reading => os::fail(b"bench: reading failed"),
+        Fault::Reading => system.fail(b"bench: reading failed"),
         Fault::TooMany => {
-            io::write_all(libc::STDERR_FILENO, b"bench: too many entries\n");
+            io::write_all(STDERR_FILENO, b"bench: too many entries\n");
         }
     }
 }

@@ -4,6 +4,7 @@ ghost use Rattle.bench.specs.Progress.{moved_by};
 ghost use Rattle.bench.specs.Whole.{read_by, wrote_by, ReadOne, ReadAll, WroteOne, WroteAll};
 
 use crate::progress::Heard;
+use crate::system::System;
 
 // How far the reading of all of the input is: so many bytes stand in the place, and there may be more; they are all; they fill the place, which is too many; it failed.
 #[derive(Clone, Copy)]
@@ -40,19 +41,19 @@ pub(crate) fn after_read(filled: usize, heard: Heard) -> Input
 }
 
 // One read behind the bytes read so far.
-fn read_one(place: &mut [u8], filled: usize) -> Input
+fn read_one(system: &mut System, place: &mut [u8], filled: usize) -> Input
     requires { filled ≤ length place.old }
     ensures { ReadOne place.old filled result place.new }
 {
     if filled == place.len() {
         return Input::TooLong;
     }
-    let heard = crate::read_some(&mut place[filled..]);
+    let heard = crate::read_some(system, &mut place[filled..]);
     after_read(filled, heard)
 }
 
 // Reads all of standard input into a place. Input that fills it is too long: the end is seen only where there is room for another byte.
-pub(crate) fn read_all(place: &mut [u8]) -> Input
+pub(crate) fn read_all(system: &mut System, place: &mut [u8]) -> Input
     ensures { ReadAll place.old result place.new }
 {
     let mut input = Input::Part(0);
@@ -61,7 +62,7 @@ pub(crate) fn read_all(place: &mut [u8]) -> Input
         let Input::Part(filled) = input else {
             return input;
         };
-        input = read_one(&mut *place, filled);
+        input = read_one(&mut *system, &mut *place, filled);
         turns -= 1;
     }
     input
@@ -85,19 +86,19 @@ pub(crate) fn after_write(from: usize, heard: Heard) -> Output
 }
 
 // One write of what is left of a text.
-fn write_one(to: i32, text: &[u8], from: usize) -> Output
+fn write_one(system: &mut System, to: i32, text: &[u8], from: usize) -> Output
     requires { from ≤ length text.now }
     ensures { WroteOne (length text.now) from result }
 {
     if from == text.len() {
         return Output::Whole;
     }
-    let heard = crate::write_some(to, &text[from..]);
+    let heard = crate::write_some(system, to, &text[from..]);
     after_write(from, heard)
 }
 
 // Writes all of a text to a descriptor.
-pub(crate) fn write_all(to: i32, text: &[u8]) -> Output
+pub(crate) fn write_all(system: &mut System, to: i32, text: &[u8]) -> Output
     ensures { WroteAll (length text.now) result }
 {
     let mut output = Output::Part(0);
@@ -106,7 +107,7 @@ pub(crate) fn write_all(to: i32, text: &[u8]) -> Output
         let Output::Part(from) = output else {
             return output;
         };
-        output = write_one(to, text, from);
+        output = write_one(&mut *system, to, text, from);
         turns -= 1;
     }
     output

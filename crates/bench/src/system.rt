@@ -1,0 +1,131 @@
+// What the program asks of the operating system: the calls on its three streams, its words, and why a call failed.
+ghost use Rattle.std.specs.Prelude.{◌≤◌, length};
+ghost use Rattle.bench.specs.Progress.{moved_by};
+
+use crate::progress;
+use crate::progress::Heard;
+use std::env::{Env, FillError};
+use std::fmt;
+use std::io::{Error, Read, Stderr, Stdin, Stdout, Write};
+
+// The numbers of standard output and of standard error.
+pub(crate) const STDOUT_FILENO: i32 = 1;
+
+pub(crate) const STDERR_FILENO: i32 = 2;
+
+// The three streams, and the number of the last error that a call on one of them gave, which is 0 before the first.
+#[derive(Drop)]
+pub(crate) struct System {
+    input: Stdin,
+    output: Stdout,
+    messages: Stderr,
+    error: i32,
+}
+
+impl System {
+    pub(crate) fn new(input: Stdin, output: Stdout, messages: Stderr) -> System {
+        System {
+            input,
+            output,
+            messages,
+            error: 0,
+        }
+    }
+
+    // What standard input answers one read into a place.
+    pub(crate) fn read(&mut self, room: &mut [u8]) -> Heard
+        ensures { moved_by result ≤ length room.new }
+    {
+        match self.input.read(room) {
+            Ok(count) => progress::hear(count as isize, 0),
+            Err(error) => progress::hear(-1, self.keep(error)),
+        }
+    }
+
+    // What standard error, where this is its number, or else standard output answers one write.
+    pub(crate) fn write(&mut self, to: i32, bytes: &[u8]) -> Heard
+        ensures { moved_by result ≤ length bytes.now }
+    {
+        let answer = if to == STDERR_FILENO {
+            self.messages.write(bytes)
+        } else {
+            self.output.write(bytes)
+        };
+        match answer {
+            Ok(count) => progress::hear(count as isize, 0),
+            Err(error) => progress::hear(-1, self.keep(error)),
+        }
+    }
+
+    // Keeps the number of an error, and gives it.
+    fn keep(&mut self, error: Error) -> i32 {
+        self.error = error.raw_os_error().unwrap_or(0);
+        self.error
+    }
+
+    // Writes a line to standard error: what failed, a colon, and the words for the last error.
+    pub(crate) fn fail(&self, what: &[u8]) {
+        let mut words = Words {
+            bytes: [0; 128],
+            size: 0,
+        };
+        let _ = fmt::Write::write(&mut words, Error::from_raw_os_error(self.error));
+        io::write_all(STDERR_FILENO, what);
+        io::write_all(STDERR_FILENO, b": ");
+        io::write_all(STDERR_FILENO, words.reason());
+        io::write_all(STDERR_FILENO, b"\n");
+    }
+}
+
+// The words for an error, with its number in brackets behind them.
+#[derive(Drop)]
+struct Words {
+    bytes: [u8; 128],
+    size: usize,
+    ghost inside: { size ≤ 128 },
+}
+
+impl fmt::Write for Words {
+    fn write_str(&mut self, s: &str) -> fmt::Result {
+        for byte in s.as_bytes() {
+            if self.size == 128 {
+                return Ok(());
+            }
+            self.bytes[self.size] = *byte;
+            self.size += 1;
+        }
+        Ok(())
+    }
+}
+
+impl Words {
+    // The words without the number.
+    fn reason(&self) -> &[u8] {
+        let text = &self.bytes[..self.size];
+        match text.iter().rposition(|byte| *byte == b'(') {
+            Some(0) | None => text,
+            Some(at) => &text[..at - 1],
+        }
+    }
+}
+
+// How many words the program has, its own name among them, of which more than four count as four.
+pub(crate) fn count_words(env: &impl Env) -> usize {
+    let mut place = [0; 1];
+    for i in 0..4 {
+        if let Err(FillError::NotPresent) = env.arg(i, &mut place) {
+            return i;
+        }
+    }
+    4
+}
+
+// Puts one of the words at the beginning of a place, and gives its size. One that is missing, or too long for the place, has none.
+pub(crate) fn read_word(env: &impl Env, i: usize, place: &mut [u8]) -> usize
+    ensures { result ≤ length place.new }
+{
+    match env.arg(i, place) {
+        Ok(size) => size,
+        Err(_) => 0,
+    }
+}
