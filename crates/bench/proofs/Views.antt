@@ -5,11 +5,9 @@ use mathlib.Core.List.{List, [], ◌∷◌, ◌++◌}
 use Prim.Native.Nat.{ℕ, zero, suc, ◌+◌, ◌-◌, ◌≤◌}
 use native.Mathlib.Omega.{arith}
 use lib.Dec.{eqb}
-use lib.IntN.{ℤ, pos, negsuc}
-use lib.ListN.{length, take, drop, length-take, length-drop}
+use lib.ListN.{length, take, drop, length-drop}
 use lib.Seq.{take-nil, take-add, drop-drop, length-take-le}
 use borrow.Author.Tests.{eqb-true, eqb-false, eq-eqb, ne_eqb}
-use Rattle.libc.specs.Io as io
 use Rattle.bench.specs.declared.progress.Heard.{Heard}
 use Rattle.bench.specs.declared.progress.Heard.TheVariants.{Moved, Again, Failed}
 use Rattle.turns.specs.declared.Stage.{Stage}
@@ -17,10 +15,8 @@ use Rattle.turns.specs.declared.Stage.TheVariants.{Judge, Close, Read, Write, Sa
 use Rattle.bench.specs.declared.progress.Progress.{Progress}
 use Rattle.turns.specs.Run.{next, is_closing, is_reading, is_writing, behind, failed, came, took, heard, Came, Took}
 use Rattle.turns.specs.Run as run
-use Rattle.turns.specs.Tallies.{last_words}
-use Rattle.bench.specs.Lines.{Follows}
 use Rattle.turns.specs.Laws.{OneAnswer}
-use Rattle.bench.specs.Progress.{is_signal, heard_of, failing, ending, front, read_more, wrote, wrote_more, moved_by, Sound, view, More, Less, Closed}
+use Rattle.bench.specs.Progress.{failing, ending, front, read_more, wrote, wrote_more, moved_by, Sound, view, More, Less}
 
 -- ---- parts of lists
 
@@ -51,17 +47,6 @@ failed_asks Read e = let z : ◌≡◌ {A = ℕ} 0 1 = cc in omega arith
 failed_asks Write e = let z : ◌≡◌ {A = ℕ} 0 1 = cc in omega arith
 failed_asks Say e = let z : ◌≡◌ {A = ℕ} 0 1 = cc in omega arith
 failed_asks (Over ending) e = let z : ◌≡◌ {A = ℕ} 0 1 = cc in omega arith
-
--- ---- how much a call moves
-
--- no more than it was handed
-pub moved_inside : (n : ℕ) (count error : ℤ) → io.Moved n count → moved_by (heard_of count error) ≤ n
-moved_inside n (pos k) error h = h
-moved_inside n (negsuc k) error h = go (is_signal error)
-  where
-    go : (t : Bool) → moved_by (cond t Again Failed) ≤ n
-    go true = omega arith
-    go false = omega arith
 
 -- ---- a read
 
@@ -225,27 +210,3 @@ sound_write p q buffer text writing l s = subst (λ (r : Progress). Sound r buff
     go Failed fits = within p.from (failed p.stage) s.from_size (failed_asks p.stage)
 
 -- ---- the end
-
--- the last words stand in the text
-pub closed_says : (p : Progress) (before after : List ℕ) (size : ℕ) → is_closing p.stage ≡ true → Follows 0 (last_words p.tally) size before after
-    → Closed p before (ending p size) after
-closed_says p before after size closing f =
-    record {
-      is = λ buffer. rw (closing, ap (λ (k : ℕ). take k after) (less size) ∙ f.stands);
-      sound = λ buffer s.
-          let inside = ap length f.stands in
-          record {
-            begins = s.begins;
-            inside = s.inside;
-            wide = s.wide;
-            room = λ e. let z : ◌≡◌ {A = ℕ} 0 1 = cc in absurd (omega arith);
-            from_size = omega arith;
-            size_text = omega (arith, inside, f.ends, f.same_length, length-take size after);
-            long = omega (arith, f.same_length, s.long);
-            few = s.few;
-          };
-    }
-
--- nothing else changes
-pub closed_stays : (p : Progress) (text : List ℕ) → is_closing p.stage ≡ false → Closed p text p text
-closed_stays p text closing = record { is = λ buffer. rw closing; sound = λ buffer s. s }

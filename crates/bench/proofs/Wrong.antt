@@ -6,7 +6,7 @@ use mathlib.Core.Logic.{◌⊎◌, inl, inr}
 use native.Mathlib.Omega.{arith}
 use Prim.Native.Nat.{ℕ}
 use base.Fml.{Lft}
-use denote.Ref.{Bor}
+use Rattle.std.specs.Borrow.{Bor, MutBor}
 use Rattle.turns.specs.declared.Tally.{Tally}
 use Rattle.bench.specs.declared.progress.Progress.{Progress}
 use Rattle.replay.specs.declared.window.Verdict.TheVariants.{Agrees}
@@ -28,6 +28,10 @@ use Rattle.bench.proofs.replays.after_read.Reads as read_Log
 abbrev lent : List ℕ → Bor (List ℕ)
 lent x = record { ref_ptr = (0, 0); now = x }
 
+-- and lent to be written
+abbrev lent_mut : List ℕ → MutBor (List ℕ)
+lent_mut x = record { ref_ptr = (0, 0); ghost_name = 0; now = x }
+
 -- one byte of a log does not make it agree
 one_byte : (heard_by (so_far beginning (0x63 ∷ [])) (run.Came (0x63 ∷ []))).so_far.verdict ≡ Agrees → ⊥
 one_byte = go (heard_end (so_far beginning (0x63 ∷ [])) (run.Came (0x63 ∷ [])) open_other)
@@ -46,7 +50,7 @@ pub ruled_out : (one two : Lft) → RuledOut (λ count error r. hear.Learnt tt (
     (λ text r. read-decimal.Learnt (one, tt) (lent text, tt) r (lent text, tt))
     (λ words word set r. task-of.Learnt (one, (two, tt)) (words, (lent word, (lent set, tt))) r (words, (lent word, (lent set, tt))))
     (λ agreed verdict r. entry_of.Learnt tt (agreed, (verdict, tt)) r (agreed, (verdict, tt)))
-    (λ state buffer heard r after. read_Log.Learnt (one, tt) (lent buffer, (state, (heard, tt))) r (lent after, (state, (heard, tt))))
+    (λ state buffer heard r after. read_Log.Learnt (one, tt) (lent_mut buffer, (state, (heard, tt))) r (lent_mut after, (state, (heard, tt))))
 ruled_out one two =
     record {
       signal = λ allowed. let z : ◌≡◌ {A = ℕ} 0 1 = cc allowed in omega arith;
