@@ -45,7 +45,7 @@ pub record Known : Type 0 where
   -- a wrong digit of a pair: the first, the second, both
   pub first_digit : read_call One (ascii "set=1\nkey=g0") ≡ refused_at 2 5 false
   pub second_digit : read_call One (ascii "set=1\nkey=0g") ≡ refused_at 2 6 false
-  pub both_digits : read_call One (ascii "set=1\nkey=00_gg") ≡ refused_at 2 7 false
+  pub both_digits : read_call One (ascii "set=1\nkey=00GG") ≡ refused_at 2 7 false
   -- an odd number of digits: the line feed comes too early
   pub odd : read_call One (ascii "set=1\nkey=0\n") ≡ refused_at 2 6 false
   -- a key of 16 bytes in set 2: its 25th digit
