@@ -3,7 +3,7 @@ use mathlib.Core.Path.{◌≡◌, sym, ap, ◌∙◌}
 use mathlib.Core.List.{List, ◌++◌, append_assoc}
 use Prim.Native.Nat.{ℕ, ◌+◌, ◌-◌, ◌≤◌}
 use native.Mathlib.Omega.{arith}
-use lib.ListN.{length, take, drop, length-append, length-drop}
+use lib.ListN.{length, take, drop, length-append, length-drop, length-take}
 use lib.Seq.{take-append-add, take-append_seam, take_all, length-take-le}
 use Rattle.digits.specs.Room.{laid, put}
 use Rattle.digits.proofs.Room.{put_count}
@@ -52,3 +52,7 @@ follows_more {at = at} {x = x} {y = y} {before = before} f g =
       stands = g.stands ∙ ap (λ (l : List ℕ). l ++ y) f.stands ∙ append_assoc (take at before) x y;
       same_length = g.same_length ∙ f.same_length;
     }
+
+-- a piece at the beginning ends within its place
+pub follows_inside : {end : ℕ} {piece before after : List ℕ} → Follows 0 piece end before after → end ≤ length after
+follows_inside {end = end} {after = after} f = omega (arith, f.ends, ap length f.stands, length-take end after)

@@ -1,7 +1,7 @@
 -- `bench::call` meets its contract.
 use mathlib.Core.Path.{ap}
 use Rattle.turns.specs.Run.{is_reading}
-use Rattle.bench.proofs.Stages.{writing}
+use Rattle.bench.proofs.Stages.{write_or_say}
 use Rattle.bench.proofs.Views.{answered_read, answered_write, sound_read, sound_write}
 use Rattle.bench.proofs.call.Goals as goal
 
@@ -16,7 +16,7 @@ returns-in-Read c =
 pub returns-in-Write : goal.returns-in-Write
 returns-in-Write c =
     let less = c.write_more.ensures in
-    let writes = writing c.args.p.stage c.in-Write.is in
+    let writes = write_or_say c.args.p.stage c.in-Write.is in
     record {
       sound = sound_write c.args.p _ _ _ writes less c.requires;
       one_answer = answered_write c.args.p _ _ _ writes c.requires less;
