@@ -24,7 +24,7 @@ use Rattle.record.specs.Calls.{with_value, read_at, given, lines_of, read_as, an
 use Rattle.record.proofs.Table.{fit_kind, right_at, told}
 use Rattle.record.proofs.reading.read.Invariants.{from, Left, one_line, ended-there}
 use Rattle.record.proofs.reading.read.Goals as goal
-use Rattle.record.proofs.reading.read.Goals.{then-last-line, else-last-line+then-not-state, else-digits-test, then-digits-test+in_default}
+use Rattle.record.proofs.reading.read.Goals.{Else-not-state, Joined-last-line, then-last-line, else-last-line+then-not-state}
 
 module _ (form : Form) (text : List ℕ) (r : Record) (at line end : ℕ) (s : State) where
   -- what a walk over a line of a text found
@@ -32,10 +32,6 @@ module _ (form : Form) (text : List ℕ) (r : Record) (at line end : ℕ) (s : S
     begun : at ≤ end
     inside : end ≤ length text
     found : read_at form line r (drop at text) ≡ found_at (stop (end - at) s)
-
-  -- the name of the line
-  abbrev name_size : ℕ
-  name_size = (kind_of (part_at form line) r.set).name.size
 
   -- by whether it passed the line feed
   found-by : (b : Bool) → s.ended ≡ b → Walked → read_at form line r (drop at text) ≡ cond b (Line (end - at) s.number) (Stopped (end - at + 1))
@@ -50,25 +46,25 @@ module _ (form : Form) (text : List ℕ) (r : Record) (at line end : ℕ) (s : S
       ∙ left.rest
 
   -- a line that was passed has its name, its value and a line feed; the value gives the record behind it
-  record LinePassed : Type 0 where
-    long : name_size + 1 ≤ end - at
+  record LinePassed (part : ℕ) (kind : Kind) : Type 0 where
+    long : kind.name.size + 1 ≤ end - at
     gives : given form line r s.number (take (end - at) (drop at text))
-        ≡ with_value (part_at form line) r s.number (take (end - 1 - (at + name_size)) (drop (at + name_size) text))
+        ≡ with_value part r s.number (take (end - 1 - (at + kind.name.size)) (drop (at + kind.name.size) text))
 
-  passed-line : s.ended ≡ true → Walked → LinePassed
+  passed-line : (part : ℕ) (kind : Kind) → part ≡ part_at form line → kind ≡ kind_of part r.set → s.ended ≡ true → Walked → LinePassed part kind
   unfolding given
-  passed-line e w =
-      let part : ℕ = part_at form line in
-      let kind : Kind = kind_of part r.set in
+  passed-line part kind part-is kind-is e w =
       let x : List ℕ = drop at text in
       let t : FoundIn (right_at form line r) x (Line (end - at) s.number) = rw (found-by true e w) at (told form line r x) in
-      let long : kind.name.size + 1 ≤ end - at =
-      omega (arith, line_size kind (take (end - at) x) s.number (fit_kind part r.set) t.1, length-take-le (end - at) x t.0) in
       let there : at + (end - at) ≡ end = omega (arith, w.begun) in
+      rw (kind-is, part-is)
+      (let k : Kind = kind_of (part_at form line) r.set in
+      let long : k.name.size + 1 ≤ end - at =
+      omega (arith, line_size k (take (end - at) x) s.number (fit_kind (part_at form line) r.set) t.1, length-take-le (end - at) x t.0) in
       record {
         long = long;
-        gives = ap (with_value part r s.number) (rw there at (value_there kind text at (end - at) t.0 long));
-      }
+        gives = ap (with_value (part_at form line) r s.number) (rw there at (value_there k text at (end - at) t.0 long));
+      })
 
   -- and the reading goes on behind it
   read-on : (last : ℕ) (next : Record) → Left form text r last at line → line ≤ last → s.ended ≡ true → Walked
@@ -86,167 +82,74 @@ module _ (form : Form) (text : List ℕ) (r : Record) (at line end : ℕ) (s : S
             ∙ left.rest;
       }
 
--- of a kind that is the line's
-walked-as : (form : Form) (text : List ℕ) (r : Record) (at line end : ℕ) (s : State) (kind : Kind) → kind ≡ kind_of (part_at form line) r.set → Walking kind text at s end
-    → walk (step_of kind) begin (drop at text) ≡ stop (end - at) s → Walked form text r at line end s
+-- the kind is that of the line's part
+walked-as : (form : Form) (text : List ℕ) (r : Record) (at line end : ℕ) (s : State) (part : ℕ) (kind : Kind) → part ≡ part_at form line → kind ≡ kind_of part r.set
+    → Walking kind text at s end → walk (step_of kind) begin (drop at text) ≡ stop (end - at) s → Walked form text r at line end s
 unfolding read_of
-walked-as form text r at line end s kind e w stopped = record {
+walked-as form text r at line end s part kind part-is kind-is w stopped = record {
   begun = w.begun;
   inside = w.inside;
-  found = ap (λ (k : Kind). read_of k (drop at text)) (sym e) ∙ ap found_at stopped;
+  found = ap (λ (k : Kind). read_of k (drop at text)) (cc) ∙ ap found_at stopped;
 }
 
-pub overflow_add-from : goal.overflow_add-from
-overflow_add-from c =
-    let a = c.args in
+-- what the walk over a line that was passed found
+walked : (c : Else-not-state) → Walked c.args.form c.args.text.now c.loop-line.entry c.loop-line.at c.loop-line.line c.digits.end c.digits.state
+walked c = walked-as _ _ _ _ _ _ _ _ _ c.part_at-part.ensures c.kind_of-kind.ensures c.digits.invariant (grind (arith, walk_end, walk_off))
+
+-- and the parts of that line
+parts : (c : Else-not-state)
+    → LinePassed c.args.form c.args.text.now c.loop-line.entry c.loop-line.at c.loop-line.line c.digits.end c.digits.state c.part_at-part.result c.kind_of-kind.result
+parts c = passed-line _ _ _ _ _ _ _ _ _ c.part_at-part.ensures c.kind_of-kind.ensures (not-false _ c.if-not-state.false) (walked c)
+
+-- how the loop ended: after the last line, or at a broken one
+ended : (c : Joined-last-line) → let found = c.if-last-line in
+    ((found.bad ≡ 0) × (lines_in c.args.form + 1 - c.loop-line.line ≡ 0))
+    ⊎ ((1 ≤ found.bad) × (broken_at found.bad found.column found.early ≡ lines_of c.args.form (lines_in c.args.form) c.args.text.now))
+ended c =
     let l = c.loop-line in
-    let kind = c.kind_of-kind in
-    let d = c.digits in
-    let kind-is : kind.result ≡ kind_of (part_at a.form l.line) l.entry.set = kind.ensures ∙ ap (λ (part : ℕ). kind_of part l.entry.set) c.part_at-part.ensures in
-    let stopped : walk (step_of kind.result) begin (drop l.at a.text.now) ≡ stop (d.end - l.at) d.state =
-    elim c.digits-test.branch [
-      | else-digits-test w ↦ walk_end _ _ l.at d.state d.end w.digits-test.false d.invariant
-      | then-digits-test+in_default w ↦ walk_off _ _ l.at d.state d.end w.digits-test.true (sym w.advance-next.ensures ∙ w.in_default.is) d.invariant
-    ] in
-    let walked = walked-as a.form a.text.now l.entry l.at l.line d.end d.state kind.result kind-is d.invariant stopped in
-    let ended : d.state.ended ≡ true = not-false _ c.if-not-state.false in
-    let parts = passed-line a.form a.text.now l.entry l.at l.line d.end d.state ended walked in
-    let name_is : kind.result.name.size ≡ (kind_of (part_at a.form l.line) l.entry.set).name.size = ap (λ (k : Kind). k.name.size) kind-is in
-    record { fits = omega (arith, parts.long, name_is, walked.inside) }
+    elim c.if-last-line.branch [
+      | then-last-line w ↦ inl (w.bad-is, omega (arith, w.if-last-line.true, l.invariant.count))
+      | else-last-line+then-not-state w ↦
+          let d = w.digits in
+          let line_walked : Walked c.args.form c.args.text.now l.entry l.at l.line d.end d.state =
+          walked-as _ _ _ _ _ _ _ _ _ w.part_at-part.ensures w.kind_of-kind.ensures d.invariant (grind (arith, walk_end, walk_off)) in
+          inr (
+            omega (arith, w.bad-is, l.invariant.first),
+            rw (w.column-is, w.early-is, w.bad-is)
+                (refused _ _ _ _ _ _ _ _ l.invariant (omega (arith, w.if-last-line.false)) (not-true _ w.if-not-state.true) line_walked),
+          )
+    ]
+
+pub overflow_add-from : goal.overflow_add-from
+overflow_add-from c = record { fits = omega (arith, (parts (goal.at.overflow_add-from c).Else-not-state).long) }
 
 pub overflow_sub-feed : goal.overflow_sub-feed
-overflow_sub-feed c =
-    let a = c.args in
-    let l = c.loop-line in
-    let kind = c.kind_of-kind in
-    let d = c.digits in
-    let kind-is : kind.result ≡ kind_of (part_at a.form l.line) l.entry.set = kind.ensures ∙ ap (λ (part : ℕ). kind_of part l.entry.set) c.part_at-part.ensures in
-    let stopped : walk (step_of kind.result) begin (drop l.at a.text.now) ≡ stop (d.end - l.at) d.state =
-    elim c.digits-test.branch [
-      | else-digits-test w ↦ walk_end _ _ l.at d.state d.end w.digits-test.false d.invariant
-      | then-digits-test+in_default w ↦ walk_off _ _ l.at d.state d.end w.digits-test.true (sym w.advance-next.ensures ∙ w.in_default.is) d.invariant
-    ] in
-    let walked = walked-as a.form a.text.now l.entry l.at l.line d.end d.state kind.result kind-is d.invariant stopped in
-    let ended : d.state.ended ≡ true = not-false _ c.if-not-state.false in
-    let parts = passed-line a.form a.text.now l.entry l.at l.line d.end d.state ended walked in
-    omega (arith, parts.long)
+overflow_sub-feed c = omega (arith, (parts (goal.at.overflow_sub-feed c).Else-not-state).long)
 
 pub slice_bounds-with_value-count : goal.slice_bounds-with_value-count
-slice_bounds-with_value-count c =
-    let a = c.args in
-    let l = c.loop-line in
-    let kind = c.kind_of-kind in
-    let d = c.digits in
-    let kind-is : kind.result ≡ kind_of (part_at a.form l.line) l.entry.set = kind.ensures ∙ ap (λ (part : ℕ). kind_of part l.entry.set) c.part_at-part.ensures in
-    let stopped : walk (step_of kind.result) begin (drop l.at a.text.now) ≡ stop (d.end - l.at) d.state =
-    elim c.digits-test.branch [
-      | else-digits-test w ↦ walk_end _ _ l.at d.state d.end w.digits-test.false d.invariant
-      | then-digits-test+in_default w ↦ walk_off _ _ l.at d.state d.end w.digits-test.true (sym w.advance-next.ensures ∙ w.in_default.is) d.invariant
-    ] in
-    let walked = walked-as a.form a.text.now l.entry l.at l.line d.end d.state kind.result kind-is d.invariant stopped in
-    let ended : d.state.ended ≡ true = not-false _ c.if-not-state.false in
-    let parts = passed-line a.form a.text.now l.entry l.at l.line d.end d.state ended walked in
-    let name_is : kind.result.name.size ≡ (kind_of (part_at a.form l.line) l.entry.set).name.size = ap (λ (k : Kind). k.name.size) kind-is in
-    omega (arith, parts.long, name_is)
+slice_bounds-with_value-count c = omega (arith, (parts (goal.at.slice_bounds-with_value-count c).Else-not-state).long)
 
 pub slice_bounds-with_value-start : goal.slice_bounds-with_value-start
-slice_bounds-with_value-start c =
-    let a = c.args in
-    let l = c.loop-line in
-    let kind = c.kind_of-kind in
-    let d = c.digits in
-    let kind-is : kind.result ≡ kind_of (part_at a.form l.line) l.entry.set = kind.ensures ∙ ap (λ (part : ℕ). kind_of part l.entry.set) c.part_at-part.ensures in
-    let stopped : walk (step_of kind.result) begin (drop l.at a.text.now) ≡ stop (d.end - l.at) d.state =
-    elim c.digits-test.branch [
-      | else-digits-test w ↦ walk_end _ _ l.at d.state d.end w.digits-test.false d.invariant
-      | then-digits-test+in_default w ↦ walk_off _ _ l.at d.state d.end w.digits-test.true (sym w.advance-next.ensures ∙ w.in_default.is) d.invariant
-    ] in
-    let walked = walked-as a.form a.text.now l.entry l.at l.line d.end d.state kind.result kind-is d.invariant stopped in
-    let ended : d.state.ended ≡ true = not-false _ c.if-not-state.false in
-    let parts = passed-line a.form a.text.now l.entry l.at l.line d.end d.state ended walked in
-    let name_is : kind.result.name.size ≡ (kind_of (part_at a.form l.line) l.entry.set).name.size = ap (λ (k : Kind). k.name.size) kind-is in
-    omega (arith, parts.long, name_is, walked.inside)
+slice_bounds-with_value-start c = omega (arith, (parts (goal.at.slice_bounds-with_value-start c).Else-not-state).long)
 
 pub loop-line-preserved : goal.loop-line-preserved
 loop-line-preserved c =
-    let a = c.args in
-    let l = c.loop-line in
-    let kind = c.kind_of-kind in
-    let d = c.digits in
-    let kind-is : kind.result ≡ kind_of (part_at a.form l.line) l.entry.set = kind.ensures ∙ ap (λ (part : ℕ). kind_of part l.entry.set) c.part_at-part.ensures in
-    let stopped : walk (step_of kind.result) begin (drop l.at a.text.now) ≡ stop (d.end - l.at) d.state =
-    elim c.digits-test.branch [
-      | else-digits-test w ↦ walk_end _ _ l.at d.state d.end w.digits-test.false d.invariant
-      | then-digits-test+in_default w ↦ walk_off _ _ l.at d.state d.end w.digits-test.true (sym w.advance-next.ensures ∙ w.in_default.is) d.invariant
-    ] in
-    let walked = walked-as a.form a.text.now l.entry l.at l.line d.end d.state kind.result kind-is d.invariant stopped in
-    let ended : d.state.ended ≡ true = not-false _ c.if-not-state.false in
-    let parts = passed-line a.form a.text.now l.entry l.at l.line d.end d.state ended walked in
-    let name_is : kind.result.name.size ≡ (kind_of (part_at a.form l.line) l.entry.set).name.size = ap (λ (k : Kind). k.name.size) kind-is in
-    let one_of : l.line ≤ c.lines_in-last.result = omega (arith, c.if-last-line.false) in
-    let part = c.part_at-part.ensures in
-    read-on a.form a.text.now l.entry l.at l.line d.end d.state _ _ l.invariant one_of ended walked
-    (c.with_value-next.ensures
-    ∙ (λ j. with_value (part j) l.entry d.state.number (take (d.end - 1 - (l.at + name_is j)) (drop (l.at + name_is j) a.text.now)))
-    ∙ sym parts.gives)
+    let passed = (goal.at.loop-line-preserved c).Else-not-state in
+    read-on _ _ _ _ _ _ _ _ _ c.loop-line.invariant (omega arith) (not-false _ c.if-not-state.false) (walked passed)
+    (c.with_value-next.ensures ∙ sym (parts passed).gives)
 
 pub returns-then-bad-ne0 : goal.returns-then-bad-ne0
 unfolding read_call
 returns-then-bad-ne0 c =
-    let a = c.args in
-    let l = c.loop-line in
-    let found = c.if-last-line in
-    let ended : ((found.bad ≡ 0) × (lines_in a.form + 1 - l.line ≡ 0))
-    ⊎ ((1 ≤ found.bad) × (broken_at found.bad found.column found.early ≡ lines_of a.form (lines_in a.form) a.text.now)) =
-    elim found.branch [
-      | then-last-line w ↦ inl (w.bad-is, omega (arith, w.if-last-line.true, l.invariant.count))
-      | else-last-line+then-not-state w ↦
-          let kind = w.kind_of-kind in
-          let d = w.digits in
-          let kind-is : kind.result ≡ kind_of (part_at a.form l.line) l.entry.set = kind.ensures ∙ ap (λ (part : ℕ). kind_of part l.entry.set) w.part_at-part.ensures in
-          let stopped : walk (step_of kind.result) begin (drop l.at a.text.now) ≡ stop (d.end - l.at) d.state =
-          elim w.digits-test.branch [
-            | else-digits-test w' ↦ walk_end _ _ l.at d.state d.end w'.digits-test.false d.invariant
-            | then-digits-test+in_default w' ↦ walk_off _ _ l.at d.state d.end w'.digits-test.true (sym w'.advance-next.ensures ∙ w'.in_default.is) d.invariant
-          ] in
-          let walked = walked-as a.form a.text.now l.entry l.at l.line d.end d.state kind.result kind-is d.invariant stopped in
-          let one_of : l.line ≤ c.lines_in-last.result = omega (arith, w.if-last-line.false) in
-          inr (
-            omega (arith, w.bad-is, l.invariant.first),
-            rw (w.column-is, w.early-is, w.bad-is)
-                (refused a.form a.text.now l.entry l.at l.line d.end d.state _ l.invariant one_of (not-true _ w.if-not-state.true) walked),
-          )
-    ] in
-    c.refusal.ensures ∙ ⊎_elim (λ w. absurd (c.if-bad-ne0.true w.0)) (λ w. ap answered w.1) ended
+    c.refusal.ensures
+    ∙ ⊎_elim (λ w. absurd (c.if-bad-ne0.true w.0)) (λ w. ap answered w.1) (ended (goal.at.returns-then-bad-ne0 c).Joined-last-line)
 
 pub returns : goal.returns
 unfolding read_call read_as
 returns c =
     let a = c.args in
     let l = c.loop-line in
-    let found = c.if-last-line in
-    let ended : ((found.bad ≡ 0) × (lines_in a.form + 1 - l.line ≡ 0))
-    ⊎ ((1 ≤ found.bad) × (broken_at found.bad found.column found.early ≡ lines_of a.form (lines_in a.form) a.text.now)) =
-    elim found.branch [
-      | then-last-line w ↦ inl (w.bad-is, omega (arith, w.if-last-line.true, l.invariant.count))
-      | else-last-line+then-not-state w ↦
-          let kind = w.kind_of-kind in
-          let d = w.digits in
-          let kind-is : kind.result ≡ kind_of (part_at a.form l.line) l.entry.set = kind.ensures ∙ ap (λ (part : ℕ). kind_of part l.entry.set) w.part_at-part.ensures in
-          let stopped : walk (step_of kind.result) begin (drop l.at a.text.now) ≡ stop (d.end - l.at) d.state =
-          elim w.digits-test.branch [
-            | else-digits-test w' ↦ walk_end _ _ l.at d.state d.end w'.digits-test.false d.invariant
-            | then-digits-test+in_default w' ↦ walk_off _ _ l.at d.state d.end w'.digits-test.true (sym w'.advance-next.ensures ∙ w'.in_default.is) d.invariant
-          ] in
-          let walked = walked-as a.form a.text.now l.entry l.at l.line d.end d.state kind.result kind-is d.invariant stopped in
-          let one_of : l.line ≤ c.lines_in-last.result = omega (arith, w.if-last-line.false) in
-          inr (
-            omega (arith, w.bad-is, l.invariant.first),
-            rw (w.column-is, w.early-is, w.bad-is)
-                (refused a.form a.text.now l.entry l.at l.line d.end d.state _ l.invariant one_of (not-true _ w.if-not-state.true) walked),
-          )
-    ] in
     ⊎_elim
     (λ w. ap answered (ap (λ (k : ℕ). lines_from (read_at a.form) (given a.form) k l.line l.at l.entry a.text.now) (sym w.1) ∙ l.invariant.rest))
     (λ w. absurd (omega (arith, w.0, c.if-bad-ne0.false)))
-    ended
+    (ended (goal.at.returns c).Joined-last-line)

@@ -2,17 +2,35 @@ use mathlib.Core.Path.{◌≡◌, ap, ◌∙◌}
 use Prim.Native.Nat.{ℕ, ◌+◌, ◌-◌, ◌≤◌}
 use native.Mathlib.Omega.{arith}
 use lib.ListN.{length}
-use Rattle.record.specs.Form.{lines_in, keeps, broken}
+use Rattle.record.specs.declared.form.Form.{Form}
+use Rattle.record.specs.declared.form.Record.{Record}
+use Rattle.record.specs.Form.{part_at, lines_in, keeps, broken}
 use Rattle.record.specs.Text.{line_text, text_from, text_of}
 use Rattle.record.proofs.Chains.{text_left, text_more, Sound, broken_rule}
 use Rattle.record.proofs.Bounds.{text_most, few_bytes}
+use Rattle.record.proofs.writing.text_length.Invariants.{Left}
 use Rattle.record.proofs.writing.text_length.Goals as goal
 
+module _ (form : Form) (r : Record) where
+  -- the lines keep their rules
+  sound : broken form r ≡ 0 → Sound form (lines_in form) 1 r
+  unfolding broken
+  sound e = broken_rule form (lines_in form) 1 r (omega arith) e
+
+  -- and have at most 1,706 bytes
+  few : broken form r ≡ 0 → length (text_of form r) ≤ 1_706
+  unfolding text_of
+  few e = omega (arith, text_most form (lines_in form) (omega arith) r (sound e), few_bytes form)
+
+  -- a line has its bytes, and those behind it theirs
+  counted : (last size line part n : ℕ) → Left form r last size line → line ≤ last → part ≡ part_at form line → n ≡ length (line_text part r)
+      → size + n + length (text_left form (line + 1) r) ≡ length (text_of form r)
+  counted last size line part n left h e f =
+      omega (arith, f ∙ ap (λ (k : ℕ). length (line_text k r)) e, text_more form r line (omega (arith, left.count)), left.sum)
+
 pub loop-line-init : goal.loop-line-init
-unfolding text_of broken
+unfolding text_of
 loop-line-init c =
-    let sound : (Sound c.args.form (lines_in c.args.form) 1 c.args.entry) = broken_rule c.args.form (lines_in c.args.form) 1 c.args.entry (omega arith) c.requires in
-    let most : (length (text_of c.args.form c.args.entry) ≤ 1_706) = omega (arith, text_most c.args.form (lines_in c.args.form) (omega arith) c.args.entry sound, few_bytes c.args.form) in
     let a = c.args in
     let all : lines_in a.form + 1 - 1 ≡ lines_in a.form = omega arith in
     record {
@@ -23,48 +41,20 @@ loop-line-init c =
     }
 
 pub line_length-size-requires : goal.line_length-size-requires
-unfolding broken
 line_length-size-requires c =
-    let sound : (Sound c.args.form (lines_in c.args.form) 1 c.args.entry) = broken_rule c.args.form (lines_in c.args.form) 1 c.args.entry (omega arith) c.requires in
-    let one_of : (c.loop-line.line ≤ lines_in c.args.form) = omega (arith, c.loop-line.invariant.count, c.loop-line-test.true) in
-    let t = c in
-    let l = t.loop-line in
-    ap (λ (part : ℕ). keeps part t.args.entry) c.part_at.ensures ∙ sound l.line l.invariant.first (omega (arith, one_of))
+    let l = c.loop-line in
+    ap (λ (part : ℕ). keeps part c.args.entry) c.part_at.ensures ∙ sound c.args.form c.args.entry c.requires l.line l.invariant.first (omega arith)
 
 pub overflow_add-size : goal.overflow_add-size
-unfolding broken text_of
 overflow_add-size c =
-    let sound : (Sound c.args.form (lines_in c.args.form) 1 c.args.entry) = broken_rule c.args.form (lines_in c.args.form) 1 c.args.entry (omega arith) c.requires in
-    let most : (length (text_of c.args.form c.args.entry) ≤ 1_706) = omega (arith, text_most c.args.form (lines_in c.args.form) (omega arith) c.args.entry sound, few_bytes c.args.form) in
-    let one_of : (c.loop-line.line ≤ lines_in c.args.form) = omega (arith, c.loop-line.invariant.count, c.loop-line-test.true) in
-    let counted : (let t = c in
-    let l = t.loop-line in
-    let a = t.args in
-    l.size + c.line_length-size.result + length (text_left a.form (l.line + 1) a.entry) ≡ length (text_of a.form a.entry)) = let t = c in
-    let l = t.loop-line in
-    let a = t.args in
-    let size = c.line_length-size.ensures ∙ ap (λ (part : ℕ). length (line_text part a.entry)) c.part_at.ensures in
-    omega (arith, size, text_more a.form a.entry l.line one_of, l.invariant.sum) in
-    record { fits = omega (arith, counted, most) }
+    let sum = counted c.args.form c.args.entry _ _ _ _ _ c.loop-line.invariant c.loop-line-test.true c.part_at.ensures c.line_length-size.ensures in
+    record { fits = omega (arith, few c.args.form c.args.entry c.requires) }
 
 pub loop-line-preserved : goal.loop-line-preserved
-unfolding broken text_of
 loop-line-preserved c =
-    let sound : (Sound c.args.form (lines_in c.args.form) 1 c.args.entry) = broken_rule c.args.form (lines_in c.args.form) 1 c.args.entry (omega arith) c.requires in
-    let most : (length (text_of c.args.form c.args.entry) ≤ 1_706) = omega (arith, text_most c.args.form (lines_in c.args.form) (omega arith) c.args.entry sound, few_bytes c.args.form) in
-    let one_of : (c.loop-line.line ≤ lines_in c.args.form) = omega (arith, c.loop-line.invariant.count, c.loop-line-test.true) in
-    let counted : (let t = c in
-    let l = t.loop-line in
-    let a = t.args in
-    l.size + c.line_length-size.result + length (text_left a.form (l.line + 1) a.entry) ≡ length (text_of a.form a.entry)) = let t = c in
-    let l = t.loop-line in
-    let a = t.args in
-    let size = c.line_length-size.ensures ∙ ap (λ (part : ℕ). length (line_text part a.entry)) c.part_at.ensures in
-    omega (arith, size, text_more a.form a.entry l.line one_of, l.invariant.sum) in
-    let t = c in
     record {
-      count = t.loop-line.invariant.count;
+      count = c.loop-line.invariant.count;
       first = omega arith;
-      most = omega (arith, t.loop-line-test.true);
-      sum = counted;
+      most = omega arith;
+      sum = counted c.args.form c.args.entry _ _ _ _ _ c.loop-line.invariant c.loop-line-test.true c.part_at.ensures c.line_length-size.ensures;
     }

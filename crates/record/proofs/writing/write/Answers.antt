@@ -1,5 +1,4 @@
 use mathlib.Core.Path.{◌≡◌, refl, sym, ap, ◌∙◌}
-use mathlib.Core.Bool.{false}
 use mathlib.Core.List.{List, [], ◌++◌}
 use Prim.Native.Nat.{ℕ, suc, ◌+◌, ◌-◌, ◌≤◌}
 use native.Mathlib.Omega.{arith}
@@ -12,12 +11,13 @@ use Rattle.lines.proofs.Texts.{text_snoc}
 use Rattle.record.specs.declared.form.Form.{Form}
 use Rattle.record.specs.declared.form.Record.{Record}
 use Rattle.record.specs.declared.writing.Writing.{Writing}
-use Rattle.record.specs.Form.{part_at, lines_in, keeps, broken, loses_chip}
+use Rattle.record.specs.Form.{part_at, lines_in, keeps, broken}
 use Rattle.record.specs.Text.{line_text, form_line, text_from, text_of}
 use Rattle.record.specs.Calls.{write_leaves, write_call}
-use Rattle.record.proofs.Chains.{text_more, Sound, broken_rule}
+use Rattle.record.proofs.Chains.{text_more, broken_rule}
 use Rattle.record.proofs.writing.write.Invariants.{Left}
 use Rattle.record.proofs.writing.write.Goals as goal
+use Rattle.record.proofs.writing.write.Goals.{After-put_line-at}
 
 module _ (form : Form) (r : Record) (before out : List ℕ) (last at line : ℕ) (left : Left form r before out last at line) (h : line ≤ lines_in form)
     (room : length (text_of form r) ≤ length before) where
@@ -50,35 +50,37 @@ module _ (form : Form) (r : Record) (before out : List ℕ) (last at line : ℕ)
         done = put_two ∙ ap (λ (x : List ℕ). put x before) (sym lines);
       }
 
+-- the line of a turn put
+line-put : (c : After-put_line-at) → let l = c.loop-line in
+    Left c.args.form c.args.entry c.args.out.now (behind l.at l.out c.put_line-at.new.out) c.lines_in-last.result (l.at + c.put_line-at.result) (l.line + 1)
+line-put c =
+    let l = c.loop-line in
+    one_more _ _ _ _ _ _ _ l.invariant (omega (arith, l.invariant.count, c.loop-line-test.true))
+    (omega (arith, c.text_length.ensures, c.if-out-text_length.false)) _ _
+    (c.put_line-at.ensures ∙ ap (λ (part : ℕ). put (line_text part c.args.entry) (take (length l.out - l.at) (drop l.at l.out))) c.part_at.ensures)
+
 pub returns-then-bad-ne0 : goal.returns-then-bad-ne0
 unfolding write_call
 returns-then-bad-ne0 c =
-    let f = c in
-    let a = f.args in
-    let bad = f.first_broken-bad.ensures in
+    let a = c.args in
+    let bad = c.first_broken-bad.ensures in
     rw (ne_eqb (broken a.form a.entry) 0 (λ e. c.if-bad-ne0.true (bad ∙ e)), ← bad)
     (ap (λ (w : Writing). write_leaves w a.out.now) c.refusal.ensures)
 
 pub returns-then-loses_chip : goal.returns-then-loses_chip
 unfolding write_call
 returns-then-loses_chip c =
-    let in_form : (let a = c.args in broken a.form a.entry ≡ 0) = sym c.first_broken-bad.ensures ∙ c.if-bad-ne0.false in
-    let l = c in
-    let a = l.args in
-    rw (in_form, sym l.loses_chip.ensures ∙ c.if-loses_chip.true) (ap (λ (w : Writing). write_leaves w a.out.now) c.refusal-then-loses_chip.ensures)
+    rw (sym c.first_broken-bad.ensures ∙ c.if-bad-ne0.false, sym c.loses_chip.ensures ∙ c.if-loses_chip.true)
+    (ap (λ (w : Writing). write_leaves w c.args.out.now) c.refusal-then-loses_chip.ensures)
 
 pub returns-then-out-text_length : goal.returns-then-out-text_length
 unfolding write_call
 returns-then-out-text_length c =
-    let in_form : (let a = c.args in broken a.form a.entry ≡ 0) = sym c.first_broken-bad.ensures ∙ c.if-bad-ne0.false in
-    let kept : (let a = c.args in loses_chip a.form a.entry ≡ false) = sym c.loses_chip.ensures ∙ c.if-loses_chip.false in
-    let t = c in
-    let e = t in
-    let a = e.args in
+    let a = c.args in
     rw (
-      in_form,
-      kept,
-      lt-leb (length (text_of a.form a.entry)) (length a.out.now) (omega (arith, t.text_length.ensures, c.if-out-text_length.true)),
+      sym c.first_broken-bad.ensures ∙ c.if-bad-ne0.false,
+      sym c.loses_chip.ensures ∙ c.if-loses_chip.false,
+      lt-leb (length (text_of a.form a.entry)) (length a.out.now) (omega (arith, c.text_length.ensures, c.if-out-text_length.true)),
     )
     (ap (λ (w : Writing). write_leaves w a.out.now) c.refusal-then-out-text_length.ensures)
 
@@ -99,55 +101,33 @@ loop-line-init c =
 pub put_line-at-requires : goal.put_line-at-requires
 unfolding broken
 put_line-at-requires c =
-    let in_form : (let a = c.args in broken a.form a.entry ≡ 0) = sym c.first_broken-bad.ensures ∙ c.if-bad-ne0.false in
-    let sound : (let a = c.args in Sound a.form (lines_in a.form) 1 a.entry) = let a = c.args in broken_rule a.form (lines_in a.form) 1 a.entry (omega arith) in_form in
-    let one_of : (c.loop-line.line ≤ lines_in c.args.form) = omega (arith, c.loop-line.invariant.count, c.loop-line-test.true) in
-    let p = c in
-    let t = p in
-    let l = t.loop-line in
-    let a = t.args in
-    ap (λ (part : ℕ). keeps part a.entry) p.part_at.ensures ∙ sound l.line l.invariant.first (omega (arith, one_of))
+    let a = c.args in
+    let l = c.loop-line in
+    ap (λ (part : ℕ). keeps part a.entry) c.part_at.ensures
+    ∙ broken_rule a.form (lines_in a.form) 1 a.entry (omega arith) (sym c.first_broken-bad.ensures ∙ c.if-bad-ne0.false) l.line l.invariant.first
+    (omega (arith, l.invariant.count, c.loop-line-test.true))
 
 pub overflow_add-at : goal.overflow_add-at
 overflow_add-at c =
-    let has_room : (let a = c.args in length (text_of a.form a.entry) ≤ length a.out.now) = omega (arith, c.text_length.ensures, c.if-out-text_length.false) in
-    let one_of : (c.loop-line.line ≤ lines_in c.args.form) = omega (arith, c.loop-line.invariant.count, c.loop-line-test.true) in
-    let line-put : (let t = c in
-    let a = c.args in
-    Left a.form a.entry a.out.now (behind t.loop-line.at t.loop-line.out c.put_line-at.new.out) t.lines_in-last.result (t.loop-line.at + c.put_line-at.result)
-    (t.loop-line.line + 1)) = let t = c in
-    let a = c.args in
-    one_more a.form a.entry a.out.now t.loop-line.out t.lines_in-last.result t.loop-line.at t.loop-line.line t.loop-line.invariant one_of has_room _ _
-    (c.put_line-at.ensures ∙ ap (λ (part : ℕ). put (line_text part a.entry) (take (length t.loop-line.out - t.loop-line.at) (drop t.loop-line.at t.loop-line.out))) c.part_at.ensures) in
-    let p = c in
-    let inside = put_inside _ _ _ _ line-put.done in
-    record { fits = omega (arith, inside.0, inside.1, p.well_formed.1.1.0.0) }
+    let inside = put_inside _ _ _ _ (line-put (goal.at.overflow_add-at c).After-put_line-at).done in
+    record { fits = omega (arith, inside.0, inside.1, c.well_formed.1.1.0.0) }
 
 pub loop-line-preserved : goal.loop-line-preserved
-loop-line-preserved c =
-    let has_room : (let a = c.args in length (text_of a.form a.entry) ≤ length a.out.now) = omega (arith, c.text_length.ensures, c.if-out-text_length.false) in
-    let one_of : (c.loop-line.line ≤ lines_in c.args.form) = omega (arith, c.loop-line.invariant.count, c.loop-line-test.true) in
-    let line-put : (let t = c in
-    let a = c.args in
-    Left a.form a.entry a.out.now (behind t.loop-line.at t.loop-line.out c.put_line-at.new.out) t.lines_in-last.result (t.loop-line.at + c.put_line-at.result)
-    (t.loop-line.line + 1)) = let t = c in
-    let a = c.args in
-    one_more a.form a.entry a.out.now t.loop-line.out t.lines_in-last.result t.loop-line.at t.loop-line.line t.loop-line.invariant one_of has_room _ _
-    (c.put_line-at.ensures ∙ ap (λ (part : ℕ). put (line_text part a.entry) (take (length t.loop-line.out - t.loop-line.at) (drop t.loop-line.at t.loop-line.out))) c.part_at.ensures) in
-    line-put
+loop-line-preserved c = line-put (goal.at.loop-line-preserved c).After-put_line-at
 
 pub returns : goal.returns
 unfolding write_call text_of
 returns c =
-    let in_form : (let a = c.args in broken a.form a.entry ≡ 0) = sym c.first_broken-bad.ensures ∙ c.if-bad-ne0.false in
-    let kept : (let a = c.args in loses_chip a.form a.entry ≡ false) = sym c.loses_chip.ensures ∙ c.if-loses_chip.false in
-    let has_room : (let a = c.args in length (text_of a.form a.entry) ≤ length a.out.now) = omega (arith, c.text_length.ensures, c.if-out-text_length.false) in
+    let a = c.args in
     let l = c.loop-line in
-    let e = c in
-    let a = e.args in
+    let has_room : length (text_of a.form a.entry) ≤ length a.out.now = omega (arith, c.text_length.ensures, c.if-out-text_length.false) in
     let end : l.line - 1 ≡ lines_in a.form = omega (arith, l.invariant.count, l.invariant.most, c.loop-line-test.false) in
     let all : laid l.at l.out ≡ put (text_of a.form a.entry) a.out.now =
     l.invariant.done ∙ ap (λ (k : ℕ). put (text_from a.form k 1 a.entry) a.out.now) end in
     let whole = put_count (text_of a.form a.entry) a.out.now l.out l.at all has_room in
-    rw (in_form, kept, le-leb (length (text_of a.form a.entry)) (length a.out.now) has_room)
+    rw (
+      sym c.first_broken-bad.ensures ∙ c.if-bad-ne0.false,
+      sym c.loses_chip.ensures ∙ c.if-loses_chip.false,
+      le-leb (length (text_of a.form a.entry)) (length a.out.now) has_room,
+    )
     (λ j. write_leaves (record { answer = Done; line = 0; column = 0; written = whole.0 j }) (whole.1 j))
