@@ -8,6 +8,7 @@ use borrow.Author.Tests.{not-true, not-false, le-leb, lt-leb}
 use Rattle.digits.specs.Hex.{within}
 use Rattle.lines.specs.Steps.{value_step}
 use Rattle.lines.proofs.step.number_step.Goals as goal
+use Rattle.lines.proofs.step.number_step.Goals.{Else-only_zero}
 
 -- a number outside is not between
 too_large : (least most m : ℕ) → most < m → (leb least m && leb m most) ≡ false
@@ -16,52 +17,48 @@ too_large least most m h = rw (lt-leb m most h) (and-false (leb least m))
 too_small : (least most m : ℕ) → m < least → (leb least m && leb m most) ≡ false
 too_small least most m h = rw (lt-leb least m h)
 
+-- behind the first two tests the character is a digit, and may stand there
+tested : (c : Else-only_zero) → let s = c.args.state in (within 0x30 0x39 c.args.character ≡ true) × ((eqb s.digits 0 || not (eqb s.number 0)) ≡ true)
+tested c = (sym c.is_decimal.ensures ∙ c.if-not-is_decimal.false, not-false _ (sym c.only_zero.ensures ∙ c.if-only_zero.false))
+
 pub returns-then-not-is_decimal : goal.returns-then-not-is_decimal
 unfolding value_step
 returns-then-not-is_decimal c = rw (sym c.is_decimal.ensures ∙ c.if-not-is_decimal.true)
 
 pub returns-then-only_zero : goal.returns-then-only_zero
 unfolding value_step
-returns-then-only_zero c =
-    let decimal : (within 0x30 0x39 c.args.character ≡ true) = sym c.is_decimal.ensures ∙ c.if-not-is_decimal.false in
-    let s = c.args.state in
-    rw (decimal, not-true (eqb s.digits 0 || not (eqb s.number 0)) (sym c.only_zero.ensures ∙ c.if-only_zero.true))
+returns-then-only_zero c = rw (sym c.is_decimal.ensures ∙ c.if-not-is_decimal.false, not-true _ (sym c.only_zero.ensures ∙ c.if-only_zero.true))
 
 pub returns-then-most-digit : goal.returns-then-most-digit
 unfolding value_step
 returns-then-most-digit c =
-    let decimal : (within 0x30 0x39 c.args.character ≡ true) = sym c.is_decimal.ensures ∙ c.if-not-is_decimal.false in
-    let needed : (let s = c.args.state in (eqb s.digits 0 || not (eqb s.number 0)) ≡ true) = not-false _ (sym c.only_zero.ensures ∙ c.if-only_zero.false) in
     let a = c.args in
-    rw (decimal, needed, too_large a.least a.most (10 * a.state.number + (a.character - 0x30)) (omega (arith, c.wide-digit.ensures)))
+    let p = tested (goal.at.returns-then-most-digit c).Else-only_zero in
+    rw (p.0, p.1, too_large a.least a.most (10 * a.state.number + (a.character - 0x30)) (omega (arith, c.wide-digit.ensures)))
 
 pub returns-then-most-digit-2 : goal.returns-then-most-digit-2
 unfolding value_step
 returns-then-most-digit-2 c =
-    let decimal : (within 0x30 0x39 c.args.character ≡ true) = sym c.is_decimal.ensures ∙ c.if-not-is_decimal.false in
-    let needed : (let s = c.args.state in (eqb s.digits 0 || not (eqb s.number 0)) ≡ true) = not-false _ (sym c.only_zero.ensures ∙ c.if-only_zero.false) in
     let a = c.args in
-    rw (decimal, needed, too_large a.least a.most (10 * a.state.number + (a.character - 0x30)) (omega (arith, c.wide-digit.ensures)))
+    let p = tested (goal.at.returns-then-most-digit-2 c).Else-only_zero in
+    rw (p.0, p.1, too_large a.least a.most (10 * a.state.number + (a.character - 0x30)) (omega (arith, c.wide-digit.ensures)))
 
 pub returns-then-next-least : goal.returns-then-next-least
 unfolding value_step
 returns-then-next-least c =
-    let decimal : (within 0x30 0x39 c.args.character ≡ true) = sym c.is_decimal.ensures ∙ c.if-not-is_decimal.false in
-    let needed : (let s = c.args.state in (eqb s.digits 0 || not (eqb s.number 0)) ≡ true) = not-false _ (sym c.only_zero.ensures ∙ c.if-only_zero.false) in
     let a = c.args in
-    rw (decimal, needed, too_small a.least a.most (10 * a.state.number + (a.character - 0x30)) (omega (arith, c.wide-digit.ensures)))
+    let p = tested (goal.at.returns-then-next-least c).Else-only_zero in
+    rw (p.0, p.1, too_small a.least a.most (10 * a.state.number + (a.character - 0x30)) (omega (arith, c.wide-digit.ensures)))
 
 pub returns : goal.returns
 unfolding value_step
 returns c =
-    let decimal : (within 0x30 0x39 c.args.character ≡ true) = sym c.is_decimal.ensures ∙ c.if-not-is_decimal.false in
-    let needed : (let s = c.args.state in (eqb s.digits 0 || not (eqb s.number 0)) ≡ true) = not-false _ (sym c.only_zero.ensures ∙ c.if-only_zero.false) in
     let a = c.args in
-    let w = c.wide-digit.ensures in
+    let p = tested (goal.at.returns c).Else-only_zero in
     rw (
-      decimal,
-      needed,
+      p.0,
+      p.1,
       le-leb a.least (10 * a.state.number + (a.character - 0x30)) (omega arith),
       le-leb (10 * a.state.number + (a.character - 0x30)) a.most (omega arith),
-      w,
+      c.wide-digit.ensures,
     )

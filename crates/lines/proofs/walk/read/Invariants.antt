@@ -1,5 +1,4 @@
 -- `lines::walk::read` meets its contract. The loop's invariant: the walk from here ends where the whole does. The measure is the number of characters left.
---
 use Prim.Native.Nat.{◌-◌}
 use lib.ListN.{length}
 use Rattle.lines.proofs.Walks.{Walking}
