@@ -5,119 +5,67 @@ use native.Mathlib.Omega.{arith}
 use lib.ListN.{length, take, drop, length-drop}
 use lib.Seq.{take_all}
 use Rattle.lines.specs.declared.walk.Found.{Found}
-use Rattle.lines.specs.declared.walk.Found.TheVariants.{Line, Stopped}
+use Rattle.lines.specs.declared.walk.Found.TheVariants.{Line}
 use Rattle.lines.specs.Laws.{FoundIn}
 use Rattle.lines.specs.Tables.{go_on, lines_from}
 use Rattle.chip_log.specs.declared.form.Entry.{Entry}
-use Rattle.chip_log.specs.Calls.{read_line, read_at, given, read_as, read_entry}
+use Rattle.chip_log.specs.Calls.{read_line, read_at, given, lines_of, read_as, read_entry}
 use Rattle.chip_log.proofs.Table.{right_at, told}
-use Rattle.chip_log.proofs.reading.read.Invariants.{from}
+use Rattle.chip_log.proofs.reading.read.Invariants.{from, Left}
 use Rattle.chip_log.proofs.reading.read.Goals as goal
 
+-- what was found is what the table reads
+found-is : {text : List ℕ} {e : Entry} {at line : ℕ} {found f : Found} → Left text e at line → found ≡ read_line e.call line (take (length text - at) (drop at text)) → found ≡ f
+    → read_at line e (drop at text) ≡ f
+found-is {text} {e} {at} {line} l reads is =
+    let all = take_all (length text - at) (drop at text) (omega (arith, length-drop at text)) in
+    sym (reads ∙ ap (read_line e.call line) all) ∙ is
+
 -- a line, and those behind it
-one_line : (line at : ℕ) (e : Entry) (text : List ℕ) → line ≤ 5 → (f : Found) → read_at line e (drop at text) ≡ f
-    → from line at e text ≡ go_on line (drop at text) f (λ size says. from (line + 1) (at + size) (given line e says (take size (drop at text))) text)
-one_line line at e text h f is =
+one_line : {text : List ℕ} {e : Entry} {at line : ℕ} {found f : Found} → Left text e at line → line ≤ 5 → found ≡ read_line e.call line (take (length text - at) (drop at text)) → found ≡ f
+    → go_on line (drop at text) f (λ size says. from (line + 1) (at + size) (given line e says (take size (drop at text))) text) ≡ lines_of 5 text
+one_line {text} {e} {at} {line} l h reads is =
     let more : 6 - line ≡ suc (6 - (line + 1)) = omega arith in
-    ap (λ (k : ℕ). lines_from read_at given k line at e text) more
-    ∙ ap (λ (q : Found). go_on line (drop at text) q (λ size says. from (line + 1) (at + size) (given line e says (take size (drop at text))) text)) is
+    ap (λ (q : Found). go_on line (drop at text) q (λ size says. from (line + 1) (at + size) (given line e says (take size (drop at text))) text)) (sym (found-is l reads is))
+    ∙ ap (λ (k : ℕ). lines_from read_at given k line at e text) (sym more)
+    ∙ l.rest
 
 -- a line that was read lies in the text
-line-inside : (line at : ℕ) (e : Entry) (text : List ℕ) (size says : ℕ) → at ≤ length text → read_at line e (drop at text) ≡ Line size says → at + size ≤ length text
-line-inside line at e text size says h is =
-    let t : FoundIn (right_at line e) (drop at text) (Line size says) = rw is at (told line e (drop at text)) in
+line-inside : {text : List ℕ} {e : Entry} {at line size says : ℕ} {found : Found} → Left text e at line → found ≡ read_line e.call line (take (length text - at) (drop at text))
+    → found ≡ Line size says → at + size ≤ length text
+line-inside {text} {e} {at} {line} {size} {says} l reads is =
+    let t : FoundIn (right_at line e) (drop at text) (Line size says) = rw (found-is l reads is) at (told line e (drop at text)) in
     omega (arith, t.0, length-drop at text)
 
 pub returns-in-Stopped : goal.returns-in-Stopped
 unfolding read_entry
 returns-in-Stopped c =
-    let content : (List ℕ) = c.args.text.now in
-    let found-is : (let b = c in
-    read_at b.loop-line.line b.loop-line.entry (drop b.loop-line.at content) ≡ c.read_line.result) = let b = c in
-    let x = drop b.loop-line.at content in
-    let all : take (length content - b.loop-line.at) x ≡ x = take_all (length content - b.loop-line.at) x (omega (arith, length-drop b.loop-line.at content)) in
-    sym (c.read_line.ensures ∙ ap (read_line b.loop-line.entry.call b.loop-line.line) all) in
-    let one_of : (c.loop-line.line ≤ 5) = c.loop-line-test.true in
-    let k = c in
-    let r = k in
-    let b = r in
-    let l = b.loop-line in
-    let column = k.in-Stopped.column in
-    let stopped = sym l.invariant.rest ∙ one_line l.line l.at l.entry content one_of (Stopped column) (found-is ∙ k.in-Stopped.is) in
-    c.refusal.ensures ∙ rw (stopped, length-drop l.at content)
+    let l = c.loop-line in
+    c.refusal.ensures ∙ rw (sym (one_line l.invariant c.loop-line-test.true c.read_line.ensures c.in-Stopped.is), length-drop l.at c.args.text.now)
 
 pub overflow_add-end : goal.overflow_add-end
-overflow_add-end c =
-    let content : (List ℕ) = c.args.text.now in
-    let found-is : (let b = c in
-    read_at b.loop-line.line b.loop-line.entry (drop b.loop-line.at content) ≡ c.read_line.result) = let b = c in
-    let x = drop b.loop-line.at content in
-    let all : take (length content - b.loop-line.at) x ≡ x = take_all (length content - b.loop-line.at) x (omega (arith, length-drop b.loop-line.at content)) in
-    sym (c.read_line.ensures ∙ ap (read_line b.loop-line.entry.call b.loop-line.line) all) in
-    let size : (ℕ) = c.in-Line.size in
-    let says : (ℕ) = c.in-Line.says in
-    let line-is : (let b = c in
-    read_at b.loop-line.line b.loop-line.entry (drop b.loop-line.at content) ≡ Line size says) = found-is ∙ c.in-Line.is in
-    let inside : (let b = c in
-    b.loop-line.at + size ≤ length content) = let b = c in
-    line-inside b.loop-line.line b.loop-line.at b.loop-line.entry content size says b.loop-line.invariant.inside line-is in
-    record { fits = omega (arith, inside, c.well_formed.0.0) }
+overflow_add-end c = record { fits = omega (arith, line-inside c.loop-line.invariant c.read_line.ensures c.in-Line.is, c.well_formed.0.0) }
 
 pub slice_bounds-with_line-end : goal.slice_bounds-with_line-end
-slice_bounds-with_line-end c =
-    let content : (List ℕ) = c.args.text.now in
-    let found-is : (let b = c in
-    read_at b.loop-line.line b.loop-line.entry (drop b.loop-line.at content) ≡ c.read_line.result) = let b = c in
-    let x = drop b.loop-line.at content in
-    let all : take (length content - b.loop-line.at) x ≡ x = take_all (length content - b.loop-line.at) x (omega (arith, length-drop b.loop-line.at content)) in
-    sym (c.read_line.ensures ∙ ap (read_line b.loop-line.entry.call b.loop-line.line) all) in
-    let size : (ℕ) = c.in-Line.size in
-    let says : (ℕ) = c.in-Line.says in
-    let line-is : (let b = c in
-    read_at b.loop-line.line b.loop-line.entry (drop b.loop-line.at content) ≡ Line size says) = found-is ∙ c.in-Line.is in
-    let inside : (let b = c in
-    b.loop-line.at + size ≤ length content) = let b = c in
-    line-inside b.loop-line.line b.loop-line.at b.loop-line.entry content size says b.loop-line.invariant.inside line-is in
-    omega (arith, inside)
+slice_bounds-with_line-end c = line-inside c.loop-line.invariant c.read_line.ensures c.in-Line.is
 
 pub loop-line-preserved : goal.loop-line-preserved
 loop-line-preserved c =
-    let content : (List ℕ) = c.args.text.now in
-    let found-is : (let b = c in
-    read_at b.loop-line.line b.loop-line.entry (drop b.loop-line.at content) ≡ c.read_line.result) = let b = c in
-    let x = drop b.loop-line.at content in
-    let all : take (length content - b.loop-line.at) x ≡ x = take_all (length content - b.loop-line.at) x (omega (arith, length-drop b.loop-line.at content)) in
-    sym (c.read_line.ensures ∙ ap (read_line b.loop-line.entry.call b.loop-line.line) all) in
-    let one_of : (c.loop-line.line ≤ 5) = c.loop-line-test.true in
-    let size : (ℕ) = c.in-Line.size in
-    let says : (ℕ) = c.in-Line.says in
-    let line-is : (let b = c in
-    read_at b.loop-line.line b.loop-line.entry (drop b.loop-line.at content) ≡ Line size says) = found-is ∙ c.in-Line.is in
-    let inside : (let b = c in
-    b.loop-line.at + size ≤ length content) = let b = c in
-    line-inside b.loop-line.line b.loop-line.at b.loop-line.entry content size says b.loop-line.invariant.inside line-is in
-    let k = c in
-    let b = k in
-    let l = b.loop-line in
+    let l = c.loop-line in
+    let text = c.args.text.now in
+    let size = c.in-Line.size in
     let same : l.at + size - l.at ≡ size = omega arith in
-    let next : c.with_line-entry.result ≡ given l.line l.entry says (take size (drop l.at content)) =
-    c.with_line-entry.ensures ∙ ap (λ (n : ℕ). given l.line l.entry says (take n (drop l.at content))) same in
+    let next = c.with_line-entry.ensures ∙ ap (λ (n : ℕ). given l.line l.entry c.in-Line.says (take n (drop l.at text))) same in
     record {
       first = omega arith;
-      most = omega (arith, one_of);
-      inside = inside;
-      rest =
-          ap (λ (e : Entry). from (l.line + 1) (l.at + size) e content) next
-          ∙ sym (one_line l.line l.at l.entry content one_of (Line size says) line-is)
-          ∙ l.invariant.rest;
+      most = omega (arith, c.loop-line-test.true);
+      inside = line-inside l.invariant c.read_line.ensures c.in-Line.is;
+      rest = ap (λ (e : Entry). from (l.line + 1) (l.at + size) e text) next ∙ one_line l.invariant c.loop-line-test.true c.read_line.ensures c.in-Line.is;
     }
 
 pub returns : goal.returns
 unfolding read_entry read_as
 returns c =
-    let content : (List ℕ) = c.args.text.now in
-    let b = c in
-    let l = b.loop-line in
+    let l = c.loop-line in
     let none : 6 - l.line ≡ 0 = omega (arith, c.loop-line-test.false) in
-    let all = sym l.invariant.rest ∙ ap (λ (k : ℕ). lines_from read_at given k l.line l.at l.entry content) none in
-    rw all
+    rw (sym l.invariant.rest ∙ ap (λ (k : ℕ). lines_from read_at given k l.line l.at l.entry c.args.text.now) none)
