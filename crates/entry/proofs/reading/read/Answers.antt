@@ -58,18 +58,18 @@ found-is {text = text} {at = at} l k e is =
     let all = take_all (length text - at) (drop at text) (omega (arith, length-drop at text)) in
     sym (e ∙ (λ j. read_of (k j) (all j))) ∙ is
 
--- a line that was read, and those behind it
-one_line : {set number : ℕ} {text : List ℕ} {r : Record} {at line : ℕ} {f : Found} → Left set number text r at line → line ≤ 7 → read_at set number line r (drop at text) ≡ f
+-- a line, and those behind it
+one_line : {set number : ℕ} {text : List ℕ} {r : Record} {at line : ℕ} {kind : Kind} {found f : Found} → Left set number text r at line → line ≤ 7 → kind ≡ kind_at set number line
+    → found ≡ read_of kind (take (length text - at) (drop at text)) → found ≡ f
     → go_on line (drop at text) f (λ size says. from set number (line + 1) (at + size) (given set number line r says (take size (drop at text))) text) ≡ lines_of set number 7 text
-one_line {set} {number} {text} {r} {at} {line} l h e =
+one_line {set} {number} {text} {r} {at} {line} l h k e is =
     let more : 8 - line ≡ suc (8 - (line + 1)) = omega arith in
-    ap (λ (q : Found). go_on line (drop at text) q (λ size says. from set number (line + 1) (at + size) (given set number line r says (take size (drop at text))) text)) (sym e)
-    ∙ ap (λ (k : ℕ). lines_from (read_at set number) (given set number) k line at r text) (sym more)
+    ap (λ (q : Found). go_on line (drop at text) q (λ size says. from set number (line + 1) (at + size) (given set number line r says (take size (drop at text))) text)) (sym (found-is l k e is))
+    ∙ ap (λ (i : ℕ). lines_from (read_at set number) (given set number) i line at r text) (sym more)
     ∙ l.rest
 
 -- a line that was read has its name, its value and a line feed; the value gives the record behind it
 record LinePassed (set number : ℕ) (text : List ℕ) (r : Record) (at line size says : ℕ) (kind : Kind) : Type 0 where
-  read : read_at set number line r (drop at text) ≡ Line size says
   inside : at + size ≤ length text
   long : kind.name.size + 1 ≤ size
   gives : let name = kind.name.size in
@@ -80,12 +80,10 @@ passed-line : {set number : ℕ} {text : List ℕ} {r : Record} {at line size sa
 unfolding given
 passed-line {set} {number} {text} {r} {at} {line} {size} {says} {kind} l h k e is =
     let x : List ℕ = drop at text in
-    let read = found-is l k e is in
-    let t : FoundIn (right_at set number line r) x (Line size says) = rw read at (told number h set line r x) in
+    let t : FoundIn (right_at set number line r) x (Line size says) = rw (found-is l k e is) at (told number h set line r x) in
     let long : (kind_at set number line).name.size + 1 ≤ size =
     omega (arith, line_size (kind_at set number line) (take size x) says (fit_kind number h set line) t.1, length-take-le size x t.0) in
     record {
-      read = read;
       inside = omega (arith, t.0, length-drop at text);
       long = rw k long;
       gives = rw k (ap (with_line line r) (value_there (kind_at set number line) text at size t.0 long));
@@ -110,7 +108,7 @@ pub returns-in-Stopped : goal.returns-in-Stopped
 unfolding read_entry refused_at
 returns-in-Stopped c =
     let l = c.loop-line in
-    let stopped = sym (one_line l.invariant c.loop-line-test.true (found-is l.invariant c.kind_at-kind.ensures c.read-found.ensures c.in-Stopped.is)) in
+    let stopped = sym (one_line l.invariant c.loop-line-test.true c.kind_at-kind.ensures c.read-found.ensures c.in-Stopped.is) in
     c.refusal-in-Stopped.ensures ∙ rw (sym c.is_set.ensures ∙ c.if-not-is_set.false, stopped, length-drop l.at c.args.text.now)
 
 pub overflow_add-from : goal.overflow_add-from
@@ -151,7 +149,7 @@ loop-line-preserved c =
       few = rw c.with_line-entry.ensures (few-with l.line l.entry _ l.invariant.few);
       rest =
           ap (λ (r : Record). from a.set a.number (l.line + 1) (l.at + c.in-Line.size) r a.text.now) (c.with_line-entry.ensures ∙ sym p.gives)
-          ∙ one_line l.invariant c.loop-line-test.true p.read;
+          ∙ one_line l.invariant c.loop-line-test.true c.kind_at-kind.ensures c.read-found.ensures c.in-Line.is;
     }
 
 pub returns : goal.returns
