@@ -9,6 +9,8 @@ use lib.Seq.{length-take-le}
 use Rattle.digits.specs.declared.hex.Case.TheVariants.{Lower}
 use Rattle.digits.proofs.Spelling.{and_both}
 use Rattle.lines.specs.declared.kinds.Value.TheVariants.{Bytes}
+use Rattle.chip_log.specs.declared.form.Entry.{Entry}
+use Rattle.chip_log.specs.Laws.{InForm}
 use Rattle.chip_log.proofs.Table.{data_bytes}
 use Rattle.record.specs.Form.{held, is_field, allows}
 use Rattle.record.proofs.Fields.{held_field, field_most}
@@ -17,23 +19,18 @@ use Rattle.replay.specs.Feeding.{fed, in_places, as_given}
 use Rattle.replay.specs.Replays.{compared, step_on}
 use Rattle.replay.proofs.window.step_on.Goals as goal
 
-pub slice_bounds-bytes-end : goal.slice_bounds-bytes-end
-slice_bounds-bytes-end c =
-    let input-few : (c.args.entry.input.size ≤ 256) = let e = c.args.entry in
+-- the input of an entry in form lies in its places
+input-inside : (e : Entry) → InForm e → e.input.size ≤ length e.input.bytes
+input-inside e h =
     let d = data_bytes e.call in
-    let allowed : allows (Bytes d.least d.most Lower) 0 e.input ≡ true = rw d.is at c.requires.input in
-    field_most e.input (and_both (is_field e.input) _ allowed).0 in
-    let input-inside : (c.args.entry.input.size ≤ length c.args.entry.input.bytes) = omega (arith, input-few, c.requires.input_bytes.places) in
-    input-inside
+    let allowed : allows (Bytes d.least d.most Lower) 0 e.input ≡ true = rw d.is at h.input in
+    omega (arith, field_most e.input (and_both (is_field e.input) _ allowed).0, h.input_bytes.places)
+
+pub slice_bounds-bytes-end : goal.slice_bounds-bytes-end
+slice_bounds-bytes-end c = input-inside c.args.entry c.requires
 
 pub slice_bounds-feed-end : goal.slice_bounds-feed-end
-slice_bounds-feed-end c =
-    let input-few : (c.args.entry.input.size ≤ 256) = let e = c.args.entry in
-    let d = data_bytes e.call in
-    let allowed : allows (Bytes d.least d.most Lower) 0 e.input ≡ true = rw d.is at c.requires.input in
-    field_most e.input (and_both (is_field e.input) _ allowed).0 in
-    let input-inside : (c.args.entry.input.size ≤ length c.args.entry.input.bytes) = omega (arith, input-few, c.requires.input_bytes.places) in
-    sym (length-take-le c.args.entry.input.size c.args.entry.input.bytes input-inside)
+slice_bounds-feed-end c = let e = c.args.entry in sym (length-take-le e.input.size e.input.bytes (input-inside e c.requires))
 
 pub returns : goal.returns
 unfolding step_on

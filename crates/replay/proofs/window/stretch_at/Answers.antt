@@ -1,5 +1,5 @@
-use mathlib.Core.Path.{◌≡◌, sym, ap, ◌∙◌, subst}
-use mathlib.Core.Bool.{Bool, true, false, cond}
+use mathlib.Core.Path.{◌≡◌, sym, ap, ◌∙◌}
+use mathlib.Core.Bool.{Bool, true, false}
 use mathlib.Core.List.{List, []}
 use Prim.Native.Nat.{ℕ, suc, ◌+◌, ◌-◌, ◌≤◌, ◌<◌}
 use native.Mathlib.Nat.{add-zero}
@@ -9,43 +9,40 @@ use lib.Seq.{drop-drop}
 use Rattle.stream.specs.declared.Stream.{Stream}
 use Rattle.replay.specs.declared.window.Step.{Step}
 use Rattle.replay.specs.declared.window.Stretch.{Stretch}
-use Rattle.replay.specs.Replays.{step_of, is_agreed, stopped, further, stretch_of}
+use Rattle.replay.specs.Replays.{step_of, is_agreed, further, stretch_of}
 use Rattle.replay.proofs.Stretches.{step_inside, stretch_step}
 use Rattle.replay.proofs.window.stretch_at.Invariants.{behind, Left}
 use Rattle.replay.proofs.window.stretch_at.Goals as goal
 
 -- an entry that does not agree stops here
-stops : (text : List ℕ) (place : ℕ) (over : Bool) (s₀ : Stream) (entries at : ℕ) (s : Stream) → Left text place over s₀ entries at s → at < length text
-    → is_agreed (step_of over s (drop at text)).verdict ≡ false
-    → record { entries = entries; taken = at - place; stream = s; verdict = (step_of over s (drop at text)).verdict } ≡ stretch_of over s₀ (drop place text)
-stops text place over s₀ entries at s l h e =
-    let x : List ℕ = drop at text in
-    let here : stretch_of over s x ≡ stopped s (step_of over s x).verdict =
-    stretch_step over s x (omega (arith, length-drop at text))
-    ∙ ap (λ (t : Bool). cond t (further (step_of over s x).taken (stretch_of over (step_of over s x).next (drop (step_of over s x).taken x))) (stopped s (step_of over s x).verdict)) e in
-    (λ j. record { entries = sym (add-zero entries) j; taken = sym (add-zero (at - place)) j; stream = s; verdict = (step_of over s x).verdict })
+stops : {text : List ℕ} {place : ℕ} {over : Bool} {s₀ : Stream} {entries at : ℕ} {s : Stream} {step : Step} → Left text place over s₀ entries at s → at < length text → step ≡ step_of over s (drop at text)
+    → is_agreed step.verdict ≡ false → record { entries = entries; taken = at - place; stream = s; verdict = step.verdict } ≡ stretch_of over s₀ (drop place text)
+stops {text} {place} {over} {entries = entries} {at} {s} {step} l h is e =
+    let here = rw (← is, e) at (stretch_step over s (drop at text) (omega (arith, length-drop at text))) in
+    (λ j. record { entries = sym (add-zero entries) j; taken = sym (add-zero (at - place)) j; stream = s; verdict = step.verdict })
     ∙ ap (behind entries (at - place)) (sym here)
     ∙ l.rest
 
--- one that agrees goes on behind itself
-goes : (text : List ℕ) (place : ℕ) (over : Bool) (s₀ : Stream) (entries at : ℕ) (s : Stream) → Left text place over s₀ entries at s → at < length text
-    → let step = step_of over s (drop at text) in is_agreed step.verdict ≡ true → Left text place over s₀ (entries + 1) (at + step.taken) step.next
-goes text place over s₀ entries at s l h e =
-    let x : List ℕ = drop at text in
-    let taken : ℕ = (step_of over s x).taken in
-    let next : Stream = (step_of over s x).next in
-    let inside = step_inside over s x e in
-    let left : Stretch = stretch_of over next (drop (at + taken) text) in
-    let size : at + taken - place ≡ at - place + taken = omega (arith, l.from) in
+-- one that agrees lies in the log
+lies : {text : List ℕ} {place : ℕ} {over : Bool} {s₀ : Stream} {entries at : ℕ} {s : Stream} {step : Step} → Left text place over s₀ entries at s → at < length text → step ≡ step_of over s (drop at text)
+    → is_agreed step.verdict ≡ true → (1 ≤ step.taken) × (at + step.taken ≤ length text)
+lies {text} {over = over} {at = at} {s} l h is e =
+    let inside = rw (← is) at (step_inside over s (drop at text) (rw is at e)) in
+    (inside.0, omega (arith, inside.1, length-drop at text))
+
+-- and goes on behind itself
+goes : {text : List ℕ} {place : ℕ} {over : Bool} {s₀ : Stream} {entries at : ℕ} {s : Stream} {step : Step} → Left text place over s₀ entries at s → at < length text → step ≡ step_of over s (drop at text)
+    → is_agreed step.verdict ≡ true → Left text place over s₀ (entries + 1) (at + step.taken) step.next
+goes {text} {place} {over} {entries = entries} {at} {s} {step} l h is e =
+    let left : Stretch = stretch_of over step.next (drop (at + step.taken) text) in
     let count : entries + 1 + left.entries ≡ entries + suc left.entries = omega arith in
-    let sum : at + taken - place + left.taken ≡ at - place + (taken + left.taken) = omega (arith, l.from) in
-    let here : stretch_of over s x ≡ further taken left =
-    stretch_step over s x (omega (arith, length-drop at text))
-    ∙ ap (λ (t : Bool). cond t (further taken (stretch_of over next (drop taken x))) (stopped s (step_of over s x).verdict)) e
-    ∙ ap (λ (y : List ℕ). further taken (stretch_of over next y)) (drop-drop taken at text) in
+    let sum : at + step.taken - place + left.taken ≡ at - place + (step.taken + left.taken) = omega (arith, l.from) in
+    let here =
+    rw (← is, e) at (stretch_step over s (drop at text) (omega (arith, length-drop at text)))
+    ∙ ap (λ (y : List ℕ). further step.taken (stretch_of over step.next y)) (drop-drop step.taken at text) in
     record {
       from = omega (arith, l.from);
-      few = omega (arith, l.few, l.from, inside.0);
+      few = omega (arith, l.few, l.from, (lies l h is e).0);
       rest =
           (λ j. record { entries = count j; taken = sum j; stream = left.stream; verdict = left.verdict })
           ∙ ap (behind entries (at - place)) (sym here)
@@ -53,46 +50,18 @@ goes text place over s₀ entries at s l h e =
     }
 
 pub returns-then-not-is_agreed : goal.returns-then-not-is_agreed
-returns-then-not-is_agreed c =
-    let a = c.args in
-    let is = c.step_at-step.ensures in
-    let stop = ap (λ (t : Step). is_agreed t.verdict) (sym is) ∙ sym c.is_agreed.ensures ∙ c.if-not-is_agreed.true in
-    ap (λ (t : Step). record { entries = c.loop-at.entries; taken = c.loop-at.at - a.place; stream = c.loop-at.state; verdict = t.verdict }) is
-    ∙ stops a.bytes.now a.place a.ended a.stream c.loop-at.entries c.loop-at.at c.loop-at.state c.loop-at.invariant c.loop-at-test.true stop
+returns-then-not-is_agreed c = stops c.loop-at.invariant c.loop-at-test.true c.step_at-step.ensures (sym c.is_agreed.ensures ∙ c.if-not-is_agreed.true)
 
 pub overflow_add-at : goal.overflow_add-at
 overflow_add-at c =
-    let agreed : (let a = c.args in
-    is_agreed (step_of a.ended c.loop-at.state (drop c.loop-at.at a.bytes.now)).verdict ≡ true) = ap (λ (t : Step). is_agreed t.verdict) (sym c.step_at-step.ensures) ∙ sym c.is_agreed.ensures ∙ c.if-not-is_agreed.false in
-    let lies : (let taken = c.step_at-step.result.taken in
-    (1 ≤ taken) × (c.loop-at.at + taken ≤ length c.args.bytes.now)) = let a = c.args in
-    let x = drop c.loop-at.at a.bytes.now in
-    let inside = step_inside a.ended c.loop-at.state x agreed in
-    let taken = ap (λ (t : Step). t.taken) c.step_at-step.ensures in
-    let before = c.loop-at-test.true in
-    (omega (arith, taken, inside.0), omega (arith, taken, inside.1, length-drop c.loop-at.at a.bytes.now, before)) in
-    record { fits = omega (arith, lies.1) }
+    record { fits = omega (arith, (lies c.loop-at.invariant c.loop-at-test.true c.step_at-step.ensures (sym c.is_agreed.ensures ∙ c.if-not-is_agreed.false)).1) }
 
 pub loop-at-smaller : goal.loop-at-smaller
 loop-at-smaller c =
-    let agreed : (let a = c.args in
-    is_agreed (step_of a.ended c.loop-at.state (drop c.loop-at.at a.bytes.now)).verdict ≡ true) = ap (λ (t : Step). is_agreed t.verdict) (sym c.step_at-step.ensures) ∙ sym c.is_agreed.ensures ∙ c.if-not-is_agreed.false in
-    let lies : (let taken = c.step_at-step.result.taken in
-    (1 ≤ taken) × (c.loop-at.at + taken ≤ length c.args.bytes.now)) = let a = c.args in
-    let x = drop c.loop-at.at a.bytes.now in
-    let inside = step_inside a.ended c.loop-at.state x agreed in
-    let taken = ap (λ (t : Step). t.taken) c.step_at-step.ensures in
-    let before = c.loop-at-test.true in
-    (omega (arith, taken, inside.0), omega (arith, taken, inside.1, length-drop c.loop-at.at a.bytes.now, before)) in
-    omega (arith, lies.0, lies.1)
+    let h = lies c.loop-at.invariant c.loop-at-test.true c.step_at-step.ensures (sym c.is_agreed.ensures ∙ c.if-not-is_agreed.false) in omega (arith, h.0, h.1)
 
 pub loop-at-preserved : goal.loop-at-preserved
-loop-at-preserved c =
-    let agreed : (let a = c.args in
-    is_agreed (step_of a.ended c.loop-at.state (drop c.loop-at.at a.bytes.now)).verdict ≡ true) = ap (λ (t : Step). is_agreed t.verdict) (sym c.step_at-step.ensures) ∙ sym c.is_agreed.ensures ∙ c.if-not-is_agreed.false in
-    let a = c.args in
-    subst (λ (t : Step). Left a.bytes.now a.place a.ended a.stream (c.loop-at.entries + 1) (c.loop-at.at + t.taken) t.next) (sym c.step_at-step.ensures)
-    (goes a.bytes.now a.place a.ended a.stream c.loop-at.entries c.loop-at.at c.loop-at.state c.loop-at.invariant c.loop-at-test.true agreed)
+loop-at-preserved c = goes c.loop-at.invariant c.loop-at-test.true c.step_at-step.ensures (sym c.is_agreed.ensures ∙ c.if-not-is_agreed.false)
 
 pub returns : goal.returns
 unfolding stretch_of
