@@ -1,21 +1,42 @@
 use mathlib.Core.Path.{◌≡◌, refl, sym, ◌∙◌}
-use mathlib.Core.List.{[], ◌++◌}
-use Prim.Native.Nat.{◌+◌}
+use mathlib.Core.Bool.{true}
+use mathlib.Core.List.{List, [], ◌++◌}
+use Prim.Native.Nat.{ℕ, ◌+◌, ◌-◌, ◌≤◌, ◌<◌}
 use native.Mathlib.Omega.{arith}
-use lib.ListN.{length, length-append}
+use lib.ListN.{length, take, drop, length-append}
+use Rattle.answers.specs.Numbers.{is_done}
 use Rattle.digits.proofs.Room.{put_inside, put_count}
-use Rattle.moving.specs.Moves.{moved_all}
-use Rattle.moving.specs.Laws.{Counts}
+use Rattle.entry.specs.Form.{largest_number}
+use Rattle.moving.specs.declared.route.Route.{Route}
+use Rattle.moving.specs.declared.one.Moving.{Moving}
+use Rattle.moving.specs.Moves.{moved_all, move_leaves, move_call}
 use Rattle.moving.proofs.Routes.{wide}
 use Rattle.moving.proofs.Steps.{left_all}
-use Rattle.moving.proofs.Turns.{Turned, turn_done, turn_refused}
+use Rattle.moving.proofs.Turns.{turn_done, turn_refused}
+use Rattle.moving.proofs.all.measure.Invariants.{Measured}
 use Rattle.moving.proofs.all.measure.Goals as goal
+
+-- one more record is measured, which took at least one byte of the text
+one_more : {route : Route} {text scratch : List ℕ} {at records size : ℕ} (after : List ℕ) (moving : Moving) → Measured route text scratch at records size
+    → length text ≤ largest_number → at < length text → is_done moving.answer ≡ true
+    → move_leaves moving after ≡ move_call route (records + 1) (take (length text - at) (drop at text)) scratch
+    → (1 ≤ moving.taken) × Measured route text after (at + moving.taken) (records + 1) (size + moving.written)
+one_more {route} {text} {scratch} {at} {records} after moving p bound inside done call =
+    let t = turn_done route text (wide route _ bound) p.known at records p.before scratch _ _ p.left inside call done in
+    let size = (put_count _ _ _ _ t.placed t.room).0 in (
+      t.some,
+      record {
+        before = p.before ++ t.next;
+        places = (put_inside _ _ _ _ t.placed).1 ∙ p.places;
+        sum = omega (arith, length-append p.before t.next, p.sum, size);
+        known = p.known;
+        left = t.left_over;
+      },
+    )
 
 pub returns-then-not-is_known : goal.returns-then-not-is_known
 unfolding moved_all
-returns-then-not-is_known c =
-    let i = c in
-    c.refusal.ensures ∙ rw (sym i.is_known.ensures ∙ c.if-not-is_known.true)
+returns-then-not-is_known c = c.refusal.ensures ∙ rw (sym c.is_known.ensures ∙ c.if-not-is_known.true)
 
 pub loop-at-init : goal.loop-at-init
 loop-at-init c =
@@ -31,90 +52,37 @@ loop-at-init c =
 
 pub returns-then-not-is_done : goal.returns-then-not-is_done
 returns-then-not-is_done c =
-    let counts : (let a = c.args in Counts a.route (length a.text.now)) = wide c.args.route _ (omega (arith, c.well_formed.1.0.0)) in
-    let m = c in
-    let t = m in
-    let b = t in
-    let l = b.loop-at in
-    let a = b.args in
+    let a = c.args in
+    let l = c.loop-at in
+    let i = l.invariant in
+    let counts = wide a.route (length a.text.now) (omega (arith, c.well_formed.1.0.0)) in
     c.refusal-then-not-is_done.ensures
-    ∙ turn_refused a.route a.text.now counts l.invariant.known l.at l.records l.invariant.before l.scratch _ _ l.invariant.left t.loop-at-test.true m.move_record-moving.ensures
-    (omega (arith, l.invariant.places)) (sym c.is_done.ensures ∙ c.if-not-is_done.true)
+    ∙ turn_refused a.route a.text.now counts i.known l.at l.records i.before l.scratch _ _ i.left c.loop-at-test.true c.move_record-moving.ensures
+    (omega (arith, i.places)) (sym c.is_done.ensures ∙ c.if-not-is_done.true)
 
 pub overflow_add-at : goal.overflow_add-at
 overflow_add-at c =
-    let counts : (let a = c.args in Counts a.route (length a.text.now)) = wide c.args.route _ (omega (arith, c.well_formed.1.0.0)) in
-    let moved : (let m = c in
-    let a = c.args in
-    let l = c.loop-at in
-    Turned a.route a.text.now l.at l.records l.invariant.before l.scratch m.move_record-moving.new.out m.move_record-moving.result) = let m = c in
-    let t = m in
-    let l = c.loop-at in
-    let a = c.args in
-    turn_done a.route a.text.now counts l.invariant.known l.at l.records l.invariant.before l.scratch _ _ l.invariant.left t.loop-at-test.true m.move_record-moving.ensures
-    (sym c.is_done.ensures ∙ c.if-not-is_done.false) in
-    let e = c in
-    record { fits = omega (arith, moved.left_over.inside, e.well_formed.1.0.0) }
+    let m = c.move_record-moving in
+    let done = sym c.is_done.ensures ∙ c.if-not-is_done.false in
+    let one = one_more m.new.out m.result c.loop-at.invariant (omega (arith, c.well_formed.1.0.0)) c.loop-at-test.true done m.ensures in
+    record { fits = omega (arith, one.1.left.inside, c.well_formed.1.0.0) }
 
 pub overflow_add-size : goal.overflow_add-size
 overflow_add-size c =
-    let counts : (let a = c.args in Counts a.route (length a.text.now)) = wide c.args.route _ (omega (arith, c.well_formed.1.0.0)) in
-    let moved : (let m = c in
-    let a = c.args in
-    let l = c.loop-at in
-    Turned a.route a.text.now l.at l.records l.invariant.before l.scratch m.move_record-moving.new.out m.move_record-moving.result) = let m = c in
-    let t = m in
-    let l = c.loop-at in
-    let a = c.args in
-    turn_done a.route a.text.now counts l.invariant.known l.at l.records l.invariant.before l.scratch _ _ l.invariant.left t.loop-at-test.true m.move_record-moving.ensures
-    (sym c.is_done.ensures ∙ c.if-not-is_done.false) in
-    let grown : (let m = c in
-    let l = c.loop-at in
-    l.size + m.move_record-moving.result.written ≡ length (l.invariant.before ++ moved.next)) = let t = moved in
-    let l = c.loop-at in
-    omega (arith, length-append l.invariant.before t.next, l.invariant.sum, (put_count _ _ _ _ t.placed t.room).0) in
-    let e = c in
-    record { fits = omega (arith, grown, moved.left_over.double, moved.left_over.inside, e.well_formed.1.0.1) }
+    let m = c.move_record-moving in
+    let done = sym c.is_done.ensures ∙ c.if-not-is_done.false in
+    let one = one_more m.new.out m.result c.loop-at.invariant (omega (arith, c.well_formed.1.0.0)) c.loop-at-test.true done m.ensures in
+    record { fits = omega (arith, one.1.sum, one.1.left.double, one.1.left.inside, c.well_formed.1.0.1) }
 
 pub loop-at-smaller : goal.loop-at-smaller
 loop-at-smaller c =
-    let counts : (let a = c.args in Counts a.route (length a.text.now)) = wide c.args.route _ (omega (arith, c.well_formed.1.0.0)) in
-    let moved : (let m = c in
-    let a = c.args in
-    let l = c.loop-at in
-    Turned a.route a.text.now l.at l.records l.invariant.before l.scratch m.move_record-moving.new.out m.move_record-moving.result) = let m = c in
-    let t = m in
-    let l = c.loop-at in
-    let a = c.args in
-    turn_done a.route a.text.now counts l.invariant.known l.at l.records l.invariant.before l.scratch _ _ l.invariant.left t.loop-at-test.true m.move_record-moving.ensures
-    (sym c.is_done.ensures ∙ c.if-not-is_done.false) in
-    let e = c in
-    omega (arith, moved.some, e.loop-at-test.true)
+    let m = c.move_record-moving in
+    let done = sym c.is_done.ensures ∙ c.if-not-is_done.false in
+    let one = one_more m.new.out m.result c.loop-at.invariant (omega (arith, c.well_formed.1.0.0)) c.loop-at-test.true done m.ensures in
+    omega (arith, one.0, c.loop-at-test.true)
 
 pub loop-at-preserved : goal.loop-at-preserved
 loop-at-preserved c =
-    let counts : (let a = c.args in Counts a.route (length a.text.now)) = wide c.args.route _ (omega (arith, c.well_formed.1.0.0)) in
-    let moved : (let m = c in
-    let a = c.args in
-    let l = c.loop-at in
-    Turned a.route a.text.now l.at l.records l.invariant.before l.scratch m.move_record-moving.new.out m.move_record-moving.result) = let m = c in
-    let t = m in
-    let l = c.loop-at in
-    let a = c.args in
-    turn_done a.route a.text.now counts l.invariant.known l.at l.records l.invariant.before l.scratch _ _ l.invariant.left t.loop-at-test.true m.move_record-moving.ensures
-    (sym c.is_done.ensures ∙ c.if-not-is_done.false) in
-    let grown : (let m = c in
-    let l = c.loop-at in
-    l.size + m.move_record-moving.result.written ≡ length (l.invariant.before ++ moved.next)) = let t = moved in
-    let l = c.loop-at in
-    omega (arith, length-append l.invariant.before t.next, l.invariant.sum, (put_count _ _ _ _ t.placed t.room).0) in
-    let e = c in
-    let l = e.loop-at in
-    let t = moved in
-    record {
-      before = l.invariant.before ++ t.next;
-      places = (put_inside _ _ _ _ t.placed).1 ∙ l.invariant.places;
-      sum = grown;
-      known = l.invariant.known;
-      left = t.left_over;
-    }
+    let m = c.move_record-moving in
+    let done = sym c.is_done.ensures ∙ c.if-not-is_done.false in
+    (one_more m.new.out m.result c.loop-at.invariant (omega (arith, c.well_formed.1.0.0)) c.loop-at-test.true done m.ensures).1
