@@ -45,32 +45,23 @@ made-first reading number out = go (leb (length text) (length out)) (is_done rea
     go true false e = rw (e, take-length)
     go false done e = refl
 
+-- so is the step of a report on the verdict
+by-report : (reading : Reading) (number : ℕ) (out : List ℕ) (verdict : Verdict) (leaves : ReportLeaves) → verdict ≡ verdict_read reading → leaves ≡ report_call number verdict out
+    → step_by reading number out (report_choices reading number (length out)) ≡ made reading leaves
+by-report reading number out verdict leaves v l = made-first reading number out ∙ ap (made reading) (sym (l ∙ ap (λ (v : Verdict). report_call number v out) v))
+
 pub returns-then-not-is_done : goal.returns-then-not-is_done
 returns-then-not-is_done c =
-    let by-report : (let a = c.args in
-    step_by a.reading a.number a.out.now (report_choices a.reading a.number (length a.out.now))
-    ≡ made a.reading (report_leaves c.report-done.result c.report-done.new.out)) = let a = c.args in
-    made-first a.reading a.number a.out.now
-    ∙ ap (made a.reading) (sym (c.report-done.ensures ∙ ap (λ (v : Verdict). report_call a.number v a.out.now) c.verdict_on-verdict.ensures)) in
-    sym (by-report ∙ rw (sym c.is_done.ensures ∙ c.if-not-is_done.true))
+    sym (by-report _ _ _ _ _ c.verdict_on-verdict.ensures c.report-done.ensures ∙ rw (sym c.is_done.ensures ∙ c.if-not-is_done.true))
 
 pub returns-then-is_done : goal.returns-then-is_done
 returns-then-is_done c =
-    let by-report : (let a = c.args in
-    step_by a.reading a.number a.out.now (report_choices a.reading a.number (length a.out.now))
-    ≡ made a.reading (report_leaves c.report-done.result c.report-done.new.out)) = let a = c.args in
-    made-first a.reading a.number a.out.now
-    ∙ ap (made a.reading) (sym (c.report-done.ensures ∙ ap (λ (v : Verdict). report_call a.number v a.out.now) c.verdict_on-verdict.ensures)) in
-    let written : (is_done c.report-done.result.answer ≡ true) = sym c.is_done.ensures ∙ c.if-not-is_done.false in
-    let report = c in
-    sym (by-report ∙ rw (written, sym c.is_done-2.ensures ∙ c.if-is_done.true, sym report.verdict_on-verdict.ensures))
+    sym
+    (by-report _ _ _ _ _ c.verdict_on-verdict.ensures c.report-done.ensures
+    ∙ rw (sym c.is_done.ensures ∙ c.if-not-is_done.false, sym c.is_done-2.ensures ∙ c.if-is_done.true, sym c.verdict_on-verdict.ensures))
 
 pub returns : goal.returns
 returns c =
-    let by-report : (let a = c.args in
-    step_by a.reading a.number a.out.now (report_choices a.reading a.number (length a.out.now))
-    ≡ made a.reading (report_leaves c.report-done.result c.report-done.new.out)) = let a = c.args in
-    made-first a.reading a.number a.out.now
-    ∙ ap (made a.reading) (sym (c.report-done.ensures ∙ ap (λ (v : Verdict). report_call a.number v a.out.now) c.verdict_on-verdict.ensures)) in
-    let written : (is_done c.report-done.result.answer ≡ true) = sym c.is_done.ensures ∙ c.if-not-is_done.false in
-    sym (by-report ∙ rw (written, sym c.is_done-2.ensures ∙ c.if-is_done.false))
+    sym
+    (by-report _ _ _ _ _ c.verdict_on-verdict.ensures c.report-done.ensures
+    ∙ rw (sym c.is_done.ensures ∙ c.if-not-is_done.false, sym c.is_done-2.ensures ∙ c.if-is_done.false))

@@ -1,14 +1,13 @@
 -- `judge::verdict::judge` meets its contract.
 use mathlib.Core.Path.{◌≡◌, sym, ap, ◌∙◌}
-use mathlib.Core.Bool.{true, false}
-use mathlib.Core.List.{List}
-use Prim.Native.Nat.{ℕ}
-use lib.Dec.{eqb}
+use mathlib.Core.List.{[], ◌∷◌}
 use borrow.Author.Tests.{eq-eqb, ne_eqb}
 use Rattle.record.specs.declared.form.Form.TheVariants.{One}
 use Rattle.record.specs.declared.form.Record.{Record}
 use Rattle.record.specs.Form.{held, broken}
 use Rattle.record.proofs.Fields.{held_field}
+use Rattle.answers.specs.Order.{◌when◌, first}
+use Rattle.report.specs.declared.Verdict.TheVariants.{Equal, Cipher, Tag}
 use Rattle.judge.specs.declared.verdict.Ours.{Ours}
 use Rattle.judge.specs.Difference.{differ}
 use Rattle.judge.specs.Verdicts.{our_sealing, our_rounds, verdict_on, ours_by, ours_of}
@@ -28,6 +27,14 @@ parts-of r ours e = record {
   same_tag = ap (λ (o : Ours). held o.tag) e ∙ held_field (our_sealing r).tag;
 }
 
+-- a record in form with our rounds is judged by its cipher and its tag
+by-fields : (r : Record) (ours : Ours) → broken One r ≡ 0 → ours ≡ ours_of r → r.rounds ≡ ours.rounds
+    → verdict_on r ≡ first Equal (Cipher when differ (held ours.cipher) (held r.cipher) ∷ Tag when differ (held ours.tag) (held r.tag) ∷ [])
+unfolding verdict_on
+by-fields r ours sound e same =
+    let p = parts-of r ours e in
+    rw (sound, eq-eqb _ _ (same ∙ p.same-rounds), p.same-cipher, p.same_tag)
+
 pub returns-then-bad-ne0 : goal.returns-then-bad-ne0
 unfolding verdict_on
 returns-then-bad-ne0 c =
@@ -38,50 +45,29 @@ returns-then-bad-ne0 c =
 pub returns-then-entry-ours : goal.returns-then-entry-ours
 unfolding verdict_on
 returns-then-entry-ours c =
-    let sound : (broken One c.args.entry ≡ 0) = sym c.first_broken-bad.ensures ∙ c.if-bad-ne0.false in
-    let found : (Record) = c.args.entry in
-    let ours : (Parts found c.seal_record-ours.result) = parts-of _ _ c.seal_record-ours.ensures in
-    let o = c in
-    rw (sound, ne_eqb found.rounds (our_rounds found) (λ e. c.if-entry-ours.true (e ∙ sym ours.same-rounds)))
+    let r = c.args.entry in
+    let ours = parts-of _ _ c.seal_record-ours.ensures in
+    rw (sym c.first_broken-bad.ensures ∙ c.if-bad-ne0.false, ne_eqb r.rounds (our_rounds r) (λ e. c.if-entry-ours.true (e ∙ sym ours.same-rounds)))
 
 pub returns-then-fields_differ : goal.returns-then-fields_differ
-unfolding verdict_on
 returns-then-fields_differ c =
-    let sound : (broken One c.args.entry ≡ 0) = sym c.first_broken-bad.ensures ∙ c.if-bad-ne0.false in
-    let found : (Record) = c.args.entry in
-    let ours : (Parts found c.seal_record-ours.result) = parts-of _ _ c.seal_record-ours.ensures in
-    let rounds-same : (let r = found in eqb r.rounds (our_rounds r) ≡ true) = eq-eqb _ _ (c.if-entry-ours.false ∙ ours.same-rounds) in
-    let cipher-is : (let r = found in differ (our_sealing r).cipher (held r.cipher) ≡ c.fields_differ.result) = let o = c in
-    sym (c.fields_differ.ensures ∙ ap (λ (x : List ℕ). differ x (held found.cipher)) ours.same-cipher) in
-    let equal = c in
-    rw (sound, rounds-same, cipher-is ∙ c.if-fields_differ.true)
+    rw (
+      by-fields _ _ (sym c.first_broken-bad.ensures ∙ c.if-bad-ne0.false) c.seal_record-ours.ensures c.if-entry-ours.false,
+      sym c.fields_differ.ensures ∙ c.if-fields_differ.true,
+    )
 
 pub returns-then-fields_differ-2 : goal.returns-then-fields_differ-2
-unfolding verdict_on
 returns-then-fields_differ-2 c =
-    let sound : (broken One c.args.entry ≡ 0) = sym c.first_broken-bad.ensures ∙ c.if-bad-ne0.false in
-    let found : (Record) = c.args.entry in
-    let ours : (Parts found c.seal_record-ours.result) = parts-of _ _ c.seal_record-ours.ensures in
-    let rounds-same : (let r = found in eqb r.rounds (our_rounds r) ≡ true) = eq-eqb _ _ (c.if-entry-ours.false ∙ ours.same-rounds) in
-    let cipher-is : (let r = found in differ (our_sealing r).cipher (held r.cipher) ≡ c.fields_differ.result) = let o = c in
-    sym (c.fields_differ.ensures ∙ ap (λ (x : List ℕ). differ x (held found.cipher)) ours.same-cipher) in
-    let tag_is : (let r = found in differ (our_sealing r).tag (held r.tag) ≡ c.fields_differ-2.result) = let o = c in
-    sym (c.fields_differ-2.ensures ∙ ap (λ (x : List ℕ). differ x (held found.tag)) ours.same_tag) in
-    let cipher-same : (let r = found in differ (our_sealing r).cipher (held r.cipher) ≡ false) = cipher-is ∙ c.if-fields_differ.false in
-    let equal = c in
-    rw (sound, rounds-same, cipher-same, tag_is ∙ c.if-fields_differ-2.true)
+    rw (
+      by-fields _ _ (sym c.first_broken-bad.ensures ∙ c.if-bad-ne0.false) c.seal_record-ours.ensures c.if-entry-ours.false,
+      sym c.fields_differ.ensures ∙ c.if-fields_differ.false,
+      sym c.fields_differ-2.ensures ∙ c.if-fields_differ-2.true,
+    )
 
 pub returns : goal.returns
-unfolding verdict_on
 returns c =
-    let sound : (broken One c.args.entry ≡ 0) = sym c.first_broken-bad.ensures ∙ c.if-bad-ne0.false in
-    let found : (Record) = c.args.entry in
-    let ours : (Parts found c.seal_record-ours.result) = parts-of _ _ c.seal_record-ours.ensures in
-    let rounds-same : (let r = found in eqb r.rounds (our_rounds r) ≡ true) = eq-eqb _ _ (c.if-entry-ours.false ∙ ours.same-rounds) in
-    let cipher-is : (let r = found in differ (our_sealing r).cipher (held r.cipher) ≡ c.fields_differ.result) = let o = c in
-    sym (c.fields_differ.ensures ∙ ap (λ (x : List ℕ). differ x (held found.cipher)) ours.same-cipher) in
-    let tag_is : (let r = found in differ (our_sealing r).tag (held r.tag) ≡ c.fields_differ-2.result) = let o = c in
-    sym (c.fields_differ-2.ensures ∙ ap (λ (x : List ℕ). differ x (held found.tag)) ours.same_tag) in
-    let cipher-same : (let r = found in differ (our_sealing r).cipher (held r.cipher) ≡ false) = cipher-is ∙ c.if-fields_differ.false in
-    let equal = c in
-    rw (sound, rounds-same, cipher-same, tag_is ∙ c.if-fields_differ-2.false)
+    rw (
+      by-fields _ _ (sym c.first_broken-bad.ensures ∙ c.if-bad-ne0.false) c.seal_record-ours.ensures c.if-entry-ours.false,
+      sym c.fields_differ.ensures ∙ c.if-fields_differ.false,
+      sym c.fields_differ-2.ensures ∙ c.if-fields_differ-2.false,
+    )

@@ -14,25 +14,9 @@ use Rattle.sets.proofs.Rows.{row_sizes}
 use Rattle.message.specs.declared.Outcome.{Outcome}
 use Rattle.message.specs.Message.{SealLeaves, seal_leaves, seal_call}
 use Rattle.message.proofs.Promise.{length_cipher, length_sealed_tag, seal_done}
-use Rattle.record.specs.declared.field.Field.{Field}
 use Rattle.record.specs.Form.{field_of, held}
 use Rattle.judge.specs.Verdicts.{ours_by}
 use Rattle.judge.proofs.verdict.seal_fields.Goals as goal
-
--- the fields hold as many bytes as they say
-record Sized (key nonce ad text : Field) : Type 0 where
-  key-inside : key.size ≤ length key.bytes
-  nonce-inside : nonce.size ≤ length nonce.bytes
-  ad-inside : ad.size ≤ length ad.bytes
-  text-inside : text.size ≤ length text.bytes
-  key-short : key.size ≤ 16
-
--- so they do, where key and nonce are as long as the set's key, and data and text have at most 256 bytes
-sized : (set : ℕ) (key nonce ad text : Field) → length key.bytes ≡ 256 → length nonce.bytes ≡ 256 → length ad.bytes ≡ 256 → length text.bytes ≡ 256
-    → key.size ≡ (row_of set).key → nonce.size ≡ (row_of set).key → ad.size ≤ 256 → text.size ≤ 256 → Sized key nonce ad text
-sized set key nonce ad text k n d t keyed nonced most-ad most-text =
-    let short = (row_sizes set).key in
-    record { key-inside = omega arith; nonce-inside = omega arith; ad-inside = omega arith; text-inside = omega arith; key-short = omega arith }
 
 -- what the promise gives is our sealing in two fields
 ours-are : (set : ℕ) (K N A P out tag : List ℕ) (o : Outcome) (key text : ℕ) → is_set set ≡ true → length K ≡ key → length N ≡ key → key ≡ (row_of set).key
@@ -63,68 +47,36 @@ ours-are set K N A P out tag o key text known k n e t a m promised =
     }
 
 pub slice_bounds-k-end : goal.slice_bounds-k-end
-slice_bounds-k-end c =
-    let a = c.args in
-    let wf = c.well_formed.1 in
-    let z = sized a.set a.key a.nonce a.ad a.text wf.0.1.1.0.1.0.1 wf.1.0.1.1.0.1.0.1 wf.1.1.0.1.1.0.1.0.1 wf.1.1.1.0.1.1.0.1.0.1
-    c.requires.size_value c.requires.size_value_2 c.requires.size_bound c.requires.size_bound_2 in
-    z.key-inside
+slice_bounds-k-end c = omega (arith, (row_sizes c.args.set).key, c.well_formed.1.0.1.1.0.1.0.1, c.requires.size_value)
 
 pub slice_bounds-seal-end : goal.slice_bounds-seal-end
-slice_bounds-seal-end c =
-    let a = c.args in
-    let wf = c.well_formed.1 in
-    let z = sized a.set a.key a.nonce a.ad a.text wf.0.1.1.0.1.0.1 wf.1.0.1.1.0.1.0.1 wf.1.1.0.1.1.0.1.0.1 wf.1.1.1.0.1.1.0.1.0.1
-    c.requires.size_value c.requires.size_value_2 c.requires.size_bound c.requires.size_bound_2 in
-    let s = c in sym (length-take-le s.args.key.size s.args.key.bytes z.key-inside)
+slice_bounds-seal-end c = sym (length-take-le _ _ (omega (arith, (row_sizes c.args.set).key, c.well_formed.1.0.1.1.0.1.0.1, c.requires.size_value)))
 
 pub slice_bounds-n-end : goal.slice_bounds-n-end
-slice_bounds-n-end c =
-    let a = c.args in
-    let wf = c.well_formed.1 in
-    let z = sized a.set a.key a.nonce a.ad a.text wf.0.1.1.0.1.0.1 wf.1.0.1.1.0.1.0.1 wf.1.1.0.1.1.0.1.0.1 wf.1.1.1.0.1.1.0.1.0.1
-    c.requires.size_value c.requires.size_value_2 c.requires.size_bound c.requires.size_bound_2 in
-    z.nonce-inside
+slice_bounds-n-end c = omega (arith, (row_sizes c.args.set).key, c.well_formed.1.1.0.1.1.0.1.0.1, c.requires.size_value_2)
 
 pub slice_bounds-seal-end-2 : goal.slice_bounds-seal-end-2
-slice_bounds-seal-end-2 c =
-    let a = c.args in
-    let wf = c.well_formed.1 in
-    let z = sized a.set a.key a.nonce a.ad a.text wf.0.1.1.0.1.0.1 wf.1.0.1.1.0.1.0.1 wf.1.1.0.1.1.0.1.0.1 wf.1.1.1.0.1.1.0.1.0.1
-    c.requires.size_value c.requires.size_value_2 c.requires.size_bound c.requires.size_bound_2 in
-    let s = c in sym (length-take-le s.args.nonce.size s.args.nonce.bytes z.nonce-inside)
+slice_bounds-seal-end-2 c = sym (length-take-le _ _ (omega (arith, (row_sizes c.args.set).key, c.well_formed.1.1.0.1.1.0.1.0.1, c.requires.size_value_2)))
 
 pub slice_bounds-tag-end : goal.slice_bounds-tag-end
-slice_bounds-tag-end c =
-    let a = c.args in
-    let wf = c.well_formed.1 in
-    let z = sized a.set a.key a.nonce a.ad a.text wf.0.1.1.0.1.0.1 wf.1.0.1.1.0.1.0.1 wf.1.1.0.1.1.0.1.0.1 wf.1.1.1.0.1.1.0.1.0.1
-    c.requires.size_value c.requires.size_value_2 c.requires.size_bound c.requires.size_bound_2 in
-    omega (arith, z.key-short)
+slice_bounds-tag-end c = omega (arith, (row_sizes c.args.set).key, c.requires.size_value)
 
 pub slice_bounds-seal-end-6 : goal.slice_bounds-seal-end-6
-slice_bounds-seal-end-6 c =
-    let a = c.args in
-    let wf = c.well_formed.1 in
-    let z = sized a.set a.key a.nonce a.ad a.text wf.0.1.1.0.1.0.1 wf.1.0.1.1.0.1.0.1 wf.1.1.0.1.1.0.1.0.1 wf.1.1.1.0.1.1.0.1.0.1
-    c.requires.size_value c.requires.size_value_2 c.requires.size_bound c.requires.size_bound_2 in
-    let s = c in sym (length-take-le s.args.key.size (zeros 256) (omega (arith, z.key-short)))
+slice_bounds-seal-end-6 c = sym (length-take-le _ _ (omega (arith, (row_sizes c.args.set).key, c.requires.size_value)))
 
 pub returns : goal.returns
 returns c =
     let a = c.args in
-    let wf = c.well_formed.1 in
-    let z = sized a.set a.key a.nonce a.ad a.text wf.0.1.1.0.1.0.1 wf.1.0.1.1.0.1.0.1 wf.1.1.0.1.1.0.1.0.1 wf.1.1.1.0.1.1.0.1.0.1
-    c.requires.size_value c.requires.size_value_2 c.requires.size_bound c.requires.size_bound_2 in
-    let sealed = c in
-    let s = sealed in
-    let seal = sealed.seal-outcome in
-    let sized-ad = length-take-le a.ad.size a.ad.bytes z.ad-inside in
-    ours-are a.set (held a.key) (held a.nonce) (held a.ad) (held a.text) _ _ seal.result a.key.size a.text.size s.requires.set_value
-    (length-take-le a.key.size a.key.bytes z.key-inside)
-    (length-take-le a.nonce.size a.nonce.bytes z.nonce-inside ∙ s.requires.size_value_2 ∙ sym s.requires.size_value)
-    s.requires.size_value
-    (length-take-le a.text.size a.text.bytes z.text-inside)
-    (omega (arith, sized-ad, s.requires.size_bound))
-    s.requires.size_bound_2
+    let seal = c.seal-outcome in
+    let short = (row_sizes a.set).key in
+    let most = c.well_formed.1 in
+    let pre = c.requires in
+    let sized-ad = length-take-le a.ad.size a.ad.bytes (omega (arith, most.1.1.0.1.1.0.1.0.1)) in
+    ours-are a.set (held a.key) (held a.nonce) (held a.ad) (held a.text) _ _ seal.result a.key.size a.text.size pre.set_value
+    (length-take-le a.key.size a.key.bytes (omega (arith, most.0.1.1.0.1.0.1)))
+    (length-take-le a.nonce.size a.nonce.bytes (omega (arith, most.1.0.1.1.0.1.0.1)) ∙ pre.size_value_2 ∙ sym pre.size_value)
+    pre.size_value
+    (length-take-le a.text.size a.text.bytes (omega (arith, most.1.1.1.0.1.1.0.1.0.1)))
+    (omega (arith, sized-ad, pre.size_bound))
+    pre.size_bound_2
     seal.ensures
