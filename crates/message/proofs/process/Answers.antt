@@ -16,13 +16,8 @@ use Rattle.message.proofs.process.Goals as goal
 
 pub returns : goal.returns
 returns c =
-    let text-place = c in
-    let ad-place = text-place in
-    let start-place = ad-place in
-    let key-place = start-place in
-    let s = key-place in
-    let a = s.args in
-    let pre = s.requires in
+    let a = c.args in
+    let pre = c.requires in
     let row = row_of a.set in
     let fits = row_fits a.set in
     let K = a.key.now in
@@ -31,23 +26,23 @@ returns c =
     let X = a.text.now in
     let key : length K ≡ row.key = pre.key_len in
     let nonce : length N ≡ row.key = pre.nonce_len in
-    let kb : Bytes K = record { at = λ i. omega (arith, s.shared_slice_known-1.given i) } in
-    let ab : Bytes A = record { at = λ i. omega (arith, s.shared_slice_known-3-1.given i) } in
-    let xb : Bytes X = record { at = λ i. omega (arith, s.shared_slice_known-4-1.given i) } in
-    let k : key-place.sixteen-key16.result ≡ K ++ zeros (16 - length K) =
-    key-place.sixteen-key16.ensures ∙ sixteen_is K (omega (arith, key, (row_sizes a.set).key)) in
-    let n : start-place.sixteen.result ≡ N ++ zeros (16 - length N) =
-    start-place.sixteen.ensures ∙ sixteen_is N (omega (arith, nonce, (row_sizes a.set).key)) in
-    let first : start-place.start-started.result ≡ words_of_string (initialise row K N) =
-    start-place.start-started.ensures ∙ ap₂ (λ (x y : List ℕ). started row x y) k n
+    let kb : Bytes K = record { at = λ i. omega (arith, c.type_inv.key i) } in
+    let ab : Bytes A = record { at = λ i. omega (arith, c.type_inv.ad i) } in
+    let xb : Bytes X = record { at = λ i. omega (arith, c.type_inv.text i) } in
+    let k : c.sixteen-key16.result ≡ K ++ zeros (16 - length K) =
+    c.sixteen-key16.ensures ∙ sixteen_is K (omega (arith, key, (row_sizes a.set).key)) in
+    let n : c.sixteen.result ≡ N ++ zeros (16 - length N) =
+    c.sixteen.ensures ∙ sixteen_is N (omega (arith, nonce, (row_sizes a.set).key)) in
+    let first : c.start-started.result ≡ words_of_string (initialise row K N) =
+    c.start-started.ensures ∙ ap₂ (λ (x y : List ℕ). started row x y) k n
     ∙ started_is row fits K N key nonce kb in
-    let before : ad-place.close_ad-before.result ≡ words_of_string (before_text row K N A) =
-    ad-place.close_ad-before.ensures
+    let before : c.close_ad-before.result ≡ words_of_string (before_text row K N A) =
+    c.close_ad-before.ensures
     ∙ ap (λ (w : List ℕ). ad_closed row w (length A))
-    (ad-place.absorb-absorbed.ensures ∙ ap (λ (w : List ℕ). absorbed row Seal w 0 A) first)
+    (c.absorb-absorbed.ensures ∙ ap (λ (w : List ℕ). absorbed row Seal w 0 A) first)
     ∙ before_is row fits K N key nonce kb A ab in
     let text =
-    text-place.crypt-after.ensures
+    c.crypt-after.ensures
     ∙ ap (λ (w : List ℕ). crypted_of row a.way w 0 X a.out.now) before
     ∙ crypted_is row fits K N key nonce kb a.way A X a.out.now pre.text_in_bounds in
     let tag =
