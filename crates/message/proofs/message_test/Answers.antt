@@ -1,24 +1,23 @@
 -- `message::message_test` meets its contract.
 use mathlib.Core.Path.{◌≡◌, sym, ap, ◌∙◌}
-use mathlib.Core.Bool.{true, not, ◌||◌}
-use mathlib.Core.List.{[], ◌∷◌}
+use mathlib.Core.Bool.{true}
 use Prim.Native.Nat.{ℕ}
 use native.Mathlib.Omega.{arith}
-use lib.Dec.{leb}
+use lib.ListN.{drop}
 use borrow.Author.Tests.{eq-eqb, ne_eqb, lt-leb, le-leb}
 use Rattle.answers.specs.declared.Answer.{Answer}
-use Rattle.answers.specs.declared.Answer.TheVariants.{Done, PastLimit, NoRoom}
+use Rattle.answers.specs.declared.Answer.TheVariants.{Done}
 use Rattle.answers.specs.Numbers.{is_done}
-use Rattle.answers.specs.Order.{◌when◌, first}
+use Rattle.answers.specs.Order.{first}
 use Rattle.ascon.specs.Sets.{row_of, ad_limit, text_limit}
 use Rattle.sets.specs.Start.{start_test}
-use Rattle.message.specs.Message.{message_test}
+use Rattle.message.specs.Message.{faults, message_test}
 use Rattle.message.proofs.Tests.{start_first}
 use Rattle.message.proofs.message_test.Goals as goal
 
--- behind the tests of a start and of the tag's length, the limits and the room are tested
+-- behind the tests of a start and of the tag's length, the others decide
 later : (set key nonce tag ad text out : ℕ) {start : Answer} → start ≡ start_test set key nonce → is_done start ≡ true → tag ≡ (row_of set).key
-    → message_test set key nonce tag ad text out ≡ first Done (PastLimit when (not (leb ad ad_limit) || not (leb text text_limit)) ∷ NoRoom when not (leb text out) ∷ [])
+    → message_test set key nonce tag ad text out ≡ first Done (drop 4 (faults set key nonce tag ad text out))
 later set key nonce tag ad text out s d e = rw (start_first set key nonce tag ad text out, ap is_done (sym s) ∙ d, eq-eqb tag (row_of set).key e)
 
 pub returns-then-not-is_done : goal.returns-then-not-is_done
