@@ -50,22 +50,14 @@ slice_bounds-put_line-start c = (put_inside _ _ _ _ c.loop-line.invariant.done).
 
 pub overflow_add-at : goal.overflow_add-at
 overflow_add-at c =
-    let line-put : (let l = c.loop-line in
+    let l = c.loop-line in
     let a = c.args in
-    Left a.number a.entry a.out.now (behind l.at l.out c.put_line-at.new.out) (l.at + c.put_line-at.result) (l.line + 1)) = let t = c in
-    let l = t.loop-line in
-    let a = t.args in
-    one_more a.number a.entry a.out.now l.out l.at l.line l.invariant t.loop-line-test.true t.requires.in_bounds _ _ c.put_line-at.ensures in
-    let p = c in
-    let inside = put_inside _ _ _ _ line-put.done in
-    record { fits = omega (arith, inside.0, inside.1, p.well_formed.1.1.0.0) }
+    let more = one_more a.number a.entry a.out.now l.out l.at l.line l.invariant c.loop-line-test.true c.requires.in_bounds _ _ c.put_line-at.ensures in
+    let inside = put_inside _ _ _ _ more.done in
+    record { fits = omega (arith, inside.0, inside.1, c.well_formed.1.1.0.0) }
 
 pub loop-line-preserved : goal.loop-line-preserved
 loop-line-preserved c =
-    let line-put : (let l = c.loop-line in
+    let l = c.loop-line in
     let a = c.args in
-    Left a.number a.entry a.out.now (behind l.at l.out c.put_line-at.new.out) (l.at + c.put_line-at.result) (l.line + 1)) = let t = c in
-    let l = t.loop-line in
-    let a = t.args in
-    one_more a.number a.entry a.out.now l.out l.at l.line l.invariant t.loop-line-test.true t.requires.in_bounds _ _ c.put_line-at.ensures in
-    line-put
+    one_more a.number a.entry a.out.now l.out l.at l.line l.invariant c.loop-line-test.true c.requires.in_bounds _ _ c.put_line-at.ensures
