@@ -5,7 +5,7 @@ ghost use Rattle.std.specs.Prelude.{◌≡◌};
 ghost use Rattle.answers.specs.Numbers.{number_of, is_done};
 
 // What a call answers, in the order of the numbers 0 to 11.
-#[derive(Clone, Copy)]
+#[derive(Clone, Copy, PartialEq, Eq)]
 pub enum Answer {
     Done,
     UnknownSet,
@@ -45,5 +45,5 @@ pub fn number(answer: Answer) -> u64
 pub fn is_done(answer: Answer) -> bool
     ensures { result ≡ is_done answer }
 {
-    number(answer) == 0
+    answer == Answer::Done
 }
