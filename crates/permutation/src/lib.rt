@@ -7,7 +7,7 @@ ghost use Rattle.permutation.specs.Round.{substitute, diffuse, round};
 ghost use Rattle.permutation.specs.Runs.{constants, rounds, permute, permute_words};
 
 // The five words of the state.
-#[derive(Clone, Copy)]
+#[derive(Clone, Copy, PartialEq, Eq)]
 pub struct State {
     pub x0: u64,
     pub x1: u64,
@@ -17,7 +17,7 @@ pub struct State {
 }
 
 // The runs that the cipher makes, each named by the constants that it takes.
-#[derive(Clone, Copy)]
+#[derive(Clone, Copy, PartialEq, Eq)]
 pub enum Run {
     Twelve,
     FirstEight,
@@ -71,9 +71,7 @@ fn diffused(s: State) -> State
 pub fn rounded(s: State, c: u64) -> State
     ensures { result ≡ round c s }
 {
-    let mut t = s;
-    t.x2 = t.x2 ^ c;
-    diffused(substituted(t))
+    diffused(substituted(State { x2: s.x2 ^ c, ..s }))
 }
 
 // The state after the rounds of Table 2 from `first` on, up to `end`.
@@ -82,10 +80,8 @@ fn ran(s: State, first: u64, end: u64) -> State
     ensures { result ≡ rounds (slice first end constants) s }
 {
     let mut t = s;
-    let mut i = first;
-    while i < end {
+    for i in first..end {
         t = rounded(t, 0xf0 - 0x0f * i);
-        i += 1;
     }
     t
 }
