@@ -1,5 +1,5 @@
 -- The three lines of a report.
-use Rattle.std.specs.Prelude.{cond, not, List, [], ◌∷◌, ◌++◌, ℕ, leb, length, drop}
+use Rattle.std.specs.Prelude.{cond, not, List, [], ◌∷◌, ◌++◌, ℕ, leb, length, drop, Result, Ok, Err}
 use Rattle.answers.specs.declared.Answer.{Answer}
 use Rattle.answers.specs.declared.Answer.TheVariants.{Done, NoRoom}
 use Rattle.answers.specs.Numbers.{is_done}
@@ -9,7 +9,7 @@ use Rattle.digits.specs.Numbers.{numeral}
 use Rattle.digits.specs.Room.{line_of}
 use Rattle.report.specs.declared.Verdict.{Verdict}
 use Rattle.report.specs.declared.Verdict.TheVariants.{Equal, Rounds, Cipher, Tag, Unread}
-use Rattle.report.specs.declared.Reported.{Reported}
+use Rattle.report.specs.declared.NoRoom.{NoRoom as Refusal}
 
 -- `equal`, `differs` or `unread`
 abbrev pub word : Verdict → List ℕ
@@ -44,6 +44,16 @@ unfoldable pub report_text : ℕ → Verdict → List ℕ
 report_text number verdict = record_line number ++ (verdict_line verdict ++ field_line verdict)
 
 -- ---- into lent room
+
+-- an answer, and how many bytes were written
+pub record Reported : Type 0 where
+  pub answer : Answer
+  pub written : ℕ
+
+-- of what the code gives
+abbrev pub reported_of : Result ℕ Refusal → Reported
+reported_of (Ok size) = record { answer = Done; written = size }
+reported_of (Err refusal) = record { answer = NoRoom; written = 0 }
 
 -- an answer, and what the place of the report then holds
 pub record ReportLeaves : Type 0 where

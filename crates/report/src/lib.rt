@@ -4,9 +4,7 @@
 ghost use Rattle.std.specs.Prelude.{◌≡◌, ◌+◌, ◌≤◌, length};
 ghost use Rattle.digits.specs.Numbers.{numeral};
 ghost use Rattle.digits.specs.Room.{line_of, laid, put};
-ghost use Rattle.report.specs.Reports.{word, part, verdict_line, field_line, report_text, report_leaves, report_call};
-
-use answers::Answer;
+ghost use Rattle.report.specs.Reports.{word, part, verdict_line, field_line, report_text, report_leaves, report_call, reported_of};
 
 // What the bench says of a record: all agrees, or the first field that differs, or it can't be read.
 #[derive(Clone, Copy)]
@@ -19,12 +17,9 @@ pub enum Verdict {
     Unread { line: usize, column: usize },
 }
 
-// What reporting answers: the answer, and how many bytes were written.
-#[derive(Clone, Copy)]
-pub struct Reported {
-    pub answer: Answer,
-    pub written: usize,
-}
+// Why nothing was reported: the place has no room for the report.
+#[derive(Clone, Copy, PartialEq, Eq)]
+pub struct NoRoom;
 
 // Puts a name and a number's line at the beginning of a place.
 fn put_number_line(name: &[u8], n: u64, out: &mut [u8]) -> usize
@@ -94,19 +89,12 @@ fn put_lines(number: u64, verdict: Verdict, out: &mut [u8]) -> usize
     two + put_field_line(verdict, &mut out[two..])
 }
 
-// Writes the report on a record with a number at the beginning of a place.
-pub fn report(number: u64, verdict: Verdict, out: &mut [u8]) -> Reported
-    ensures { report_leaves result out.new ≡ report_call number verdict out.old }
+// Writes the report on a record with a number at the beginning of a place, and gives its length; a place too short for it stays as it is.
+pub fn report(number: u64, verdict: Verdict, out: &mut [u8]) -> Result<usize, NoRoom>
+    ensures { report_leaves (reported_of result) out.new ≡ report_call number verdict out.old }
 {
     if out.len() < report_length(number, verdict) {
-        return Reported {
-            answer: Answer::NoRoom,
-            written: 0,
-        };
+        return Err(NoRoom);
     }
-    let written = put_lines(number, verdict, out);
-    Reported {
-        answer: Answer::Done,
-        written,
-    }
+    Ok(put_lines(number, verdict, out))
 }

@@ -17,10 +17,9 @@ returns-then-out-report_length c =
 pub returns : goal.returns
 unfolding report_call
 returns c =
-    let room : (let a = c.args in length (report_text a.number a.verdict) ≤ length a.out.now) = omega (arith, c.report_length.ensures, c.if-out-report_length.false) in
     let a = c.args in
-    let lines = c.put_lines-written in
-    let h = room in
-    let whole = put_count (report_text a.number a.verdict) a.out.now _ lines.result lines.ensures h in
-    rw (le-leb (length (report_text a.number a.verdict)) (length a.out.now) h)
+    let room : length (report_text a.number a.verdict) ≤ length a.out.now = omega (arith, c.report_length.ensures, c.if-out-report_length.false) in
+    let lines = c.put_lines in
+    let whole = put_count (report_text a.number a.verdict) a.out.now _ lines.result lines.ensures room in
+    rw (le-leb (length (report_text a.number a.verdict)) (length a.out.now) room)
     (λ j. report_leaves (record { answer = Done; written = whole.0 j }) (whole.1 j))
