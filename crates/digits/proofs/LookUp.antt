@@ -8,8 +8,7 @@ use lib.ListN.{get_or-eq_default}
 use Rattle.permutation.proofs.Test.{at}
 use Rattle.digits.specs.declared.hex.Case.{Case}
 use Rattle.digits.specs.declared.hex.Case.TheVariants.{Lower, Upper}
-use Rattle.digits.specs.declared.hex.Digit.{Digit}
-use Rattle.digits.specs.declared.hex.Digit.TheVariants.{Value, NoDigit}
+use Rattle.std.specs.Prelude.{Option, Some, None}
 use Rattle.digits.specs.Hex.{digit_in, is_value}
 use Rattle.digits.specs.LookUp.{no_digits, digit_rows, digit_row, entry_of, said, none_below}
 
@@ -26,17 +25,17 @@ behind row h = sym (get_or-eq_default digit_rows no_digits {n = row} (omega (ari
 
 -- ---- entries
 
-abbrev same : Digit → Digit → Bool
-same (Value v) (Value w) = eqb v w
-same (Value v) NoDigit = false
-same NoDigit (Value w) = false
-same NoDigit NoDigit = true
+abbrev same : Option ℕ → Option ℕ → Bool
+same (Some v) (Some w) = eqb v w
+same (Some v) None = false
+same None (Some w) = false
+same None None = true
 
-same_eq : (d e : Digit) → T (same d e) → d ≡ e
-same_eq (Value v) (Value w) t = ap Value (eqb→eq v w t)
-same_eq (Value v) NoDigit t = absurd t
-same_eq NoDigit (Value w) t = absurd t
-same_eq NoDigit NoDigit t = refl
+same_eq : (d e : Option ℕ) → T (same d e) → d ≡ e
+same_eq (Some v) (Some w) t = ap Some (eqb→eq v w t)
+same_eq (Some v) None t = absurd t
+same_eq None (Some w) t = absurd t
+same_eq None None t = refl
 
 -- the list's rule, computed at each character
 pub looked_up : (case : Case) (character : ℕ) → character < 256 → said case (entry_of character) ≡ digit_in case character
@@ -48,7 +47,7 @@ looked_up Upper character h = same_eq _ _ (at 256 (λ c. same (said Upper (entry
 pub lower_said : (e : ℕ) → is_value (said Lower e) ≡ ltb e 16
 lower_said e = go (ltb e 16)
   where
-    go : (b : Bool) → is_value (cond b (Value e) NoDigit) ≡ b
+    go : (b : Bool) → is_value (cond b (Some e) None) ≡ b
     go true = refl
     go false = refl
 
@@ -56,7 +55,7 @@ lower_said e = go (ltb e 16)
 pub upper_said : (e : ℕ) → is_value (said Upper e) ≡ (ltb e 10 || eqb (e / 16) 1)
 upper_said e = go (ltb e 10) (eqb (e / 16) 1)
   where
-    go : (b c : Bool) → is_value (cond b (Value e) (cond c (Value (e - 16)) NoDigit)) ≡ (b || c)
+    go : (b c : Bool) → is_value (cond b (Some e) (cond c (Some (e - 16)) None)) ≡ (b || c)
     go true c = refl
     go false true = refl
     go false false = refl

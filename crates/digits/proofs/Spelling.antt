@@ -2,7 +2,8 @@
 use mathlib.Core.Path.{◌≡◌, refl, sym, ap}
 use mathlib.Core.Bool.{Bool, true, false, cond, ◌&&◌, false≢true}
 use mathlib.Core.List.{List, [], ◌∷◌, ◌++◌}
-use mathlib.Core.Option.{Option, some, none, none-ne-some, some-injective}
+use mathlib.Core.Option as option
+use mathlib.Core.Option.{some, none, none-ne-some, some-injective}
 use Prim.Native.Nat.{ℕ, ◌+◌, ◌-◌, ◌*◌, ◌/◌, ◌%◌, ◌≤◌, ◌<◌}
 use native.Mathlib.Omega.{arith}
 use lib.Dec.{leb, ltb}
@@ -11,8 +12,7 @@ use lib.Pow.{are_bytes}
 use borrow.Author.Tests.{ltb-true, ltb-false, leb-true, lt-ltb, le-ltb, le-leb, lt-leb}
 use Rattle.digits.specs.declared.hex.Case.{Case}
 use Rattle.digits.specs.declared.hex.Case.TheVariants.{Lower, Upper}
-use Rattle.digits.specs.declared.hex.Digit.{Digit}
-use Rattle.digits.specs.declared.hex.Digit.TheVariants.{Value, NoDigit}
+use Rattle.std.specs.Prelude.{Option, Some, None}
 use Rattle.digits.specs.Hex.{within, letter_a, digit_in, pair_of, and_then, from_hex_in, hex_digit_in, hex_in, all_digits}
 
 -- ---- tests
@@ -40,12 +40,12 @@ letters_behind Lower = omega arith
 letters_behind Upper = omega arith
 
 -- the value that a digit is read as is below 16, and is written as this digit
-pub digit_spells : (case : Case) (c v : ℕ) → digit_in case c ≡ Value v → (v < 16) × (hex_digit_in case v ≡ c)
+pub digit_spells : (case : Case) (c v : ℕ) → digit_in case c ≡ Some v → (v < 16) × (hex_digit_in case v ≡ c)
 unfolding digit_in hex_digit_in
 digit_spells case c v = go (letter_a case) (letters_behind case) (within 0x30 0x39 c) (within (letter_a case) (letter_a case + 5) c) refl refl
   where
     go : (ten : ℕ) → 0x39 < ten → (t u : Bool) → within 0x30 0x39 c ≡ t → within ten (ten + 5) c ≡ u
-        → cond t (Value (c - 0x30)) (cond u (Value (c - ten + 10)) NoDigit) ≡ Value v → (v < 16) × (cond (ltb v 10) (0x30 + v) (ten - 10 + v) ≡ c)
+        → cond t (Some (c - 0x30)) (cond u (Some (c - ten + 10)) None) ≡ Some v → (v < 16) × (cond (ltb v 10) (0x30 + v) (ten - 10 + v) ≡ c)
     go ten h true u e f g =
         let b = within_true 0x30 0x39 c e in
         let k : c - 0x30 ≡ v = cc in
@@ -57,19 +57,19 @@ digit_spells case c v = go (letter_a case) (letters_behind case) (within 0x30 0x
     go ten h false false e f g = let z : ◌≡◌ {A = ℕ} 0 1 = cc in absurd (omega arith)
 
 -- the digit of a value is read as this value
-pub spelled_digit : (case : Case) (v : ℕ) → v < 16 → digit_in case (hex_digit_in case v) ≡ Value v
+pub spelled_digit : (case : Case) (v : ℕ) → v < 16 → digit_in case (hex_digit_in case v) ≡ Some v
 unfolding digit_in hex_digit_in
 spelled_digit case v h = go (letter_a case) (letters_behind case) (ltb v 10) refl
   where
     go : (ten : ℕ) → 0x39 < ten → (t : Bool) → ltb v 10 ≡ t → let c = cond t (0x30 + v) (ten - 10 + v) in
-        cond (within 0x30 0x39 c) (Value (c - 0x30)) (cond (within ten (ten + 5) c) (Value (c - ten + 10)) NoDigit) ≡ Value v
+        cond (within 0x30 0x39 c) (Some (c - 0x30)) (cond (within ten (ten + 5) c) (Some (c - ten + 10)) None) ≡ Some v
     go ten k true e =
         let l : v < 10 = ltb-true v 10 e in
-        rw (within_is 0x30 0x39 (0x30 + v) (omega arith) (omega arith)) (ap Value (omega arith))
+        rw (within_is 0x30 0x39 (0x30 + v) (omega arith) (omega arith)) (ap Some (omega arith))
     go ten k false e =
         let l : 10 ≤ v = ltb-false v 10 e in
         rw (le-leb 0x30 (ten - 10 + v) (omega arith), lt-leb (ten - 10 + v) 0x39 (omega arith), within_is ten (ten + 5) (ten - 10 + v) (omega arith) (omega arith))
-        (ap Value (omega arith))
+        (ap Some (omega arith))
 
 -- ---- bytes
 
@@ -88,10 +88,10 @@ hex_bytes case [] x e = let f : x ≡ [] = sym (some-injective [] x e) in rw f (
 hex_bytes case (one ∷ []) x e = absurd (none-ne-some x e)
 hex_bytes case (high ∷ low ∷ text) x e = go (digit_in case high) (digit_in case low) (from_hex_in case text) refl refl refl e (hex_bytes case text)
   where
-    go : (p q : Digit) (r : Option (List ℕ)) → digit_in case high ≡ p → digit_in case low ≡ q → from_hex_in case text ≡ r → and_then (pair_of p q) r ≡ some x
+    go : (p q : Option ℕ) (r : option.Option (List ℕ)) → digit_in case high ≡ p → digit_in case low ≡ q → from_hex_in case text ≡ r → and_then (pair_of p q) r ≡ some x
         → ((y : List ℕ) → from_hex_in case text ≡ some y → (hex_in case y ≡ text) × (are_bytes y ≡ true))
         → (hex_in case x ≡ high ∷ low ∷ text) × (are_bytes x ≡ true)
-    go (Value a) (Value b) (some y) f g h e rest =
+    go (Some a) (Some b) (some y) f g h e rest =
         let s = digit_spells case high a f in
         let t = digit_spells case low b g in
         let u = rest y h in
@@ -99,9 +99,9 @@ hex_bytes case (high ∷ low ∷ text) x e = go (digit_in case high) (digit_in c
         let j : (16 * a + b) % 16 ≡ b = omega arith in
         let k : x ≡ (16 * a + b) ∷ y = sym (some-injective _ x e) in
         rw (k, lt-ltb (16 * a + b) 256 (omega arith)) (cc, u.1)
-    go (Value a) (Value b) none f g h e rest = absurd (none-ne-some x e)
-    go (Value a) NoDigit r f g h e rest = absurd (none-ne-some x e)
-    go NoDigit q r f g h e rest = absurd (none-ne-some x e)
+    go (Some a) (Some b) none f g h e rest = absurd (none-ne-some x e)
+    go (Some a) None r f g h e rest = absurd (none-ne-some x e)
+    go None q r f g h e rest = absurd (none-ne-some x e)
 
 -- two digits a byte
 pub length_hex : (case : Case) (x : List ℕ) → length (hex_in case x) ≡ 2 * length x

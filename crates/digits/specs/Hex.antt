@@ -1,12 +1,10 @@
 -- Bytes in hex, two digits a byte, the high digit first.
-use Rattle.std.specs.Prelude.{Bool, true, false, cond, ◌&&◌, List, [], ◌∷◌, ℕ, ◌+◌, ◌-◌, ◌*◌, ◌/◌, ◌%◌, leb, ltb}
-use Rattle.std.proofs.Math.Option.{Option, some, none}
+use mathlib.Core.Option as option
+use Rattle.std.specs.Prelude.{Bool, true, false, cond, ◌&&◌, List, [], ◌∷◌, ℕ, ◌+◌, ◌-◌, ◌*◌, ◌/◌, ◌%◌, leb, ltb, Option, Some, None, Result, Ok, Err}
 use Rattle.digits.specs.declared.hex.Case.{Case}
 use Rattle.digits.specs.declared.hex.Case.TheVariants.{Lower, Upper}
-use Rattle.digits.specs.declared.hex.Digit.{Digit}
-use Rattle.digits.specs.declared.hex.Digit.TheVariants.{Value, NoDigit}
-use Rattle.digits.specs.declared.hex.Pair.{Pair}
-use Rattle.digits.specs.declared.hex.Pair.TheVariants.{Byte, BadFirst, BadSecond}
+use Rattle.digits.specs.declared.hex.BadDigit.{BadDigit}
+use Rattle.digits.specs.declared.hex.BadDigit.TheVariants.{First, Second}
 
 -- ---- reading
 
@@ -20,36 +18,35 @@ letter_a Lower = 0x61
 letter_a Upper = 0x41
 
 -- `0` to `9`, and six letters
-unfoldable pub digit_in : Case → ℕ → Digit
+unfoldable pub digit_in : Case → ℕ → Option ℕ
 digit_in case character =
-    cond (within 0x30 0x39 character) (Value (character - 0x30))
-    (cond (within (letter_a case) (letter_a case + 5) character) (Value (character - letter_a case + 10)) NoDigit)
+    cond (within 0x30 0x39 character) (Some (character - 0x30))
+    (cond (within (letter_a case) (letter_a case + 5) character) (Some (character - letter_a case + 10)) None)
 
 -- in lower case
-abbrev pub digit_of : ℕ → Digit
+abbrev pub digit_of : ℕ → Option ℕ
 digit_of character = digit_in Lower character
 
-abbrev pub is_value : Digit → Bool
-is_value (Value v) = true
-is_value NoDigit = false
+abbrev pub is_value : Option ℕ → Bool
+is_value (Some v) = true
+is_value None = false
 
 -- the byte of two digits, or which of them is none: the first where neither is one
-abbrev pub pair_of : Digit → Digit → Pair
-pair_of (Value high) (Value low) = Byte (16 * high + low)
-pair_of (Value high) NoDigit = BadSecond
-pair_of NoDigit low = BadFirst
+abbrev pub pair_of : Option ℕ → Option ℕ → Result ℕ BadDigit
+pair_of (Some high) (Some low) = Ok (16 * high + low)
+pair_of (Some high) None = Err Second
+pair_of None low = Err First
 
 -- a byte, and the bytes behind it
-abbrev pub and_then : Pair → Option (List ℕ) → Option (List ℕ)
-and_then (Byte b) (some x) = some (b ∷ x)
-and_then (Byte b) none = none
-and_then BadFirst x = none
-and_then BadSecond x = none
+abbrev pub and_then : Result ℕ BadDigit → option.Option (List ℕ) → option.Option (List ℕ)
+and_then (Ok b) (option.some x) = option.some (b ∷ x)
+and_then (Ok b) option.none = option.none
+and_then (Err bad) x = option.none
 
 -- the bytes of a text of digits
-abbrev pub from_hex_in : Case → List ℕ → Option (List ℕ)
-from_hex_in case [] = some []
-from_hex_in case (one ∷ []) = none
+abbrev pub from_hex_in : Case → List ℕ → option.Option (List ℕ)
+from_hex_in case [] = option.some []
+from_hex_in case (one ∷ []) = option.none
 from_hex_in case (high ∷ low ∷ text) = and_then (pair_of (digit_in case high) (digit_in case low)) (from_hex_in case text)
 
 -- ---- writing

@@ -1,9 +1,7 @@
 -- The list that the code looks characters up in. Nobody has to believe it: `looked_up` proves that it says of each character what `digit_in` says, in both cases.
-use Rattle.std.specs.Prelude.{◌≡◌, List, [], ◌∷◌, cond, ℕ, zero, suc, ◌-◌, ◌*◌, ◌/◌, ◌%◌, ◌^◌, eqb, ltb, get_or}
+use Rattle.std.specs.Prelude.{◌≡◌, List, [], ◌∷◌, cond, ℕ, zero, suc, ◌-◌, ◌*◌, ◌/◌, ◌%◌, ◌^◌, eqb, ltb, get_or, Option, Some, None}
 use Rattle.digits.specs.declared.hex.Case.{Case}
 use Rattle.digits.specs.declared.hex.Case.TheVariants.{Lower, Upper}
-use Rattle.digits.specs.declared.hex.Digit.{Digit}
-use Rattle.digits.specs.declared.hex.Digit.TheVariants.{Value, NoDigit}
 
 -- a row without a digit
 abbrev pub no_digits : ℕ
@@ -24,9 +22,9 @@ abbrev pub entry_of : ℕ → ℕ
 entry_of character = digit_row (character / 8) / 2 ^ (8 * (character % 8)) % 256
 
 -- what an entry is as a digit, in either case: a value, or no digit
-abbrev pub said : Case → ℕ → Digit
-said Lower e = cond (ltb e 16) (Value e) NoDigit
-said Upper e = cond (ltb e 10) (Value e) (cond (eqb (e / 16) 1) (Value (e - 16)) NoDigit)
+abbrev pub said : Case → ℕ → Option ℕ
+said Lower e = cond (ltb e 16) (Some e) None
+said Upper e = cond (ltb e 10) (Some e) (cond (eqb (e / 16) 1) (Some (e - 16)) None)
 
 -- a number is none of those below n: what is known of it behind n arms of a `match`, in the form that the checker has it in
 abbrev pub none_below : ℕ → ℕ → Type 0

@@ -1,29 +1,21 @@
 // Hex digits, in lower or upper case: one, a pair, and bytes.
 ghost use Rattle.std.specs.Prelude.{◌≡◌, ◌<◌};
 ghost use Rattle.digits.specs.Hex.{letter_a, digit_in, digit_of, is_value, pair_of, hex_digit_in, hex_in};
-ghost use Rattle.digits.specs.LookUp.{digit_row, entry_of, said, none_below};
+ghost use Rattle.digits.specs.LookUp.{digit_row, entry_of, none_below};
 ghost use Rattle.digits.specs.Room.{laid, put};
 
-// What a character is as a digit.
-#[derive(Clone, Copy)]
-pub enum Digit {
-    Value(u8),
-    NoDigit,
-}
-
 // The case of the letters among the digits.
-#[derive(Clone, Copy)]
+#[derive(Clone, Copy, PartialEq, Eq)]
 pub enum Case {
     Lower,
     Upper,
 }
 
-// What two characters are as a byte: the byte, or which of them is no digit, the first where neither is.
-#[derive(Clone, Copy)]
-pub enum Pair {
-    Byte(u8),
-    BadFirst,
-    BadSecond,
+// Which of two characters is no digit: the first where neither is one.
+#[derive(Clone, Copy, PartialEq, Eq)]
+pub enum BadDigit {
+    First,
+    Second,
 }
 
 // A row without a digit.
@@ -87,14 +79,10 @@ fn entry_of(character: u8) -> u8
 }
 
 // The value of a digit, its letter in lower case.
-pub fn read_digit(character: u8) -> Digit
+pub fn read_digit(character: u8) -> Option<u8>
     ensures { result ≡ digit_of character }
 {
-    let value = entry_of(character);
-    if value < 16 {
-        return Digit::Value(value);
-    }
-    Digit::NoDigit
+    digit_in(Case::Lower, character)
 }
 
 // Whether a character is a digit, its letter in the case asked for.
@@ -108,50 +96,26 @@ pub fn is_digit(case: Case, character: u8) -> bool
     }
 }
 
-// What an entry is as a digit, its letter in the case asked for.
-fn digit_at(case: Case, entry: u8) -> Digit
-    ensures { result ≡ said case entry }
-{
-    match case {
-        Case::Lower => {
-            if entry < 16 {
-                return Digit::Value(entry);
-            }
-            Digit::NoDigit
-        }
-        Case::Upper => {
-            if entry < 10 {
-                return Digit::Value(entry);
-            }
-            if entry / 16 == 1 {
-                return Digit::Value(entry - 16);
-            }
-            Digit::NoDigit
-        }
-    }
-}
-
 // The value of a digit, its letter in the case asked for.
-fn digit_in(case: Case, character: u8) -> Digit
+#[tactic(auto, using(crate::proofs::LookUp::looked_up))]
+fn digit_in(case: Case, character: u8) -> Option<u8>
     ensures { result ≡ digit_in case character }
 {
     let entry = entry_of(character);
-    digit_at(case, entry)
+    match (case, entry) {
+        (Case::Lower, 0..16) | (Case::Upper, 0..10) => Some(entry),
+        (Case::Upper, 16..32) => Some(entry - 16),
+        _ => None,
+    }
 }
 
 // The byte of two digits, the high one first; or which of them is at fault.
-pub fn read_pair(case: Case, high: u8, low: u8) -> Pair
+pub fn read_pair(case: Case, high: u8, low: u8) -> Result<u8, BadDigit>
     ensures { result ≡ pair_of (digit_in case high) (digit_in case low) }
 {
-    let first = digit_in(case, high);
-    let second = digit_in(case, low);
-    match first {
-        Digit::Value(h) => match second {
-            Digit::Value(l) => Pair::Byte(16 * h + l),
-            Digit::NoDigit => Pair::BadSecond,
-        },
-        Digit::NoDigit => Pair::BadFirst,
-    }
+    let first = digit_in(case, high).ok_or(BadDigit::First)?;
+    let second = digit_in(case, low).ok_or(BadDigit::Second)?;
+    Ok(16 * first + second)
 }
 
 // The letter of ten.
@@ -165,14 +129,16 @@ fn letter_a(case: Case) -> u8
 }
 
 // The digit of a value below 16.
+#[tactic(auto, unfolding(crate::specs::Hex::hex_digit_in))]
 fn spelled(case: Case, value: u8) -> u8
     requires { value < 16 }
     ensures { result ≡ hex_digit_in case value }
 {
     if value < 10 {
-        return b'0' + value;
+        b'0' + value
+    } else {
+        letter_a(case) - 10 + value
     }
-    letter_a(case) - 10 + value
 }
 
 // Puts bytes at the beginning of a place, two digits each, and gives how many digits; a place too short for them stays as it is, and the number is 0.
@@ -182,11 +148,9 @@ pub fn put_bytes(case: Case, bytes: &[u8], out: &mut [u8]) -> usize
     if out.len() / 2 < bytes.len() {
         return 0;
     }
-    let mut i = 0;
-    while i < bytes.len() {
-        out[2 * i] = spelled(case, bytes[i] / 16);
-        out[2 * i + 1] = spelled(case, bytes[i] % 16);
-        i += 1;
+    for (i, b) in bytes.iter().enumerate() {
+        out[2 * i] = spelled(case, b / 16);
+        out[2 * i + 1] = spelled(case, b % 16);
     }
     2 * bytes.len()
 }

@@ -7,7 +7,7 @@ mod numbers;
 ghost use Rattle.std.specs.Prelude.{◌≡◌};
 ghost use Rattle.digits.specs.Room.{line_of, laid, put};
 
-pub use hex::{Case, Digit, Pair, is_digit, put_bytes, read_digit, read_pair};
+pub use hex::{BadDigit, Case, is_digit, put_bytes, read_digit, read_pair};
 pub use numbers::{number_length, put_number};
 
 // Puts a text at the beginning of a place, and gives its length; a place too short for it stays as it is, and the length is 0.

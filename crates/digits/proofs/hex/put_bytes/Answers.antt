@@ -3,7 +3,7 @@ use mathlib.Core.List.{List, [], ◌∷◌, ◌++◌}
 use Prim.Native.Nat.{ℕ, zero, suc, ◌+◌, ◌*◌, ◌/◌, ◌%◌, ◌≤◌, ◌<◌}
 use native.Mathlib.Numerals.{add-one}
 use native.Mathlib.Omega.{arith}
-use lib.ListN.{length, get_or, set, drop, length-set}
+use lib.ListN.{length, get_or, set, drop}
 use lib.Seq.{take-length}
 use Rattle.digits.specs.declared.hex.Case.{Case}
 use Rattle.digits.specs.Hex.{hex_digit_in, hex_in}
@@ -40,15 +40,9 @@ loop-i-preserved c =
     let l = c.loop-i in
     let a = c.args in
     let x = a.bytes.now in
-    let high = c.spelled in
-    let inside : l.i < length x = omega arith in
-    let room : 2 * length x ≤ length a.out.now = omega arith in (
-      omega arith,
-      length-set (set l.out (2 * l.i) high.result) (2 * l.i + 1) c.spelled-in-loop-i.result ∙ length-set l.out (2 * l.i) high.result ∙ l.invariant.1,
-      (λ j. set (set (l.invariant.2 j) (2 * l.i) (high.ensures j)) (2 * l.i + 1) (c.spelled-in-loop-i.ensures j))
-          ∙ one_more a.case x a.out.now l.i inside room
-          ∙ ap (spelt a.case x a.out.now) (sym (add-one l.i)),
-    )
+    (λ j. set (set (l.invariant j) (2 * l.i) (c.spelled.ensures j)) (2 * l.i + 1) (c.spelled-in-loop-i.ensures j))
+    ∙ one_more a.case x a.out.now l.i (omega arith) (omega arith)
+    ∙ ap (spelt a.case x a.out.now) (sym (add-one l.i))
 
 pub returns : goal.returns
 returns c =
@@ -57,4 +51,4 @@ returns c =
     let x = a.bytes.now in
     let end : l.i ≡ length x = omega arith in
     put_is (hex_in a.case x) a.out.now l.out (2 * length x) (sym (length_hex a.case x)) (omega arith)
-    (l.invariant.2 ∙ ap (spelt a.case x a.out.now) end ∙ ap (λ (y : List ℕ). hex_in a.case y ++ drop (2 * length x) a.out.now) (take-length x))
+    (l.invariant ∙ ap (spelt a.case x a.out.now) end ∙ ap (λ (y : List ℕ). hex_in a.case y ++ drop (2 * length x) a.out.now) (take-length x))

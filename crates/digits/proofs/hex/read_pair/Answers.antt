@@ -1,22 +1,20 @@
 -- `digits::hex::read_pair` meets its contract.
 use mathlib.Core.Path.{◌≡◌, sym, ◌∙◌}
-use Prim.Native.Nat.{◌<◌}
+use Prim.Native.Nat.{ℕ, ◌<◌}
 use native.Mathlib.Omega.{arith}
+use Rattle.std.specs.Prelude.{Option, Some}
+use Rattle.digits.specs.declared.hex.Case.{Case}
 use Rattle.digits.specs.Hex.{digit_in}
-use Rattle.digits.specs.declared.hex.Digit.TheVariants.{Value}
 use Rattle.digits.proofs.Spelling.{digit_spells}
 use Rattle.digits.proofs.hex.read_pair.Goals as goal
 
+-- a value that was read is below 16
+below : (case : Case) (c v : ℕ) (d : Option ℕ) → d ≡ digit_in case c → d ≡ Some v → v < 16
+below case c v d e f = (digit_spells case c v (sym e ∙ f)).0
+
 pub overflow_mul-result : goal.overflow_mul-result
-overflow_mul-result c =
-    let first-is : (let a = c.args in digit_in a.case a.high ≡ Value c.in-Value.h) = sym c.digit_in-first.ensures ∙ c.in-Value.is in
-    let second_is : (let a = c.args in digit_in a.case a.low ≡ Value c.in-Value-second.l) = sym c.digit_in-second.ensures ∙ c.in-Value-second.is in
-    let values : ((c.in-Value.h < 16) × (c.in-Value-second.l < 16)) = ((digit_spells _ _ _ first-is).0, (digit_spells _ _ _ second_is).0) in
-    record { fits = omega (arith, values.0) }
+overflow_mul-result c = record { fits = omega (arith, below _ _ _ _ c.digit_in.ensures c.in_ok-first.ensures.ok_part) }
 
 pub overflow_add-result : goal.overflow_add-result
 overflow_add-result c =
-    let first-is : (let a = c.args in digit_in a.case a.high ≡ Value c.in-Value.h) = sym c.digit_in-first.ensures ∙ c.in-Value.is in
-    let second_is : (let a = c.args in digit_in a.case a.low ≡ Value c.in-Value-second.l) = sym c.digit_in-second.ensures ∙ c.in-Value-second.is in
-    let values : ((c.in-Value.h < 16) × (c.in-Value-second.l < 16)) = ((digit_spells _ _ _ first-is).0, (digit_spells _ _ _ second_is).0) in
-    record { fits = omega (arith, values.0, values.1) }
+    record { fits = omega (arith, below _ _ _ _ c.digit_in.ensures c.in_ok-first.ensures.ok_part, below _ _ _ _ c.digit_in-2.ensures c.in_ok-second.ensures.ok_part) }
