@@ -53,21 +53,17 @@ fn substituted(s: State) -> State
 fn diffused(s: State) -> State
     ensures { result ≡ diffuse s }
 {
-    let x0 = s.x0;
-    let x1 = s.x1;
-    let x2 = s.x2;
-    let x3 = s.x3;
-    let x4 = s.x4;
     State {
-        x0: x0 ^ ((x0 >> 19) | (x0 << 45)) ^ ((x0 >> 28) | (x0 << 36)),
-        x1: x1 ^ ((x1 >> 61) | (x1 << 3)) ^ ((x1 >> 39) | (x1 << 25)),
-        x2: x2 ^ ((x2 >> 1) | (x2 << 63)) ^ ((x2 >> 6) | (x2 << 58)),
-        x3: x3 ^ ((x3 >> 10) | (x3 << 54)) ^ ((x3 >> 17) | (x3 << 47)),
-        x4: x4 ^ ((x4 >> 7) | (x4 << 57)) ^ ((x4 >> 41) | (x4 << 23)),
+        x0: s.x0 ^ s.x0.rotate_right(19) ^ s.x0.rotate_right(28),
+        x1: s.x1 ^ s.x1.rotate_right(61) ^ s.x1.rotate_right(39),
+        x2: s.x2 ^ s.x2.rotate_right(1) ^ s.x2.rotate_right(6),
+        x3: s.x3 ^ s.x3.rotate_right(10) ^ s.x3.rotate_right(17),
+        x4: s.x4 ^ s.x4.rotate_right(7) ^ s.x4.rotate_right(41),
     }
 }
 
 // The state after one round with the constant c.
+#[tactic(auto, unfolding(crate::specs::Round::add_constant, crate::specs::Round::round))]
 pub fn rounded(s: State, c: u64) -> State
     ensures { result ≡ round c s }
 {
@@ -87,6 +83,7 @@ fn ran(s: State, first: u64, end: u64) -> State
 }
 
 // The state after a run.
+#[tactic(auto, unfolding(crate::specs::Runs::permute, crate::specs::Runs::constants_of, crate::specs::Runs::constants))]
 pub fn permuted(s: State, run: Run) -> State
     ensures { result ≡ permute run s }
 {
@@ -100,16 +97,11 @@ pub fn permuted(s: State, run: Run) -> State
 }
 
 // Runs on five words where they lie.
+#[tactic(auto, unfolding(crate::specs::Runs::permute_words))]
 pub fn permute_words(w: &mut [u64; 5], run: Run)
     ensures { w.new ≡ permute_words run w.old }
 {
-    let s = State {
-        x0: w[0],
-        x1: w[1],
-        x2: w[2],
-        x3: w[3],
-        x4: w[4],
-    };
-    let t = permuted(s, run);
+    let [x0, x1, x2, x3, x4] = *w;
+    let t = permuted(State { x0, x1, x2, x3, x4 }, run);
     *w = [t.x0, t.x1, t.x2, t.x3, t.x4];
 }
