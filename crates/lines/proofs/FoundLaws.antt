@@ -8,9 +8,9 @@ use lib.ListN.{length, take, drop, take-append-drop, length-append}
 use lib.Seq.{take-take, length-take-le}
 use Rattle.digits.specs.Room.{line_of}
 use Rattle.lines.specs.declared.kinds.Kind.{Kind}
-use Rattle.lines.specs.declared.walk.Found.{Found}
-use Rattle.lines.specs.declared.walk.Found.TheVariants.{Line, Stopped}
 use Rattle.lines.specs.Right.{name_of, Right, Lines}
+use Rattle.std.specs.Prelude.{Ok, Err}
+use Rattle.lines.specs.Steps.{Found, a_line, no_line}
 use Rattle.lines.specs.Laws.{Fit, FoundIn, Either, OneFeed}
 use Rattle.lines.proofs.Columns.{one_column}
 use Rattle.lines.proofs.Feeds.{one_feed}
@@ -65,11 +65,12 @@ module _ (number : List ℕ → ℕ) (right : List ℕ → ℕ → Type 0) (tell
 
   -- what is so of a text is one
   pub one_found : (f g : Found) → FoundIn right text f → FoundIn right text g → f ≡ g
-  one_found (Line m a) (Line n b) p q =
-      let size : m ≡ n =
-      omega (arith, no_longer m n q.0 (a, p.1) (b, q.1), no_longer n m p.0 (b, q.1) (a, p.1)) in
-      let number_is : a ≡ b = telling.tells (take m text) a p.1 ∙ ap (λ (k : ℕ). number (take k text)) size ∙ sym (telling.tells (take n text) b q.1) in
-      λ j. Line (size j) (number_is j)
-  one_found (Line m a) (Stopped d) p q = absurd (q.none m (record { inside = p.0; whole = (a, p.1) }))
-  one_found (Stopped c) (Line n b) p q = absurd (p.none n (record { inside = q.0; whole = (b, q.1) }))
-  one_found (Stopped c) (Stopped d) p q = ap Stopped (one_column text c d p q)
+  one_found (Ok l) (Ok k) p q =
+      let size : l.size ≡ k.size =
+      omega (arith, no_longer l.size k.size q.0 (l.number, p.1) (k.number, q.1), no_longer k.size l.size p.0 (k.number, q.1) (l.number, p.1)) in
+      let number_is : l.number ≡ k.number =
+      telling.tells (take l.size text) l.number p.1 ∙ ap (λ (n : ℕ). number (take n text)) size ∙ sym (telling.tells (take k.size text) k.number q.1) in
+      λ j. a_line (size j) (number_is j)
+  one_found (Ok l) (Err d) p q = absurd (q.none l.size (record { inside = p.0; whole = (l.number, p.1) }))
+  one_found (Err c) (Ok k) p q = absurd (p.none k.size (record { inside = q.0; whole = (k.number, q.1) }))
+  one_found (Err c) (Err d) p q = ap no_line (one_column text c.column d.column p q)

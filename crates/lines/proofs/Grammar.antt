@@ -14,7 +14,7 @@ use Rattle.digits.specs.Room.{line_of}
 use Rattle.lines.specs.declared.kinds.Value.{Value}
 use Rattle.lines.specs.declared.kinds.Kind.{Kind}
 use Rattle.lines.specs.declared.step.State.{State}
-use Rattle.lines.specs.declared.step.Step.TheVariants.{On, Off}
+use Rattle.std.specs.Prelude.{Some, None}
 use Rattle.lines.specs.Right.{Spells, name_of, Right, Lines}
 use Rattle.lines.specs.Column.{Viable}
 use Rattle.lines.specs.Steps.{may_end, goes_on, said_by, counted, numbered, standing, name_step, feed_step, value_step, step_of, begin}
@@ -63,7 +63,7 @@ module _ (kind : Kind) (ok : ℕ → ℕ → Type 0) (tail : ℕ → ℕ → Lis
   in_name p k n c o h = go (eqb (get_or kind.name.bytes p 0) c) refl
     where
       go : (b : Bool) → eqb (get_or kind.name.bytes p 0) c ≡ b
-          → Leaves good left (standing p k n false) c (cond b (On (standing (p + 1) k n false)) Off)
+          → Leaves good left (standing p k n false) c (cond b (Some (standing (p + 1) k n false)) None)
       go true e =
           let same : get_or kind.name.bytes p 0 ≡ c = eqb-true _ _ e in (
             o,
@@ -91,7 +91,7 @@ module _ (kind : Kind) (ok : ℕ → ℕ → Type 0) (tail : ℕ → ℕ → Lis
       alone rest [] says e t = ((cc), t)
       alone rest (d ∷ ds) says e t = let same : d ≡ 0x0a = cc in absurd (g.no_feed k n ds says (rw same at t))
 
-      go : (b : Bool) → may_end kind.value k ≡ b → Leaves good left (standing p k n false) c (cond b (On (standing p k (said_by kind.value n) true)) Off)
+      go : (b : Bool) → may_end kind.value k ≡ b → Leaves good left (standing p k n false) c (cond b (Some (standing p k (said_by kind.value n) true)) None)
       go true e = (
         g.stays k n o,
         λ rest says. (
@@ -116,7 +116,7 @@ module _ (kind : Kind) (ok : ℕ → ℕ → Type 0) (tail : ℕ → ℕ → Lis
       split rest (d ∷ ds) says e t = let same : d ≡ c = cc in (ds, cc, rw same at t)
 
       go : (b : Bool) → goes_on kind.value k n c ≡ b
-          → Leaves good left (standing p k n false) c (cond b (On (standing p (counted kind.value k) (numbered kind.value n c) false)) Off)
+          → Leaves good left (standing p k n false) c (cond b (Some (standing p (counted kind.value k) (numbered kind.value n c) false)) None)
       go true e =
           let r = g.on k n c o e in (
             r.0,

@@ -11,8 +11,7 @@ use lib.Pow.{are_bytes}
 use borrow.Author.Tests.{leb-true, eqb-true, ltb-true, le-leb, eq-eqb, lt-ltb}
 use Rattle.digits.specs.declared.hex.Case.{Case}
 use Rattle.digits.specs.declared.hex.Case.TheVariants.{Lower, Upper}
-use Rattle.digits.specs.declared.hex.Digit.{Digit}
-use Rattle.digits.specs.declared.hex.Digit.TheVariants.{Value, NoDigit}
+use Rattle.std.specs.Prelude.{Option, Some, None}
 use Rattle.digits.specs.Hex.{digit_in, is_value, hex_in, all_digits}
 use Rattle.digits.proofs.Spelling.{and_both, digit_spells, length_hex, digits_hex}
 use Rattle.lines.specs.declared.kinds.Value.TheVariants.{Bytes}
@@ -34,9 +33,9 @@ zero_digit Upper = refl
 
 module _ (case : Case) where
   -- a digit has a value
-  digit_value : (d : Digit) → is_value d ≡ true → (v : ℕ) × (d ≡ Value v)
-  digit_value (Value v) e = (v, refl)
-  digit_value NoDigit e = absurd (false≢true e)
+  digit_value : (d : Option ℕ) → is_value d ≡ true → (v : ℕ) × (d ≡ Some v)
+  digit_value (Some v) e = (v, refl)
+  digit_value None e = absurd (false≢true e)
 
   -- digits by pairs are those of bytes
   pairs : (ds : List ℕ) (m : ℕ) → all_digits case ds ≡ true → length ds ≡ 2 * m → (x : List ℕ) × (are_bytes x ≡ true) × (length x ≡ m) × (ds ≡ hex_in case x)

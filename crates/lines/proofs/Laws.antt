@@ -12,11 +12,10 @@ use Rattle.digits.proofs.Spelling.{and_both}
 use Rattle.lines.specs.declared.kinds.Value.{Value}
 use Rattle.lines.specs.declared.kinds.Value.TheVariants.{Fixed, Number, Bytes}
 use Rattle.lines.specs.declared.kinds.Kind.{Kind}
-use Rattle.lines.specs.declared.walk.Found.{Found}
-use Rattle.lines.specs.declared.walk.Found.TheVariants.{Line, Stopped}
 use Rattle.lines.specs.Column.{LeavesAt}
 use Rattle.lines.specs.Right.{Right, Lines}
-use Rattle.lines.specs.Steps.{Walk, walk, step_of, begin, found_at, read_of, either_of}
+use Rattle.std.specs.Prelude.{Ok, Err}
+use Rattle.lines.specs.Steps.{Found, a_line, no_line, Walk, walk, step_of, begin, found_at, read_of, either_of}
 use Rattle.lines.specs.Laws.{fits, Fit, FoundIn, Either, ReadsLines}
 use Rattle.lines.proofs.Columns.{viable_shorter, one_column, column_early, same_lines}
 use Rattle.lines.proofs.Reach.{Reached, reached}
@@ -89,18 +88,18 @@ module _ (right : List ℕ → ℕ → Type 0) (text : List ℕ) (w : Walk) (r :
   told : FoundIn right text (found_at w)
   told = go w.state.ended refl
     where
-      go : (b : Bool) → w.state.ended ≡ b → FoundIn right text (cond b (Line w.passed w.state.number) (Stopped (w.passed + 1)))
+      go : (b : Bool) → w.state.ended ≡ b → FoundIn right text (cond b (a_line w.passed w.state.number) (no_line (w.passed + 1)))
       go true e = (r.inside, r.whole e)
       go false e = stopped e
 
   -- and nothing else is
   only : (f : Found) → FoundIn right text f → found_at w ≡ f
-  only (Line size says) t = let o = r.over size says t.0 t.1 in rw (o.0, o.1, o.2)
-  only (Stopped c) p = go w.state.ended refl
+  only (Ok line) t = let o = r.over line.size line.number t.0 t.1 in rw (o.0, o.1, o.2)
+  only (Err c) p = go w.state.ended refl
     where
-      go : (b : Bool) → w.state.ended ≡ b → cond b (Line w.passed w.state.number) (Stopped (w.passed + 1)) ≡ Stopped c
+      go : (b : Bool) → w.state.ended ≡ b → cond b (a_line w.passed w.state.number) (no_line (w.passed + 1)) ≡ no_line c.column
       go true e = absurd (p.none w.passed (record { inside = r.inside; whole = (w.state.number, r.whole e) }))
-      go false e = ap Stopped (one_column text _ _ (stopped e) p)
+      go false e = ap no_line (one_column text _ _ (stopped e) p)
 
 -- ---- one of two kinds
 
@@ -127,13 +126,13 @@ turned left right text c p = same_lines text c (λ line. (λ l. (l.0, swap l.1),
     swap x = ⊎_elim inr inl x
 
 either_told : (left right : List ℕ → ℕ → Type 0) (text : List ℕ) (f g : Found) → FoundIn left text f → FoundIn right text g → FoundIn (Either left right) text (either_of f g)
-either_told left right text (Line size says) g p q = (p.0, inl p.1)
-either_told left right text (Stopped c) (Line size says) p q = (q.0, inr q.1)
-either_told left right text (Stopped c) (Stopped d) p q = go (ltb c d) refl
+either_told left right text (Ok line) g p q = (p.0, inl p.1)
+either_told left right text (Err c) (Ok line) p q = (q.0, inr q.1)
+either_told left right text (Err c) (Err d) p q = go (ltb c.column d.column) refl
   where
-    go : (b : Bool) → ltb c d ≡ b → FoundIn (Either left right) text (cond b (Stopped d) (Stopped c))
-    go true e = turned left right text d (both right left text d c q p (omega (arith, ltb-true c d e)))
-    go false e = both left right text c d p q (ltb-false c d e)
+    go : (b : Bool) → ltb c.column d.column ≡ b → FoundIn (Either left right) text (cond b (Err d) (Err c))
+    go true e = turned left right text d.column (both right left text d.column c.column q p (omega (arith, ltb-true c.column d.column e)))
+    go false e = both left right text c.column d.column p q (ltb-false c.column d.column e)
 
 -- reading a line promises it all
 pub reads_lines : ReadsLines

@@ -11,19 +11,15 @@ use lib.Pow.{are_bytes}
 use lib.Seq.{drop-cons, get_or-take}
 use borrow.Author.Tests.{le-ltb, lt-ltb, ltb-true, eqb-true, eqb-false, eq-eqb, ne_eqb}
 use Rattle.digits.specs.declared.hex.Case.{Case}
-use Rattle.digits.specs.declared.hex.Digit.{Digit}
-use Rattle.digits.specs.declared.hex.Digit.TheVariants.{Value, NoDigit}
-use Rattle.digits.specs.declared.hex.Pair.TheVariants.{BadFirst, BadSecond}
+use Rattle.digits.specs.declared.hex.BadDigit.TheVariants.{First, Second}
 use Rattle.digits.specs.Hex.{digit_in, is_value, pair_of, hex_digit_in, hex_in}
 use Rattle.digits.proofs.Spelling.{and_both, spelled_digit}
 use Rattle.lines.specs.declared.kinds.Value.TheVariants.{Bytes}
 use Rattle.lines.specs.declared.kinds.Kind.{Kind}
 use Rattle.lines.specs.declared.step.State.{State}
-use Rattle.lines.specs.declared.step.Step.{Step}
-use Rattle.lines.specs.declared.step.Step.TheVariants.{On, Off}
-use Rattle.lines.specs.declared.walk.Found.TheVariants.{Stopped}
+use Rattle.std.specs.Prelude.{Option, Some, None, Err}
 use Rattle.lines.specs.Right.{name_of}
-use Rattle.lines.specs.Steps.{standing, name_step, feed_step, value_step, step_of, Walk, stop, onward, walk, read_of}
+use Rattle.lines.specs.Steps.{standing, name_step, feed_step, value_step, step_of, Walk, stop, onward, walk, no_line, read_of}
 use Rattle.lines.specs.Laws.{Fit, Blamed}
 use Rattle.lines.proofs.Hex.{feed_none}
 use Rattle.lines.proofs.Grammar.{name_size}
@@ -33,9 +29,9 @@ abbrev after : ℕ → Walk → Walk
 after n w = stop (n + w.passed) w.state
 
 -- a character that goes on
-step_on_lem : (kind : Kind) (s t : State) (c : ℕ) (rest : List ℕ) → step_of kind s c ≡ On t → walk (step_of kind) s (c ∷ rest) ≡ after 1 (walk (step_of kind) t rest)
+step_on_lem : (kind : Kind) (s t : State) (c : ℕ) (rest : List ℕ) → step_of kind s c ≡ Some t → walk (step_of kind) s (c ∷ rest) ≡ after 1 (walk (step_of kind) t rest)
 step_on_lem kind s t c rest e =
-    ap (λ (q : Step). onward s q (λ u. walk (step_of kind) u rest)) e ∙ ap (λ (n : ℕ). stop n (walk (step_of kind) t rest).state) (omega arith)
+    ap (λ (q : Option State). onward s q (λ u. walk (step_of kind) u rest)) e ∙ ap (λ (n : ℕ). stop n (walk (step_of kind) t rest).state) (omega arith)
 
 module _ (kind : Kind) (least most : ℕ) (case : Case) (fit : Fit kind) (hex : kind.value ≡ Bytes least most case) where
   -- behind the name, with so many digits passed
@@ -54,7 +50,7 @@ module _ (kind : Kind) (least most : ℕ) (case : Case) (fit : Fit kind) (hex : 
       let inside : p < kind.name.size = omega arith in
       let c : ℕ = get_or (name_of kind) p 0 in
       let same : get_or kind.name.bytes p 0 ≡ c = sym (get_or-take kind.name.size kind.name.bytes p 0 inside) in
-      let goes : step_of kind (standing p 0 0 false) c ≡ On (standing (p + 1) 0 0 false) = rw (lt-ltb p kind.name.size inside, eq-eqb _ c same) in
+      let goes : step_of kind (standing p 0 0 false) c ≡ Some (standing (p + 1) 0 0 false) = rw (lt-ltb p kind.name.size inside, eq-eqb _ c same) in
       ap (λ (x : List ℕ). walk (step_of kind) (standing p 0 0 false) (x ++ rest))
       (drop-cons (name_of kind) p 0 (omega (arith, name_size kind fit.named)) ∙ ap (λ (n : ℕ). c ∷ drop n (name_of kind)) (sym (add-one p)))
       ∙ step_on_lem kind (standing p 0 0 false) (standing (p + 1) 0 0 false) c (drop (p + 1) (name_of kind) ++ rest) goes
@@ -62,8 +58,8 @@ module _ (kind : Kind) (least most : ℕ) (case : Case) (fit : Fit kind) (hex : 
       ∙ ap (λ (n : ℕ). stop n (walk (step_of kind) (behind 0) rest).state) (omega arith)
 
   -- on with a digit, and off without
-  abbrev goes_by : ℕ → Bool → Step
-  goes_by k digit = cond digit (On (behind (k + 1))) Off
+  abbrev goes_by : ℕ → Bool → Option State
+  goes_by k digit = cond digit (Some (behind (k + 1))) None
 
   -- a character where a digit may come
   digit_step : (k c : ℕ) → k / 2 < most → (c ≡ 0x0a → ⊥) → step_of kind (behind k) c ≡ goes_by k (is_value (digit_in case c))
@@ -75,12 +71,12 @@ module _ (kind : Kind) (least most : ℕ) (case : Case) (fit : Fit kind) (hex : 
       go false = refl
 
   -- a line feed behind an odd number of digits
-  odd-feed_step : (k : ℕ) → k % 2 ≡ 1 → step_of kind (behind k) 0x0a ≡ Off
+  odd-feed_step : (k : ℕ) → k % 2 ≡ 1 → step_of kind (behind k) 0x0a ≡ None
   unfolding step_of feed_step
   odd-feed_step k h = rw (le-ltb kind.name.size kind.name.size (omega arith), hex, ne_eqb (k % 2) 0 (omega arith))
 
   -- a digit of bytes
-  hex_step : (k v : ℕ) → k / 2 < most → v < 16 → step_of kind (behind k) (hex_digit_in case v) ≡ On (behind (k + 1))
+  hex_step : (k v : ℕ) → k / 2 < most → v < 16 → step_of kind (behind k) (hex_digit_in case v) ≡ Some (behind (k + 1))
   hex_step k v h l =
       let digit : is_value (digit_in case (hex_digit_in case v)) ≡ true = ap is_value (spelled_digit case v l) in
       let other : hex_digit_in case v ≡ 0x0a → ⊥ = λ e. false≢true (sym (feed_none case) ∙ ap (λ (c : ℕ). is_value (digit_in case c)) (sym e) ∙ digit) in
@@ -122,39 +118,39 @@ module _ (kind : Kind) (least most : ℕ) (case : Case) (fit : Fit kind) (hex : 
 
     -- where a walk that goes on so ends
     ends : (passed k : ℕ) → walk (step_of kind) (behind (2 * length x)) (a ∷ b ∷ rest) ≡ stop passed (behind k)
-        → read_of kind text ≡ Stopped (length (name_of kind) + 2 * length x + passed + 1)
+        → read_of kind text ≡ no_line (length (name_of kind) + 2 * length x + passed + 1)
     unfolding read_of
     ends passed k e =
-        rw (up_to ∙ ap (λ (w : Walk). after kind.name.size (after (2 * length x) w)) e) (ap Stopped (omega (arith, name_size kind fit.named)))
+        rw (up_to ∙ ap (λ (w : Walk). after kind.name.size (after (2 * length x) w)) e) (ap no_line (omega (arith, name_size kind fit.named)))
 
     -- the first is no digit
     first_bad : is_value (digit_in case a) ≡ false → walk (step_of kind) (behind (2 * length x)) (a ∷ b ∷ rest) ≡ stop 0 (behind (2 * length x))
-    first_bad e = ap (λ (q : Step). onward (behind (2 * length x)) q (λ u. walk (step_of kind) u (b ∷ rest))) (digit_step (2 * length x) a (omega arith) other ∙ ap (goes_by (2 * length x)) e)
+    first_bad e = ap (λ (q : Option State). onward (behind (2 * length x)) q (λ u. walk (step_of kind) u (b ∷ rest))) (digit_step (2 * length x) a (omega arith) other ∙ ap (goes_by (2 * length x)) e)
 
     -- the second is none
     second_bad : is_value (digit_in case a) ≡ true → is_value (digit_in case b) ≡ false
         → walk (step_of kind) (behind (2 * length x)) (a ∷ b ∷ rest) ≡ stop 1 (behind (2 * length x + 1))
     second_bad e f =
         step_on_lem kind (behind (2 * length x)) (behind (2 * length x + 1)) a (b ∷ rest) (digit_step (2 * length x) a (omega arith) other ∙ ap (goes_by (2 * length x)) e)
-        ∙ ap (λ (q : Step). after 1 (onward (behind (2 * length x + 1)) q (λ u. walk (step_of kind) u rest))) (at (eqb b 0x0a) refl)
+        ∙ ap (λ (q : Option State). after 1 (onward (behind (2 * length x + 1)) q (λ u. walk (step_of kind) u rest))) (at (eqb b 0x0a) refl)
       where
-        at : (t : Bool) → eqb b 0x0a ≡ t → step_of kind (behind (2 * length x + 1)) b ≡ Off
+        at : (t : Bool) → eqb b 0x0a ≡ t → step_of kind (behind (2 * length x + 1)) b ≡ None
         at true g = let feed : b ≡ 0x0a = eqb-true b 0x0a g in rw feed (odd-feed_step (2 * length x + 1) (omega arith))
         at false g = digit_step (2 * length x + 1) b (omega arith) (eqb-false b 0x0a g) ∙ ap (goes_by (2 * length x + 1)) f
 
     -- the digit that the pair blames is the wrong character
     pub blamed : Blamed kind case x rest a b
     blamed = record {
-      first = λ e. ends 0 (2 * length x) (first_bad (first_none (digit_in case a) (digit_in case b) e)) ∙ ap Stopped (omega arith);
-      second = λ e. let d = second_none (digit_in case a) (digit_in case b) e in ends 1 (2 * length x + 1) (second_bad d.0 d.1) ∙ ap Stopped (omega arith);
+      first = λ e. ends 0 (2 * length x) (first_bad (first_none (digit_in case a) (digit_in case b) e)) ∙ ap no_line (omega arith);
+      second = λ e. let d = second_none (digit_in case a) (digit_in case b) e in ends 1 (2 * length x + 1) (second_bad d.0 d.1) ∙ ap no_line (omega arith);
     }
       where
-        first_none : (d f : Digit) → pair_of d f ≡ BadFirst → is_value d ≡ false
-        first_none NoDigit f g = refl
-        first_none (Value v) (Value w) g = let z : ◌≡◌ {A = ℕ} 0 1 = cc in absurd (omega arith)
-        first_none (Value v) NoDigit g = let z : ◌≡◌ {A = ℕ} 0 1 = cc in absurd (omega arith)
+        first_none : (d f : Option ℕ) → pair_of d f ≡ Err First → is_value d ≡ false
+        first_none None f g = refl
+        first_none (Some v) (Some w) g = let z : ◌≡◌ {A = ℕ} 0 1 = cc in absurd (omega arith)
+        first_none (Some v) None g = let z : ◌≡◌ {A = ℕ} 0 1 = cc in absurd (omega arith)
 
-        second_none : (d f : Digit) → pair_of d f ≡ BadSecond → (is_value d ≡ true) × (is_value f ≡ false)
-        second_none (Value v) NoDigit g = (refl, refl)
-        second_none (Value v) (Value w) g = let z : ◌≡◌ {A = ℕ} 0 1 = cc in absurd (omega arith)
-        second_none NoDigit f g = let z : ◌≡◌ {A = ℕ} 0 1 = cc in absurd (omega arith)
+        second_none : (d f : Option ℕ) → pair_of d f ≡ Err Second → (is_value d ≡ true) × (is_value f ≡ false)
+        second_none (Some v) None g = (refl, refl)
+        second_none (Some v) (Some w) g = let z : ◌≡◌ {A = ℕ} 0 1 = cc in absurd (omega arith)
+        second_none None f g = let z : ◌≡◌ {A = ℕ} 0 1 = cc in absurd (omega arith)

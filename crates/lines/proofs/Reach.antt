@@ -7,21 +7,20 @@ use Prim.Native.Nat.{ℕ, zero, suc, ◌≤◌, ◌<◌}
 use native.Mathlib.Omega.{arith}
 use lib.ListN.{length, take}
 use Rattle.lines.specs.declared.step.State.{State}
-use Rattle.lines.specs.declared.step.Step.{Step}
-use Rattle.lines.specs.declared.step.Step.TheVariants.{On, Off}
+use Rattle.std.specs.Prelude.{Option, Some, None}
 use Rattle.lines.specs.Column.{Viable}
 use Rattle.lines.specs.Right.{Lines}
 use Rattle.lines.specs.Steps.{Walk, onward, walk}
 
 module _ (good : State → Type 0) (left : State → List ℕ → ℕ → Type 0) where
   -- a step with a character leaves the texts that go on with it; where there is no step, there are none
-  abbrev pub Leaves : State → ℕ → Step → Type 0
-  Leaves s c (On t) = good t × ((rest : List ℕ) (says : ℕ) → left s (c ∷ rest) says ↔ left t rest says)
-  Leaves s c Off = (rest : List ℕ) (says : ℕ) → left s (c ∷ rest) says → ⊥
+  abbrev pub Leaves : State → ℕ → Option State → Type 0
+  Leaves s c (Some t) = good t × ((rest : List ℕ) (says : ℕ) → left s (c ∷ rest) says ↔ left t rest says)
+  Leaves s c None = (rest : List ℕ) (says : ℕ) → left s (c ∷ rest) says → ⊥
 
 -- steps follow the texts that may still come: from every good state one may; each step leaves those that go on with its character; behind the end, and only
 -- there, nothing may come, and the number is what the line says
-pub record Follows (step : State → ℕ → Step) (good : State → Type 0) (left : State → List ℕ → ℕ → Type 0) : Type 0 where
+pub record Follows (step : State → ℕ → Option State) (good : State → Type 0) (left : State → List ℕ → ℕ → Type 0) : Type 0 where
   pub alive : (s : State) → good s → Viable (Lines (left s)) []
   pub steps : (s : State) (c : ℕ) → good s → Leaves good left s c (step s c)
   pub end : (s : State) (says : ℕ) → ((s.ended ≡ true) × (says ≡ s.number)) ↔ left s [] says
@@ -35,7 +34,7 @@ pub record Reached (left : List ℕ → ℕ → Type 0) (text : List ℕ) (w : W
   pub whole : w.state.ended ≡ true → left (take w.passed text) w.state.number
   pub over : (size says : ℕ) → size ≤ length text → left (take size text) says → (w.state.ended ≡ true) × (size ≡ w.passed) × (says ≡ w.state.number)
 
-module _ (step : State → ℕ → Step) (good : State → Type 0) (left : State → List ℕ → ℕ → Type 0) (f : Follows step good left) where
+module _ (step : State → ℕ → Option State) (good : State → Type 0) (left : State → List ℕ → ℕ → Type 0) (f : Follows step good left) where
   pub reached : (s : State) (text : List ℕ) → good s → Reached (left s) text (walk step s text)
   reached s [] g = record {
     inside = omega arith;
@@ -50,9 +49,9 @@ module _ (step : State → ℕ → Step) (good : State → Type 0) (left : State
       none (suc size) says h l = absurd (omega arith)
   reached s (c ∷ text) g = go (step s c) (f.steps s c g) (λ t. reached t text)
     where
-      go : (q : Step) → Leaves good left s c q → ((t : State) → good t → Reached (left t) text (walk step t text))
+      go : (q : Option State) → Leaves good left s c q → ((t : State) → good t → Reached (left t) text (walk step t text))
           → Reached (left s) (c ∷ text) (onward s q (λ t. walk step t text))
-      go (On t) o rest =
+      go (Some t) o rest =
           let r = rest t o.0 in
           let w = walk step t text in
           let later : (size says : ℕ) → size ≤ suc (length text) → left s (take size (c ∷ text)) says
@@ -68,7 +67,7 @@ module _ (step : State → ℕ → Step) (good : State → Type 0) (left : State
             whole = λ k. (o.1 _ _).1 (r.whole k);
             over = later;
           }
-      go Off o rest =
+      go None o rest =
           let here : (size says : ℕ) → size ≤ suc (length text) → left s (take size (c ∷ text)) says → (s.ended ≡ true) × (size ≡ 0) × (says ≡ s.number) =
           elim [
             | zero ↦ λ says h l. let e = (f.end s says).1 l in (e.0, refl, e.1)

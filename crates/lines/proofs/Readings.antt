@@ -7,7 +7,7 @@ use Prim.Native.Nat.{ℕ, ◌≤◌, ◌<◌}
 use native.Mathlib.Omega.{arith}
 use lib.ListN.{length, take}
 use lib.Seq.{take-append_seam}
-use Rattle.lines.specs.declared.walk.Found.{Found}
+use Rattle.lines.specs.Steps.{Found}
 use Rattle.lines.specs.Tables.{Outcome, whole, broken_at}
 use Rattle.lines.specs.Texts.{text_from, Begun, WrongAt}
 use Rattle.lines.proofs.Tables.{up_to}

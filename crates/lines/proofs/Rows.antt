@@ -9,10 +9,9 @@ use native.Mathlib.Omega.{arith}
 use lib.Dec.{ltb}
 use lib.ListN.{length, take, drop, length-append, take-append-drop}
 use lib.Seq.{take-add, take-append_seam, drop-append_seam}
-use Rattle.lines.specs.declared.walk.Found.{Found}
-use Rattle.lines.specs.declared.walk.Found.TheVariants.{Line, Stopped}
 use Rattle.lines.specs.Right.{Lines}
 use Rattle.lines.specs.Laws.{FoundIn}
+use Rattle.lines.specs.Steps.{Found, a_line, no_line}
 use Rattle.lines.specs.Tables.{whole, broken_at}
 use Rattle.lines.specs.Column.{LeavesAt}
 use Rattle.lines.proofs.Tables.{up_to, Stop, read_more_lem, read_no_more, last_line, stays_broken}
@@ -77,7 +76,7 @@ module _ {E : Type 0} (read_at : ℕ → E → List ℕ → Found) (given : ℕ 
       (ap (λ (k : ℕ). take k text) (sym none), sym same)
   read_rows (suc n) text end e f =
       let m = last_line read_at given 1 nothing n end e text f in
-      let t : FoundIn (right_at (1 + n) m.earlier) (drop m.at text) (Line m.size m.says) = rw m.found at (told (1 + n) m.earlier (drop m.at text)) in
+      let t : FoundIn (right_at (1 + n) m.earlier) (drop m.at text) (a_line m.size m.says) = rw m.found at (told (1 + n) m.earlier (drop m.at text)) in
       record {
         before = take m.at text;
         gave = m.earlier;
@@ -96,8 +95,8 @@ module _ {E : Type 0} (read_at : ℕ → E → List ℕ → Found) (given : ℕ 
       let line : List ℕ = r.line in
       let all : x ++ rest ≡ r.before ++ (line ++ rest) = ap (λ (y : List ℕ). y ++ rest) r.whole ∙ append_assoc r.before line rest in
       let behind : drop (length r.before) (r.before ++ (line ++ rest)) ≡ line ++ rest = drop-append_seam r.before (line ++ rest) in
-      let found : read_at (1 + n) r.gave (line ++ rest) ≡ Line (length line) r.says =
-      only (1 + n) r.gave (line ++ rest) (Line (length line) r.says) (omega (arith, length-append line rest), rw (take-append_seam line rest) r.right) in
+      let found : read_at (1 + n) r.gave (line ++ rest) ≡ a_line (length line) r.says =
+      only (1 + n) r.gave (line ++ rest) (a_line (length line) r.says) (omega (arith, length-append line rest), rw (take-append_seam line rest) r.right) in
       let more = read_more_lem read_at given 1 nothing n (length r.before) r.gave (r.before ++ (line ++ rest)) (length line) r.says
       (rows_read n r.before (line ++ rest) r.gave r.rows) (rw behind found) in
       let size : length r.before + length line ≡ length x = omega (arith, ap length r.whole, length-append r.before line) in
@@ -154,7 +153,7 @@ module _ {E : Type 0} (read_at : ℕ → E → List ℕ → Found) (given : ℕ 
       let behind : drop (length w.before) text ≡ w.rest = ap (drop (length w.before)) (sym w.parts) ∙ drop-append_seam w.before w.rest in
       let read : up_to read_at given 1 nothing k text ≡ whole (length w.before) w.gave =
       ap (up_to read_at given 1 nothing k) (sym w.parts) ∙ rows_read k w.before w.rest w.gave w.rows in
-      let stopped : read_at line w.gave (drop (length w.before) text) ≡ Stopped column = rw behind (only line w.gave w.rest (Stopped column) w.wrong) in
+      let stopped : read_at line w.gave (drop (length w.before) text) ≡ no_line column = rw behind (only line w.gave w.rest (no_line column) w.wrong) in
       let early : Bool = ltb (length (drop (length w.before) text)) column in
       let here : up_to read_at given 1 nothing (suc k) text ≡ broken_at line column early =
       rw number at (read_no_more read_at given 1 nothing k (length w.before) w.gave text column read (rw number stopped)) in

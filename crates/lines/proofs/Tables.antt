@@ -8,9 +8,9 @@ use lib.Dec.{ltb}
 use lib.ListN.{length, take, drop, length-append, length-drop}
 use lib.Seq.{take_all, take-length, take-append-le, drop-append-le, drop-append_seam}
 use borrow.Author.Tests.{ltb-true, ltb-false, le-ltb}
-use Rattle.lines.specs.declared.walk.Found.{Found}
-use Rattle.lines.specs.declared.walk.Found.TheVariants.{Line, Stopped}
 use Rattle.lines.specs.Laws.{FoundIn}
+use Rattle.std.specs.Prelude.{Ok, Err}
+use Rattle.lines.specs.Steps.{Found, a_line, no_line}
 use Rattle.lines.specs.Tables.{Outcome, whole, broken_at, go_on, lines_from}
 use Rattle.lines.proofs.Columns.{column_early}
 
@@ -41,8 +41,8 @@ module _ {E : Type 0} (read_at : ℕ → E → List ℕ → Found) (given : ℕ 
 
       go : (f : Found) → ((size says : ℕ) → from (suc n) size says ≡ and_line (line + 1 + n) text (from n size says))
           → go_on line (drop taken text) f (from (suc n)) ≡ and_line (line + suc n) text (go_on line (drop taken text) f (from n))
-      go (Line size says) rest = rest size says ∙ ap (λ (m : ℕ). and_line m text (from n size says)) (sym there)
-      go (Stopped column) rest = refl
+      go (Ok read) rest = rest read.size read.number ∙ ap (λ (m : ℕ). and_line m text (from n read.size read.number)) (sym there)
+      go (Err stopped) rest = refl
 
   module _ (line : ℕ) (first : E) where
     -- the first n lines of a text
@@ -57,7 +57,7 @@ module _ {E : Type 0} (read_at : ℕ → E → List ℕ → Found) (given : ℕ 
       pub end : ℕ
       pub last : E
       pub read : up_to before text ≡ whole end last
-      pub stopped : read_at bad last (drop end text) ≡ Stopped column
+      pub stopped : read_at bad last (drop end text) ≡ no_line column
       pub over : early ≡ ltb (length (drop end text)) column
 
     -- a broken outcome was stopped at its line
@@ -68,10 +68,10 @@ module _ {E : Type 0} (read_at : ℕ → E → List ℕ → Found) (given : ℕ 
         at : (end : ℕ) (last : E) → up_to n text ≡ whole end last → (f : Found) → read_at (line + n) last (drop end text) ≡ f
             → go_on (line + n) (drop end text) f (λ size says. whole (end + size) (given (line + n) last says (take size (drop end text)))) ≡ broken_at bad column early
             → Stop (suc n) text bad column early
-        at end last r (Line size says) s f = absurd (whole_broken _ _ bad column early f)
-        at end last r (Stopped c) s f =
+        at end last r (Ok read) s f = absurd (whole_broken _ _ bad column early f)
+        at end last r (Err c) s f =
             let number : line + n ≡ bad = cc in
-            let same : c ≡ column = cc in
+            let same : c.column ≡ column = cc in
             record {
               before = n;
               fewer = omega arith;
@@ -80,7 +80,7 @@ module _ {E : Type 0} (read_at : ℕ → E → List ℕ → Found) (given : ℕ 
               last = last;
               read = r;
               stopped = rw (← number, ← same) s;
-              over = (let over : ltb (length (drop end text)) c ≡ early = cc in rw (← same) (sym over));
+              over = (let over : ltb (length (drop end text)) c.column ≡ early = cc in rw (← same) (sym over));
             }
 
         go : (o : Outcome E) → up_to n text ≡ o → and_line (line + n) text o ≡ broken_at bad column early
@@ -100,7 +100,7 @@ module _ {E : Type 0} (read_at : ℕ → E → List ℕ → Found) (given : ℕ 
             }
 
     -- a line more that was read
-    pub read_more_lem : (n end : ℕ) (last : E) (text : List ℕ) (size says : ℕ) → up_to n text ≡ whole end last → read_at (line + n) last (drop end text) ≡ Line size says
+    pub read_more_lem : (n end : ℕ) (last : E) (text : List ℕ) (size says : ℕ) → up_to n text ≡ whole end last → read_at (line + n) last (drop end text) ≡ a_line size says
         → up_to (suc n) text ≡ whole (end + size) (given (line + n) last says (take size (drop end text)))
     read_more_lem n end last text size says r f =
         lines_more n line 0 first text
@@ -108,7 +108,7 @@ module _ {E : Type 0} (read_at : ℕ → E → List ℕ → Found) (given : ℕ 
         ∙ ap (λ (g : Found). go_on (line + n) (drop end text) g (λ size says. whole (end + size) (given (line + n) last says (take size (drop end text))))) f
 
     -- a line more that was not
-    pub read_no_more : (n end : ℕ) (last : E) (text : List ℕ) (column : ℕ) → up_to n text ≡ whole end last → read_at (line + n) last (drop end text) ≡ Stopped column
+    pub read_no_more : (n end : ℕ) (last : E) (text : List ℕ) (column : ℕ) → up_to n text ≡ whole end last → read_at (line + n) last (drop end text) ≡ no_line column
         → up_to (suc n) text ≡ broken_at (line + n) column (ltb (length (drop end text)) column)
     read_no_more n end last text column r f =
         lines_more n line 0 first text
@@ -122,7 +122,7 @@ module _ {E : Type 0} (read_at : ℕ → E → List ℕ → Found) (given : ℕ 
       pub read : up_to n text ≡ whole at earlier
       pub size : ℕ
       pub says : ℕ
-      pub found : read_at (line + n) earlier (drop at text) ≡ Line size says
+      pub found : read_at (line + n) earlier (drop at text) ≡ a_line size says
       pub ends : end ≡ at + size
       pub gives : last ≡ given (line + n) earlier says (take size (drop at text))
 
@@ -132,11 +132,11 @@ module _ {E : Type 0} (read_at : ℕ → E → List ℕ → Found) (given : ℕ 
         at : (from : ℕ) (earlier : E) → up_to n text ≡ whole from earlier → (f : Found) → read_at (line + n) earlier (drop from text) ≡ f
             → go_on (line + n) (drop from text) f (λ size says. whole (from + size) (given (line + n) earlier says (take size (drop from text)))) ≡ whole end last
             → More n end last text
-        at from earlier r (Line size says) s f =
-            let ends : from + size ≡ end = cc in
-            let gives : given (line + n) earlier says (take size (drop from text)) ≡ last = cc in
-            record { at = from; earlier = earlier; read = r; size = size; says = says; found = s; ends = sym ends; gives = sym gives }
-        at from earlier r (Stopped c) s f = absurd (whole_broken end last _ _ _ (sym f))
+        at from earlier r (Ok l) s f =
+            let ends : from + l.size ≡ end = cc in
+            let gives : given (line + n) earlier l.number (take l.size (drop from text)) ≡ last = cc in
+            record { at = from; earlier = earlier; read = r; size = l.size; says = l.number; found = s; ends = sym ends; gives = sym gives }
+        at from earlier r (Err c) s f = absurd (whole_broken end last _ _ _ (sym f))
 
         go : (o : Outcome E) → up_to n text ≡ o → and_line (line + n) text o ≡ whole end last → More n end last text
         go (whole from earlier) r f = at from earlier r (read_at (line + n) earlier (drop from text)) refl f
@@ -155,10 +155,10 @@ module _ {E : Type 0} (read_at : ℕ → E → List ℕ → Found) (given : ℕ 
         (told : (n : ℕ) (e : E) (text : List ℕ) → FoundIn (right_at n e) text (read_at n e text))
         (only : (n : ℕ) (e : E) (text : List ℕ) (f : Found) → FoundIn (right_at n e) text f → read_at n e text ≡ f) where
       -- a line that was found is found before more text, too
-      found_before : (n : ℕ) (e : E) (x more : List ℕ) (size says : ℕ) → read_at n e x ≡ Line size says → (size ≤ length x) × (read_at n e (x ++ more) ≡ Line size says)
+      found_before : (n : ℕ) (e : E) (x more : List ℕ) (size says : ℕ) → read_at n e x ≡ a_line size says → (size ≤ length x) × (read_at n e (x ++ more) ≡ a_line size says)
       found_before n e x more size says f =
-          let t : FoundIn (right_at n e) x (Line size says) = rw f at (told n e x) in
-          (t.0, only n e (x ++ more) (Line size says) (omega (arith, length-append x more, t.0), rw (take-append-le size x more t.0) t.1))
+          let t : FoundIn (right_at n e) x (a_line size says) = rw f at (told n e x) in
+          (t.0, only n e (x ++ more) (a_line size says) (omega (arith, length-append x more, t.0), rw (take-append-le size x more t.0) t.1))
 
       -- lines that were read are read before more text, too, and are no longer than the text
       pub read_before : (n : ℕ) (text more : List ℕ) (end : ℕ) (last : E) → up_to n text ≡ whole end last → (end ≤ length text) × (up_to n (text ++ more) ≡ whole end last)
@@ -184,9 +184,9 @@ module _ {E : Type 0} (read_at : ℕ → E → List ℕ → Found) (given : ℕ 
           let r = read_before s.before text more s.end s.last s.read in
           let behind : drop s.end (text ++ more) ≡ x ++ more = drop-append-le s.end text more r.0 in
           let inside : column ≤ length x = ltb-false (length x) column (sym s.over) in
-          let wrong : FoundIn (right_at bad s.last) x (Stopped column) = rw s.stopped at (told bad s.last x) in
-          let later : read_at bad s.last (x ++ more) ≡ Stopped column =
-          only bad s.last (x ++ more) (Stopped column) (column_early x (x ++ more) column inside (take-append-le column x more inside) wrong) in
+          let wrong : FoundIn (right_at bad s.last) x (no_line column) = rw s.stopped at (told bad s.last x) in
+          let later : read_at bad s.last (x ++ more) ≡ no_line column =
+          only bad s.last (x ++ more) (no_line column) (column_early x (x ++ more) column inside (take-append-le column x more inside) wrong) in
           let here : up_to (suc s.before) (text ++ more) ≡ broken_at bad column false =
           read_no_more s.before s.end s.last (text ++ more) column r.1 (rw (behind, ← s.number) later)
           ∙ rw (behind, le-ltb (length (x ++ more)) column (omega (arith, length-append x more)), ← s.number) in
@@ -202,7 +202,7 @@ module _ {E : Type 0} (read_at : ℕ → E → List ℕ → Found) (given : ℕ 
         right_behind n text next last says r l =
             let b = read_before n text next (length text) last r in
             let behind : drop (length text) (text ++ next) ≡ next = drop-append_seam text next in
-            let f : read_at (line + n) last next ≡ Line (length next) says = only (line + n) last next (Line (length next) says) (omega arith, rw (take-length next) l) in (
+            let f : read_at (line + n) last next ≡ a_line (length next) says = only (line + n) last next (a_line (length next) says) (omega arith, rw (take-length next) l) in (
               given (line + n) last says (take (length next) (drop (length text) (text ++ next))),
               read_more_lem n (length text) last (text ++ next) (length next) says b.1 (rw behind f)
                   ∙ ap (λ (k : ℕ). whole k (given (line + n) last says (take (length next) (drop (length text) (text ++ next))))) (sym (length-append text next)),
@@ -228,15 +228,15 @@ module _ {E : Type 0} (read_at : ℕ → E → List ℕ → Found) (given : ℕ 
         mended n text bad column e =
             let s = stopped_at n text bad column true e in
             let x : List ℕ = drop s.end text in
-            let wrong : FoundIn (right_at bad s.last) x (Stopped column) = rw s.stopped at (told bad s.last x) in
+            let wrong : FoundIn (right_at bad s.last) x (no_line column) = rw s.stopped at (told bad s.last x) in
             let past : length x < column = ltb-true (length x) column (sym s.over) in
             let all : take (column - 1) x ≡ x = take_all (column - 1) x (omega arith) in
             let v = wrong.before in
             let next : right_at bad s.last (x ++ v.rest) v.goes_on.0 = rw all at v.goes_on.1 in
             let r = read_before s.before text v.rest s.end s.last s.read in
             let behind : drop s.end (text ++ v.rest) ≡ x ++ v.rest = drop-append-le s.end text v.rest r.0 in
-            let f : read_at bad s.last (x ++ v.rest) ≡ Line (length (x ++ v.rest)) v.goes_on.0 =
-            only bad s.last (x ++ v.rest) (Line (length (x ++ v.rest)) v.goes_on.0) (omega arith, rw (take-length (x ++ v.rest)) next) in
+            let f : read_at bad s.last (x ++ v.rest) ≡ a_line (length (x ++ v.rest)) v.goes_on.0 =
+            only bad s.last (x ++ v.rest) (a_line (length (x ++ v.rest)) v.goes_on.0) (omega arith, rw (take-length (x ++ v.rest)) next) in
             let size : s.end + length (x ++ v.rest) ≡ length (text ++ v.rest) =
             omega (arith, length-append x v.rest, length-append text v.rest, length-drop s.end text, r.0) in
             let here = read_more_lem s.before s.end s.last (text ++ v.rest) (length (x ++ v.rest)) v.goes_on.0 r.1 (rw (behind, ← s.number) f) in

@@ -10,10 +10,10 @@ use lib.Dec.{leb}
 use lib.ListN.{length, take, drop, take-append-drop}
 use lib.Seq.{take-append_seam, take-append-le}
 use borrow.Author.Tests.{leb-true, leb-false}
-use Rattle.lines.specs.declared.walk.Found.{Found}
 use Rattle.lines.specs.Column.{LeavesAt, line_at}
 use Rattle.lines.specs.Right.{Lines}
 use Rattle.lines.specs.Laws.{FoundIn, OneFeed}
+use Rattle.lines.specs.Steps.{Found}
 use Rattle.lines.specs.Tables.{Outcome, whole, broken_at}
 use Rattle.lines.specs.Texts.{text_from, Begun, FirstLines, WrongAt}
 use Rattle.lines.proofs.Columns.{same_lines}

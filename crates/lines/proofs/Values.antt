@@ -13,9 +13,8 @@ use Rattle.digits.specs.Room.{line_of}
 use Rattle.digits.proofs.Room.{length_line}
 use Rattle.lines.specs.declared.kinds.Kind.{Kind}
 use Rattle.lines.specs.declared.kinds.Value.TheVariants.{Bytes}
-use Rattle.lines.specs.declared.walk.Found.TheVariants.{Line}
 use Rattle.lines.specs.Right.{Spells, name_of, Right, value_in}
-use Rattle.lines.specs.Steps.{read_of}
+use Rattle.lines.specs.Steps.{a_line, read_of}
 use Rattle.lines.specs.Laws.{Fit}
 use Rattle.lines.proofs.Grammar.{name_size}
 use Rattle.lines.proofs.Laws.{reads_lines}
@@ -54,10 +53,10 @@ value_there kind text at size h k =
 
 -- a right line that was written is read, whatever stands behind it
 pub written_read : (kind : Kind) (value more : List ℕ) (says : ℕ) → Fit kind → Spells kind.value says value
-    → read_of kind (line_of (name_of kind) value ++ more) ≡ Line (length (line_of (name_of kind) value)) says
+    → read_of kind (line_of (name_of kind) value ++ more) ≡ a_line (length (line_of (name_of kind) value)) says
 written_read kind value more says fit s =
     let line : List ℕ = line_of (name_of kind) value in
-    reads_lines.only kind (line ++ more) (Line (length line) says) fit
+    reads_lines.only kind (line ++ more) (a_line (length line) says) fit
     (omega (arith, length-append line more), rw (take-append_seam line more) (record { value = value; spelled = s; whole = refl }))
 
 -- ---- a line of bytes

@@ -8,8 +8,7 @@ use lib.ListN.{length, get_or, drop, drop_of_length-le}
 use lib.Seq.{drop-cons}
 use Rattle.lines.specs.declared.kinds.Kind.{Kind}
 use Rattle.lines.specs.declared.step.State.{State}
-use Rattle.lines.specs.declared.step.Step.{Step}
-use Rattle.lines.specs.declared.step.Step.TheVariants.{On, Off}
+use Rattle.std.specs.Prelude.{Option, Some, None}
 use Rattle.lines.specs.Steps.{Walk, stop, onward, walk, step_of, begin}
 
 -- what holds before the character at a place is looked at: the walk from here ends where the walk from the beginning does
@@ -29,9 +28,9 @@ module _ (kind : Kind) (text : List ℕ) (from : ℕ) where
   at_character s at h = rw (add-one at, drop-cons text at 0 h)
 
   -- a character that goes on
-  pub walk_on : (s t : State) (at : ℕ) → at < length text → step_of kind s (get_or text at 0) ≡ On t → Walking kind text from s at → Walking kind text from t (at + 1)
+  pub walk_on : (s t : State) (at : ℕ) → at < length text → step_of kind s (get_or text at 0) ≡ Some t → Walking kind text from s at → Walking kind text from t (at + 1)
   walk_on s t at h e w =
-      let one = at_character s at h ∙ ap (λ (q : Step). onward s q (λ t. walk (step_of kind) t (drop (at + 1) text))) e in
+      let one = at_character s at h ∙ ap (λ (q : Option State). onward s q (λ t. walk (step_of kind) t (drop (at + 1) text))) e in
       record {
         begun = omega (arith, w.begun);
         inside = omega arith;
@@ -48,9 +47,9 @@ module _ (kind : Kind) (text : List ℕ) (from : ℕ) where
       ap (λ (i : ℕ). stop i (walk (step_of kind) begin (drop from text)).state) n ∙ ap (λ (u : State). stop (at - from) u) t
 
   -- at a character that does not go on
-  pub walk_off : (s : State) (at : ℕ) → at < length text → step_of kind s (get_or text at 0) ≡ Off → Walking kind text from s at
+  pub walk_off : (s : State) (at : ℕ) → at < length text → step_of kind s (get_or text at 0) ≡ None → Walking kind text from s at
       → walk (step_of kind) begin (drop from text) ≡ stop (at - from) s
-  walk_off s at h e w = stopped s at w (at_character s at h ∙ ap (λ (q : Step). onward s q (λ t. walk (step_of kind) t (drop (at + 1) text))) e)
+  walk_off s at h e w = stopped s at w (at_character s at h ∙ ap (λ (q : Option State). onward s q (λ t. walk (step_of kind) t (drop (at + 1) text))) e)
 
   -- at the end of the text
   pub walk_end : (s : State) (at : ℕ) → length text ≤ at → Walking kind text from s at → walk (step_of kind) begin (drop from text) ≡ stop (at - from) s

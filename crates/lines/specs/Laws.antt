@@ -1,17 +1,15 @@
 -- What reading a line promises.
-use Rattle.std.specs.Prelude.{◌≡◌, Bool, true, not, ◌&&◌, List, [], ◌∷◌, ◌++◌, ◌⊎◌, ℕ, ◌+◌, ◌*◌, ◌≤◌, ◌<◌, eqb, leb, length, take}
+use Rattle.std.specs.Prelude.{◌≡◌, Bool, true, not, ◌&&◌, List, [], ◌∷◌, ◌++◌, ◌⊎◌, ℕ, ◌+◌, ◌*◌, ◌≤◌, ◌<◌, eqb, leb, length, take, Ok, Err}
 use Rattle.std.proofs.Math.Pow.{are_bytes}
 use Rattle.digits.specs.declared.hex.Case.{Case}
-use Rattle.digits.specs.declared.hex.Pair.TheVariants.{BadFirst, BadSecond}
+use Rattle.digits.specs.declared.hex.BadDigit.TheVariants.{First, Second}
 use Rattle.digits.specs.Hex.{digit_in, pair_of, hex_in}
 use Rattle.lines.specs.declared.kinds.Value.{Value}
 use Rattle.lines.specs.declared.kinds.Value.TheVariants.{Fixed, Number, Bytes}
 use Rattle.lines.specs.declared.kinds.Kind.{Kind}
-use Rattle.lines.specs.declared.walk.Found.{Found}
-use Rattle.lines.specs.declared.walk.Found.TheVariants.{Line, Stopped}
 use Rattle.lines.specs.Column.{LeavesAt, line_at}
 use Rattle.lines.specs.Right.{name_of, Right, Lines}
-use Rattle.lines.specs.Steps.{read_of, either_of}
+use Rattle.lines.specs.Steps.{Found, no_line, read_of, either_of}
 
 -- a value that the laws speak of: a number from 0 or 1 on, up to no less than that; bytes, at most no fewer than at least
 abbrev pub fits : Value → Bool
@@ -32,8 +30,8 @@ pub record Fit (kind : Kind) : Type 0 where
 
 -- what a reading says of a text is so: it begins with a right line, of this size and with this number; or it leaves the right lines at this column
 abbrev pub FoundIn : (List ℕ → ℕ → Type 0) → List ℕ → Found → Type 0
-FoundIn right text (Line size says) = (size ≤ length text) × right (take size text) says
-FoundIn right text (Stopped column) = LeavesAt (Lines right) text column
+FoundIn right text (Ok line) = (line.size ≤ length text) × right (take line.size text) line.number
+FoundIn right text (Err stopped) = LeavesAt (Lines right) text stopped.column
 
 -- the lines of two sets
 abbrev pub Either : (List ℕ → ℕ → Type 0) → (List ℕ → ℕ → Type 0) → List ℕ → ℕ → Type 0
@@ -45,10 +43,10 @@ OneFeed right = (a b : List ℕ) → right (a ++ 0x0a ∷ b) → b ≡ []
 
 -- behind a name and the digits of bytes, the digit that a pair blames is the wrong character
 pub record Blamed (kind : Kind) (case : Case) (x rest : List ℕ) (a b : ℕ) : Type 0 where
-  pub first : pair_of (digit_in case a) (digit_in case b) ≡ BadFirst
-      → read_of kind (name_of kind ++ (hex_in case x ++ a ∷ b ∷ rest)) ≡ Stopped (length (name_of kind) + 2 * length x + 1)
-  pub second : pair_of (digit_in case a) (digit_in case b) ≡ BadSecond
-      → read_of kind (name_of kind ++ (hex_in case x ++ a ∷ b ∷ rest)) ≡ Stopped (length (name_of kind) + 2 * length x + 2)
+  pub first : pair_of (digit_in case a) (digit_in case b) ≡ Err First
+      → read_of kind (name_of kind ++ (hex_in case x ++ a ∷ b ∷ rest)) ≡ no_line (length (name_of kind) + 2 * length x + 1)
+  pub second : pair_of (digit_in case a) (digit_in case b) ≡ Err Second
+      → read_of kind (name_of kind ++ (hex_in case x ++ a ∷ b ∷ rest)) ≡ no_line (length (name_of kind) + 2 * length x + 2)
 
 pub record ReadsLines : Type 1 where
   -- what a reading of a line says is so

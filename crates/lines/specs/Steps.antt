@@ -1,15 +1,13 @@
 -- The walk of the code: what one character does, and where a text stops. What a reading finds by it is stated without it (`ReadsLines`, Laws.antt).
-use Rattle.std.specs.Prelude.{Bool, true, false, cond, not, ◌&&◌, ◌||◌, List, [], ◌∷◌, ℕ, suc, ◌+◌, ◌-◌, ◌*◌, ◌/◌, ◌%◌, eqb, leb, ltb, get_or}
+use Rattle.std.specs.Prelude.{Bool, true, false, cond, not, ◌&&◌, ◌||◌, List, [], ◌∷◌, ℕ, suc, ◌+◌, ◌-◌, ◌*◌, ◌/◌, ◌%◌, eqb, leb, ltb, get_or, Option, Some, None, Result, Ok, Err}
 use Rattle.digits.specs.Hex.{within, digit_in, is_value}
 use Rattle.lines.specs.declared.kinds.Name.{Name}
 use Rattle.lines.specs.declared.kinds.Value.{Value}
 use Rattle.lines.specs.declared.kinds.Value.TheVariants.{Fixed, Number, Bytes}
 use Rattle.lines.specs.declared.kinds.Kind.{Kind}
 use Rattle.lines.specs.declared.step.State.{State}
-use Rattle.lines.specs.declared.step.Step.{Step}
-use Rattle.lines.specs.declared.step.Step.TheVariants.{On, Off}
-use Rattle.lines.specs.declared.walk.Found.{Found}
-use Rattle.lines.specs.declared.walk.Found.TheVariants.{Line, Stopped}
+use Rattle.lines.specs.declared.walk.Line.{Line}
+use Rattle.lines.specs.declared.walk.Stopped.{Stopped}
 
 -- ---- one character
 
@@ -51,24 +49,24 @@ abbrev pub standing : ℕ → ℕ → ℕ → Bool → State
 standing place digits number ended = record { place = place; digits = digits; number = number; ended = ended }
 
 -- a character at a place of the name
-unfoldable pub name_step : Name → State → ℕ → Step
+unfoldable pub name_step : Name → State → ℕ → Option State
 name_step name s character =
-    cond (eqb (get_or name.bytes s.place 0) character) (On (standing (s.place + 1) s.digits s.number false)) Off
+    cond (eqb (get_or name.bytes s.place 0) character) (Some (standing (s.place + 1) s.digits s.number false)) None
 
 -- a line feed behind the name
-unfoldable pub feed_step : Value → State → Step
-feed_step value s = cond (may_end value s.digits) (On (standing s.place s.digits (said_by value s.number) true)) Off
+unfoldable pub feed_step : Value → State → Option State
+feed_step value s = cond (may_end value s.digits) (Some (standing s.place s.digits (said_by value s.number) true)) None
 
 -- another character behind the name
-unfoldable pub value_step : Value → State → ℕ → Step
+unfoldable pub value_step : Value → State → ℕ → Option State
 value_step value s character =
     cond (goes_on value s.digits s.number character)
-    (On (standing s.place (counted value s.digits) (numbered value s.number character) false)) Off
+    (Some (standing s.place (counted value s.digits) (numbered value s.number character) false)) None
 
 -- a character; none comes behind the line feed
-unfoldable pub step_of : Kind → State → ℕ → Step
+unfoldable pub step_of : Kind → State → ℕ → Option State
 step_of kind s character =
-    cond s.ended Off
+    cond s.ended None
     (cond (ltb s.place kind.name.size) (name_step kind.name s character)
     (cond (eqb character 0x0a) (feed_step kind.value s) (value_step kind.value s character)))
 
@@ -86,12 +84,12 @@ stop n s = record { passed = n; state = s }
 abbrev pub later : Walk → Walk
 later w = stop (suc w.passed) w.state
 
-abbrev pub onward : State → Step → (State → Walk) → Walk
-onward s (On t) go = later (go t)
-onward s Off go = stop 0 s
+abbrev pub onward : State → Option State → (State → Walk) → Walk
+onward s (Some t) go = later (go t)
+onward s None go = stop 0 s
 
 -- character by character, as long as one goes on
-abbrev pub walk : (State → ℕ → Step) → State → List ℕ → Walk
+abbrev pub walk : (State → ℕ → Option State) → State → List ℕ → Walk
 walk step s [] = stop 0 s
 walk step s (character ∷ text) = onward s (step s character) (λ t. walk step t text)
 
@@ -99,9 +97,19 @@ walk step s (character ∷ text) = onward s (step s character) (λ t. walk step 
 abbrev pub begin : State
 begin = standing 0 0 0 false
 
+-- what a reading finds: a line of so many characters, with its number; or the column where the text stopped being one
+abbrev pub Found : Type 0
+Found = Result Line Stopped
+
+abbrev pub a_line : ℕ → ℕ → Found
+a_line size number = Ok (record { size = size; number = number })
+
+abbrev pub no_line : ℕ → Found
+no_line column = Err (record { column = column })
+
 -- a line that was passed whole, with its number; or the column where the walk stopped
 abbrev pub found_at : Walk → Found
-found_at w = cond w.state.ended (Line w.passed w.state.number) (Stopped (w.passed + 1))
+found_at w = cond w.state.ended (a_line w.passed w.state.number) (no_line (w.passed + 1))
 
 -- the line that a text begins with
 unfoldable pub read_of : Kind → List ℕ → Found
@@ -109,6 +117,6 @@ read_of kind text = found_at (walk (step_of kind) begin text)
 
 -- the line that either of two readings found; or the later of their columns
 abbrev pub either_of : Found → Found → Found
-either_of (Line size says) g = Line size says
-either_of (Stopped c) (Line size says) = Line size says
-either_of (Stopped c) (Stopped d) = cond (ltb c d) (Stopped d) (Stopped c)
+either_of (Ok line) g = Ok line
+either_of (Err c) (Ok line) = Ok line
+either_of (Err c) (Err d) = cond (ltb c.column d.column) (Err d) (Err c)

@@ -1,7 +1,6 @@
 -- Lines one after another by a table: how each is read, from what those before it gave.
-use Rattle.std.specs.Prelude.{Bool, List, ℕ, zero, suc, ◌+◌, ltb, length, take, drop}
-use Rattle.lines.specs.declared.walk.Found.{Found}
-use Rattle.lines.specs.declared.walk.Found.TheVariants.{Line, Stopped}
+use Rattle.std.specs.Prelude.{Bool, List, ℕ, zero, suc, ◌+◌, ltb, length, take, drop, Ok, Err}
+use Rattle.lines.specs.Steps.{Found}
 
 -- all lines, how many characters they have and what they gave; or the first that is wrong, by its number and column, and whether the text ended there
 pub data Outcome (E : Type 0) : Type 0 where
@@ -10,8 +9,8 @@ pub data Outcome (E : Type 0) : Type 0 where
 
 -- a line that was read goes on; another is the broken one
 abbrev pub go_on : {E : Type 0} → ℕ → List ℕ → Found → (ℕ → ℕ → Outcome E) → Outcome E
-go_on line text (Line size says) next = next size says
-go_on line text (Stopped column) next = broken_at line column (ltb (length text) column)
+go_on line text (Ok read) next = next read.size read.number
+go_on line text (Err stopped) next = broken_at line stopped.column (ltb (length text) stopped.column)
 
 -- a table: how a line is read, by its place among the lines and from what those before it gave; and what they give with it, by what it says and by its text
 module _ {E : Type 0} (read_at : ℕ → E → List ℕ → Found) (given : ℕ → E → ℕ → List ℕ → E) where

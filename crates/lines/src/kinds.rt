@@ -4,7 +4,7 @@ ghost use Rattle.lines.specs.Right.{named};
 
 use digits::Case;
 
-// A name: the first `size` of 32 places.
+// A name: the first `size` of 32 places. It owns them, with no heap, since the name of an entry's first line is made from a number.
 #[derive(Clone, Copy)]
 pub struct Name {
     pub bytes: [u8; 32],
@@ -35,7 +35,9 @@ pub fn named(text: &[u8]) -> Name
     if 32 < text.len() {
         return Name { bytes, size: 0 };
     }
-    let size = text.len();
-    bytes[..size].copy_from_slice(text);
-    Name { bytes, size }
+    bytes[..text.len()].copy_from_slice(text);
+    Name {
+        bytes,
+        size: text.len(),
+    }
 }

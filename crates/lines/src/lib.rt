@@ -6,5 +6,5 @@ mod step;
 mod walk;
 
 pub use kinds::{Kind, Name, Value, named};
-pub use step::{State, Step, advance};
-pub use walk::{Found, begun, either, read};
+pub use step::{State, advance};
+pub use walk::{Line, Stopped, begun, either, read};

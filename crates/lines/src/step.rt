@@ -1,6 +1,5 @@
 // One character of a line, from what was passed before it.
-ghost use Rattle.std.specs.Prelude.{◌≡◌, not, ◌||◌, ◌<◌, eqb, get_or};
-ghost use Rattle.digits.specs.Hex.{within};
+ghost use Rattle.std.specs.Prelude.{◌≡◌, not, ◌||◌, ◌<◌, eqb};
 ghost use Rattle.lines.specs.Steps.{may_end, said_by, name_step, feed_step, value_step, step_of};
 
 use crate::kinds::{Kind, Name, Value};
@@ -16,34 +15,6 @@ pub struct State {
     pub ended: bool,
 }
 
-// What a character does: the line can go on from it, or no right line does.
-#[derive(Clone, Copy)]
-pub enum Step {
-    On(State),
-    Off,
-}
-
-// A character of a name; 0 behind its places.
-fn name_at(name: Name, place: usize) -> u8
-    ensures { result ≡ get_or name.bytes place 0 }
-{
-    let bytes = name.bytes;
-    if place < 32 {
-        return bytes[place];
-    }
-    0
-}
-
-// Whether a character is one of `0` to `9`.
-fn is_decimal(character: u8) -> bool
-    ensures { result ≡ within 0x30 0x39 character }
-{
-    if character < b'0' {
-        return false;
-    }
-    character <= b'9'
-}
-
 // Whether a value may end after so many digits.
 fn may_end(value: Value, digits: usize) -> bool
     ensures { result ≡ may_end value digits }
@@ -51,12 +22,7 @@ fn may_end(value: Value, digits: usize) -> bool
     match value {
         Value::Fixed(_) => true,
         Value::Number(_, _) => 1 <= digits,
-        Value::Bytes(least, _, _) => {
-            if digits % 2 != 0 {
-                return false;
-            }
-            least as usize <= digits / 2
-        }
+        Value::Bytes(least, _, _) => digits % 2 == 0 && usize::from(least) <= digits / 2,
     }
 }
 
@@ -64,74 +30,52 @@ fn may_end(value: Value, digits: usize) -> bool
 fn only_zero(state: State) -> bool
     ensures { result ≡ not (eqb state.digits 0 || not (eqb state.number 0)) }
 {
-    if state.digits == 0 {
-        return false;
-    }
-    state.number == 0
-}
-
-// A byte as a number.
-fn wide(x: u8) -> u64
-    ensures { result ≡ x }
-{
-    x as u64
+    state.digits != 0 && state.number == 0
 }
 
 // A character in a number.
-fn number_step(least: u64, most: u64, state: State, character: u8) -> Step
+#[tactic(auto, unfolding(crate::specs::Steps::value_step))]
+fn number_step(least: u64, most: u64, state: State, character: u8) -> Option<State>
     ensures { result ≡ value_step (Value.Number least most) state character }
 {
-    if !is_decimal(character) {
-        return Step::Off;
+    if !character.is_ascii_digit() || only_zero(state) {
+        return None;
     }
-    if only_zero(state) {
-        return Step::Off;
+    let digit = u64::from(character - b'0');
+    let number = state.number.checked_mul(10)?.checked_add(digit)?;
+    if number < least || most < number {
+        return None;
     }
-    let digit = wide(character - b'0');
-    if most < digit {
-        return Step::Off;
-    }
-    let number = state.number;
-    if (most - digit) / 10 < number {
-        return Step::Off;
-    }
-    let next = 10 * number + digit;
-    if next < least {
-        return Step::Off;
-    }
-    Step::On(State {
-        place: state.place,
+    Some(State {
         digits: 1,
-        number: next,
+        number,
         ended: false,
+        ..state
     })
 }
 
 // A character in the digits of bytes.
-fn bytes_step(least: u16, most: u16, case: Case, state: State, character: u8) -> Step
+#[tactic(auto, unfolding(crate::specs::Steps::value_step))]
+fn bytes_step(least: u16, most: u16, case: Case, state: State, character: u8) -> Option<State>
     ensures { result ≡ value_step (Value.Bytes least most case) state character }
 {
-    if !digits::is_digit(case, character) {
-        return Step::Off;
+    if !digits::is_digit(case, character) || usize::from(most) <= state.digits / 2 {
+        return None;
     }
-    let digits = state.digits;
-    if most as usize <= digits / 2 {
-        return Step::Off;
-    }
-    Step::On(State {
-        place: state.place,
-        digits: digits + 1,
-        number: state.number,
+    Some(State {
+        digits: state.digits + 1,
         ended: false,
+        ..state
     })
 }
 
 // A character behind the name that is no line feed.
-fn value_step(value: Value, state: State, character: u8) -> Step
+#[tactic(auto, unfolding(crate::specs::Steps::value_step))]
+fn value_step(value: Value, state: State, character: u8) -> Option<State>
     ensures { result ≡ value_step value state character }
 {
     match value {
-        Value::Fixed(_) => Step::Off,
+        Value::Fixed(_) => None,
         Value::Number(least, most) => number_step(least, most, state, character),
         Value::Bytes(least, most, case) => bytes_step(least, most, case, state, character),
     }
@@ -143,58 +87,50 @@ fn said(value: Value, number: u64) -> u64
 {
     match value {
         Value::Fixed(own) => own,
-        Value::Number(_, _) => number,
-        Value::Bytes(_, _, _) => number,
+        Value::Number(_, _) | Value::Bytes(_, _, _) => number,
     }
 }
 
 // A line feed behind the name.
-fn feed_step(value: Value, state: State) -> Step
+#[tactic(auto, unfolding(crate::specs::Steps::feed_step))]
+fn feed_step(value: Value, state: State) -> Option<State>
     ensures { result ≡ feed_step value state }
 {
-    if may_end(value, state.digits) {
-        let number = said(value, state.number);
-        return Step::On(State {
-            place: state.place,
-            digits: state.digits,
-            number,
-            ended: true,
-        });
-    }
-    Step::Off
+    let passed = State {
+        number: said(value, state.number),
+        ended: true,
+        ..state
+    };
+    may_end(value, state.digits).then_some(passed)
 }
 
 // A character of the name.
-fn name_step(name: Name, state: State, character: u8) -> Step
+#[tactic(auto, using(std::proofs::lemmas::Option::gets), unfolding(crate::specs::Steps::name_step))]
+fn name_step(name: Name, state: State, character: u8) -> Option<State>
     requires { state.place < name.size }
     ensures { result ≡ name_step name state character }
 {
-    let place = state.place;
-    if name_at(name, place) == character {
-        return Step::On(State {
-            place: place + 1,
-            digits: state.digits,
-            number: state.number,
-            ended: false,
-        });
-    }
-    Step::Off
+    let own = name.bytes.get(state.place).copied().unwrap_or(0);
+    let passed = State {
+        place: state.place + 1,
+        ended: false,
+        ..state
+    };
+    (own == character).then_some(passed)
 }
 
-// What a character does.
-pub fn advance(kind: Kind, state: State, character: u8) -> Step
+// What a character does: the line can go on from it, or no right line does.
+#[tactic(auto, unfolding(crate::specs::Steps::step_of))]
+pub fn advance(kind: Kind, state: State, character: u8) -> Option<State>
     ensures { result ≡ step_of kind state character }
 {
     if state.ended {
-        return Step::Off;
+        None
+    } else if state.place < kind.name.size {
+        name_step(kind.name, state, character)
+    } else if character == b'\n' {
+        feed_step(kind.value, state)
+    } else {
+        value_step(kind.value, state, character)
     }
-    let name = kind.name;
-    if state.place < name.size {
-        return name_step(name, state, character);
-    }
-    let value = kind.value;
-    if character == b'\n' {
-        return feed_step(value, state);
-    }
-    value_step(value, state, character)
 }

@@ -1,16 +1,22 @@
 // A line at the beginning of a text.
-ghost use Rattle.std.specs.Prelude.{◌≡◌};
-ghost use Rattle.lines.specs.Steps.{begin, read_of, either_of};
+ghost use Rattle.std.specs.Prelude.{◌≡◌, ◌≤◌};
+ghost use Rattle.lines.specs.Steps.{begin, stop, found_at, read_of, either_of};
 
 use crate::kinds::Kind;
 use crate::step;
-use crate::step::{State, Step};
+use crate::step::State;
 
-// What a text begins with: a right line of so many characters, with its number; or none, and the column where the text stopped being one.
+// A right line that a text begins with: how many characters it has, and its number.
 #[derive(Clone, Copy)]
-pub enum Found {
-    Line(usize, u64),
-    Stopped(usize),
+pub struct Line {
+    pub size: usize,
+    pub number: u64,
+}
+
+// A text begins with no right line: the column where it stopped being one.
+#[derive(Clone, Copy)]
+pub struct Stopped {
+    pub column: usize,
 }
 
 // Before the first character.
@@ -25,40 +31,43 @@ pub fn begun() -> State
     }
 }
 
+// What a walk found that passed so many characters.
+fn found(passed: usize, state: State) -> Result<Line, Stopped>
+    requires { passed ≤ 0x7fffffffffffffff }
+    ensures { result ≡ found_at (stop passed state) }
+{
+    if state.ended {
+        Ok(Line {
+            size: passed,
+            number: state.number,
+        })
+    } else {
+        Err(Stopped { column: passed + 1 })
+    }
+}
+
 // Reads the line that a text begins with.
-pub fn read(kind: Kind, text: &[u8]) -> Found
+pub fn read(kind: Kind, text: &[u8]) -> Result<Line, Stopped>
     ensures { result ≡ read_of kind text.now }
 {
     let mut state = begun();
-    let mut at = 0;
-    'characters: while at < text.len() {
-        let next = step::advance(kind, state, text[at]);
-        let Step::On(s) = next else {
-            break 'characters;
-        };
-        state = s;
-        at += 1;
+    for (at, character) in text.iter().enumerate() {
+        match step::advance(kind, state, *character) {
+            Some(next) => state = next,
+            None => return found(at, state),
+        }
     }
-    if state.ended {
-        return Found::Line(at, state.number);
-    }
-    Found::Stopped(at + 1)
+    found(text.len(), state)
 }
 
 // The line that either of two readings found, or the later of their columns: a line that may be of one kind or the other.
-pub fn either(one: Found, other: Found) -> Found
+pub fn either(one: Result<Line, Stopped>, other: Result<Line, Stopped>) -> Result<Line, Stopped>
     ensures { result ≡ either_of one other }
 {
-    match one {
-        Found::Line(_, _) => one,
-        Found::Stopped(c) => match other {
-            Found::Line(_, _) => other,
-            Found::Stopped(d) => {
-                if c < d {
-                    return other;
-                }
-                one
-            }
-        },
+    match (one, other) {
+        (Err(c), Err(d)) => Err(Stopped {
+            column: c.column.max(d.column),
+        }),
+        (Ok(line), _) | (Err(_), Ok(line)) => Ok(line),
     }
 }

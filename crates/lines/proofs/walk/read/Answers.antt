@@ -1,28 +1,27 @@
 -- `lines::walk::read` meets its contract.
-use mathlib.Core.Path.{◌≡◌, sym, ◌∙◌}
-use Prim.Native.Nat.{◌-◌}
+use mathlib.Core.Path.{◌≡◌, sym, ap, ◌∙◌}
+use mathlib.Core.List.{List}
+use Prim.Native.Nat.{ℕ, ◌-◌}
 use native.Mathlib.Omega.{arith}
-use Rattle.lines.specs.Steps.{stop, walk, step_of, begin, read_of}
+use lib.ListN.{length}
+use Rattle.lines.specs.declared.kinds.Kind.{Kind}
+use Rattle.lines.specs.declared.step.State.{State}
+use Rattle.lines.specs.Steps.{stop, walk, step_of, begin, found_at, read_of}
 use Rattle.lines.proofs.Walks.{walk_off, walk_end}
 use Rattle.lines.proofs.walk.read.Goals as goal
-use Rattle.lines.proofs.walk.read.Goals.{Left-characters, else-characters-test, then-characters-test+in_default}
 
--- where the walk ended
-ended : (c : Left-characters) → walk (step_of c.args.kind) begin c.args.text.now ≡ stop c.characters.at c.characters.state
-ended c =
-    let l = c.characters in
-    let all : l.at - 0 ≡ l.at = omega arith in
-    let last : walk (step_of c.args.kind) begin c.args.text.now ≡ stop (l.at - 0) l.state =
-    elim c.characters-test.branch [
-      | else-characters-test w ↦ walk_end _ _ 0 l.state l.at w.characters-test.false l.invariant
-      | then-characters-test+in_default w ↦ walk_off _ _ 0 l.state l.at w.characters-test.true (sym w.advance-next.ensures ∙ w.in_default.is) l.invariant
-    ] in
-    rw all at last
-
-pub returns-then-state : goal.returns-then-state
+-- where a walk stopped, the line is found there
+found_there : (kind : Kind) (text : List ℕ) (at : ℕ) (s : State) → walk (step_of kind) begin text ≡ stop (at - 0) s → found_at (stop at s) ≡ read_of kind text
 unfolding read_of
-returns-then-state c = rw (ended (goal.at.returns-then-state c).Left-characters, c.if-state.true)
+found_there kind text at s e = let all : at - 0 ≡ at = omega arith in sym (ap found_at (rw all at e))
+
+pub returns-in-None : goal.returns-in-None
+returns-in-None c =
+    let l = c.loop-at in
+    c.found.ensures ∙ found_there _ _ _ _ (walk_off _ _ 0 l.state l.at c.loop-at-test.true (sym c.advance.ensures ∙ c.in-None.is) l.invariant)
 
 pub returns : goal.returns
-unfolding read_of
-returns c = rw (ended (goal.at.returns c).Left-characters, c.if-state.false)
+returns c =
+    let l = c.loop-at in
+    let end : l.at ≡ length c.args.text.now = omega arith in
+    c.found-2.ensures ∙ rw end at (found_there _ _ _ _ (walk_end _ _ 0 l.state l.at (omega arith) l.invariant))

@@ -1,11 +1,6 @@
--- `lines::walk::read` meets its contract. The loop's invariant: the walk from here ends where the whole does. The measure is the number of characters left.
-use Prim.Native.Nat.{◌-◌}
-use lib.ListN.{length}
+-- `lines::walk::read` meets its contract. The loop's invariant: the walk from here ends where the whole does.
 use Rattle.lines.proofs.Walks.{Walking}
 use Rattle.lines.proofs.walk.read.Given as goal
 
-abbrev pub invariant-characters : goal.invariant-characters
-invariant-characters l = Walking l.kind l.text 0 l.state l.at
-
-abbrev pub decreases-characters : goal.decreases-characters
-decreases-characters l = length l.text - l.at
+abbrev pub invariant-loop-at : goal.invariant-loop-at
+invariant-loop-at l = Walking l.kind l.text 0 l.state l.at
