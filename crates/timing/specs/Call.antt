@@ -1,10 +1,8 @@
 -- What a call of the timing boundary answers, and what it leaves in the place lent to it.
-use Rattle.std.specs.Prelude.{cond, List, [], ◌∷◌, ℕ, suc, eqb}
+use Rattle.std.specs.Prelude.{cond, List, [], ◌∷◌, ℕ, suc, eqb, Option, Some, None}
 use Rattle.permutation.specs.declared.Run.{Run}
 use Rattle.permutation.specs.declared.Run.TheVariants.{Twelve, FirstEight, FirstSix}
 use Rattle.permutation.specs.Runs.{rounds_of, permute_words}
-use Rattle.digits.specs.declared.hex.Digit.{Digit}
-use Rattle.digits.specs.declared.hex.Digit.TheVariants.{Value, NoDigit}
 use Rattle.digits.specs.Hex.{digit_of}
 
 pub record Called : Type 0 where
@@ -29,9 +27,9 @@ abbrev pub front : ℕ → Called → Called
 front value rest = called (suc rest.answer) (value ∷ rest.left)
 
 -- a digit's value stands in its place, and the reading goes on; any other character ends it
-abbrev pub read_on : Digit → ℕ → List ℕ → Called → Called
-read_on (Value value) character text rest = front value rest
-read_on NoDigit character text rest = called 0 (character ∷ text)
+abbrev pub read_on : Option ℕ → ℕ → List ℕ → Called → Called
+read_on (Some value) character text rest = front value rest
+read_on None character text rest = called 0 (character ∷ text)
 
 -- the digits at the front of a text become their values
 abbrev pub read_digits : List ℕ → Called

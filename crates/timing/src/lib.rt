@@ -4,40 +4,32 @@
 ghost use Rattle.std.specs.Prelude.{◌≡◌};
 ghost use Rattle.timing.specs.Call.{called, permute_call, read_digits};
 
-use digits::Digit;
 use permutation::Run;
 
 // Runs twelve, or v1's eight or six rounds, on the words and gives their number; any other number of rounds gives 0 and leaves the words.
+#[tactic(auto, unfolding(crate::specs::Call::permute_call, permutation::specs::Runs::rounds_of, permutation::specs::Runs::constants_of, permutation::specs::Runs::constants))]
 pub fn kvistmaur_permute(rounds: u64, words: &mut [u64; 5]) -> u64
     ensures { called result words.new ≡ permute_call rounds words.old }
 {
-    if rounds == 12 {
-        permutation::permute_words(words, Run::Twelve);
-        return 12;
-    }
-    if rounds == 8 {
-        permutation::permute_words(words, Run::FirstEight);
-        return 8;
-    }
-    if rounds == 6 {
-        permutation::permute_words(words, Run::FirstSix);
-        return 6;
-    }
-    0
+    let run = match rounds {
+        12 => Run::Twelve,
+        8 => Run::FirstEight,
+        6 => Run::FirstSix,
+        _ => return 0,
+    };
+    permutation::permute_words(words, run);
+    rounds
 }
 
 // Puts the values of the digits at the front of a text in their places, up to the first character that is no digit, and gives how many they are.
 pub fn kvistmaur_read_digits(text: &mut [u8]) -> u64
     ensures { called result text.new ≡ read_digits text.old }
 {
-    let mut i = 0;
-    while i < text.len() {
-        let digit = digits::read_digit(text[i]);
-        let Digit::Value(v) = digit else {
+    for i in 0..text.len() {
+        let Some(value) = digits::read_digit(text[i]) else {
             return i as u64;
         };
-        text[i] = v;
-        i += 1;
+        text[i] = value;
     }
-    i as u64
+    text.len() as u64
 }

@@ -1,9 +1,8 @@
 -- `timing::kvistmaur_read_digits` meets its contract. The loop's invariant: reading on from its place gives what reading from the front of the first text
--- gives. The measure is the number of characters left.
+-- gives.
 use mathlib.Core.Path.{◌≡◌}
 use mathlib.Core.List.{List, [], ◌∷◌}
-use Prim.Native.Nat.{ℕ, zero, suc, ◌-◌, ◌≤◌}
-use lib.ListN.{length}
+use Prim.Native.Nat.{ℕ, zero, suc}
 use Rattle.timing.specs.Call.{Called, called, front, read_digits}
 use Rattle.timing.proofs.kvistmaur_read_digits.Given as goal
 
@@ -14,7 +13,4 @@ read_from (suc i) [] = called 0 []
 read_from (suc i) (value ∷ text) = front value (read_from i text)
 
 abbrev pub invariant-loop-i : goal.invariant-loop-i
-invariant-loop-i l = (l.i ≤ length l.text) × (length l.text ≡ length l.initial.text) × (read_from l.i l.text ≡ read_digits l.initial.text)
-
-abbrev pub decreases-loop-i : goal.decreases-loop-i
-decreases-loop-i l = length l.initial.text - l.i
+invariant-loop-i l = read_from l.i l.text ≡ read_digits l.initial.text
