@@ -4,13 +4,12 @@ use mathlib.Core.Bool.{Bool, true, false, cond, true≢false}
 use mathlib.Core.List.{List, [], ◌∷◌, ◌++◌}
 use mathlib.Core.Logic.{◌↔◌}
 use mathlib.Core.Option.{Option, none, some, some-injective, none-ne-some}
-use Prim.Native.Nat.{ℕ, zero, suc, ◌≤◌, ◌<◌}
+use Prim.Native.Nat.{ℕ, zero, suc, ◌≤◌, ◌<◌, max}
 use native.Mathlib.Omega.{arith}
 use lib.Dec.{eqb, leb}
 use lib.ListN.{length, get_elem?, drop}
 use borrow.Author.Tests.{eqb-true, eqb-false, eq-eqb, ne_eqb, leb-true, leb-false}
-use Rattle.judge.specs.declared.difference.Difference.{Difference}
-use Rattle.judge.specs.declared.difference.Difference.TheVariants.{Same, At}
+use Rattle.std.specs.Prelude.{Some, None, is_some}
 use Rattle.judge.specs.Difference.{FirstDifference, here, further, first_difference, differ, difference_of}
 use Rattle.judge.specs.Laws.{DiffersFirstAt, Tells, BehindCommon}
 
@@ -104,20 +103,16 @@ part_from [] (b ∷ found) = refl
 part_from (a ∷ wanted) [] = refl
 part_from (a ∷ wanted) (b ∷ found) = by_bytes (λ d. d.part ≡ drop d.place (b ∷ found)) a b wanted found (λ first. part_from wanted found) (λ other. refl)
 
--- texts of which the wanted one goes on behind the place differ
-pub wanted_goes_on : (wanted found : List ℕ) → (first_difference wanted found).place < length wanted → differ wanted found ≡ true
-wanted_goes_on wanted found h = other_texts wanted found (λ e. let ends = same_place wanted found e in omega (arith, ends, h))
-
--- so do texts of which the found one goes on
-pub found_goes_on : (wanted found : List ℕ) → (first_difference wanted found).place < length found → differ wanted found ≡ true
-found_goes_on wanted found h = other_texts wanted found (λ e. let ends = same_place wanted found e in let size = ap length e in omega (arith, ends, size, h))
+-- texts of which one goes on behind the place differ
+pub goes_on : (wanted found : List ℕ) → (first_difference wanted found).place < max (length wanted) (length found) → differ wanted found ≡ true
+goes_on wanted found h = other_texts wanted found (λ e. let ends = same_place wanted found e in let size = ap length e in omega (arith, ends, size, h))
 
 -- texts that both end there do not differ
-pub both_end : (wanted found : List ℕ) → length wanted ≤ (first_difference wanted found).place → length found ≤ (first_difference wanted found).place → differ wanted found ≡ false
-both_end wanted found h k = go (differ wanted found) refl
+pub both_end : (wanted found : List ℕ) → max (length wanted) (length found) ≤ (first_difference wanted found).place → differ wanted found ≡ false
+both_end wanted found h = go (differ wanted found) refl
   where
     go : (t : Bool) → differ wanted found ≡ t → t ≡ false
-    go true e = absurd ((differ_first wanted found e).there (behind_end wanted _ h ∙ sym (behind_end found _ k)))
+    go true e = absurd ((differ_first wanted found e).there (behind_end wanted _ (omega arith) ∙ sym (behind_end found _ (omega arith))))
     go false e = refl
 
 -- all of it
@@ -161,35 +156,25 @@ behind_common common = record { same = self_same common; bytes = bytes_differ co
 
 -- ---- the answer of the code
 
--- whether it tells a difference
-abbrev pub is_at : Difference → Bool
-is_at Same = false
-is_at (At place) = true
-
--- the place that it tells
-abbrev place_in : Difference → ℕ
-place_in Same = 0
-place_in (At place) = place
-
 -- it tells a difference exactly where the texts differ
-pub told : (wanted found : List ℕ) → is_at (difference_of wanted found) ≡ differ wanted found
+pub told : (wanted found : List ℕ) → is_some (difference_of wanted found) ≡ differ wanted found
 told wanted found = go (differ wanted found)
   where
-    go : (t : Bool) → is_at (cond t (At (first_difference wanted found).place) Same) ≡ t
+    go : (t : Bool) → is_some (cond t (Some (first_difference wanted found).place) None) ≡ t
     go true = refl
     go false = refl
 
--- it is `Same` exactly of one list
-pub told_same : (wanted found : List ℕ) → (difference_of wanted found ≡ Same) ↔ (wanted ≡ found)
+-- it is none exactly of one list
+pub told_same : (wanted found : List ℕ) → (difference_of wanted found ≡ None) ↔ (wanted ≡ found)
 told_same wanted found =
-    (λ e. same_texts wanted found (sym (told wanted found) ∙ ap is_at e), λ e. rw ((tells wanted found).same.1 e))
+    (λ e. same_texts wanted found (sym (told wanted found) ∙ ap is_some e), λ e. rw ((tells wanted found).same.1 e))
 
--- and `At` exactly of the place at which the texts differ first
-pub told_at : (wanted found : List ℕ) (place : ℕ) → (difference_of wanted found ≡ At place) ↔ DiffersFirstAt wanted found place
+-- and some place exactly where the texts differ first at it
+pub told_at : (wanted found : List ℕ) (place : ℕ) → (difference_of wanted found ≡ Some place) ↔ DiffersFirstAt wanted found place
 told_at wanted found place = (there, λ f. let only = (tells wanted found).only place f in rw (only.0, only.1))
   where
-    there : difference_of wanted found ≡ At place → DiffersFirstAt wanted found place
+    there : difference_of wanted found ≡ Some place → DiffersFirstAt wanted found place
     there e =
-        let differs = sym (told wanted found) ∙ ap is_at e in
-        let same : (first_difference wanted found).place ≡ place = rw differs at (ap place_in e) in
-        subst (DiffersFirstAt wanted found) same ((tells wanted found).first differs)
+        let differs = sym (told wanted found) ∙ ap is_some e in
+        let same : Some (first_difference wanted found).place ≡ Some place = rw differs at e in
+        subst (DiffersFirstAt wanted found) (cc same) ((tells wanted found).first differs)

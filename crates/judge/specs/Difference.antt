@@ -1,9 +1,7 @@
 -- The first difference of a wanted and a found text: the first place at which their bytes differ, or one of them has ended and the other has not.
-use Rattle.std.specs.Prelude.{Bool, true, false, cond, List, [], ◌∷◌, ℕ, suc, ◌+◌, eqb}
+use Rattle.std.specs.Prelude.{Bool, true, false, cond, List, [], ◌∷◌, ℕ, suc, ◌+◌, eqb, Option, Some, None}
 use Rattle.std.specs.Borrow.{Bor}
 use Rattle.judge.specs.declared.difference.Comparison.{Comparison}
-use Rattle.judge.specs.declared.difference.Difference.{Difference}
-use Rattle.judge.specs.declared.difference.Difference.TheVariants.{Same, At}
 
 -- whether two texts differ, at which place first, and the part of the found text from there
 pub record FirstDifference : Type 0 where
@@ -30,9 +28,9 @@ first_difference (a ∷ wanted) (b ∷ found) = cond (eqb a b) (further (first_d
 abbrev pub differ : List ℕ → List ℕ → Bool
 differ wanted found = (first_difference wanted found).differs
 
--- whether they differ, and at which place first, as the code tells it
-abbrev pub difference_of : List ℕ → List ℕ → Difference
-difference_of wanted found = let d = first_difference wanted found in cond d.differs (At d.place) Same
+-- the place at which they differ first, if they differ
+abbrev pub difference_of : List ℕ → List ℕ → Option ℕ
+difference_of wanted found = let d = first_difference wanted found in cond d.differs (Some d.place) None
 
 -- ---- the found text's own part
 
@@ -56,7 +54,7 @@ difference_part wanted found =
 
 -- whether and where two texts differ first, and the part of the found text from there on
 pub record Compared : Type 0 where
-  pub difference : Difference
+  pub difference : Option ℕ
   pub part : Part
 
 -- of what the code gives

@@ -5,58 +5,41 @@ ghost use Rattle.judge.specs.Difference.{first_difference, differ, difference_of
 
 use record::Field;
 
-// What is told of two texts.
-#[derive(Clone, Copy)]
-pub enum Difference {
-    // They are of one length, and the same byte by byte.
-    Same,
-    // They differ first at this place: their bytes differ, or one has ended and the other has not.
-    At(usize),
-}
-
 // The place at which two texts differ first; where they are the same, their length.
 fn first_place(wanted: &[u8], found: &[u8]) -> usize
     ensures { result ≡ (first_difference wanted.now found.now).place }
 {
-    let mut i = 0;
-    while i < wanted.len() {
-        if i == found.len() {
-            return i;
-        }
-        if wanted[i] != found[i] {
-            return i;
-        }
-        i += 1;
-    }
-    i
+    let shorter = wanted.len().min(found.len());
+    wanted
+        .iter()
+        .zip(found)
+        .position(|(ours, theirs)| *ours != *theirs)
+        .unwrap_or(shorter)
 }
 
-// Whether two texts differ, and where first.
-pub fn first_difference(wanted: &[u8], found: &[u8]) -> Difference
+// Where two texts differ first, if they differ: their bytes differ there, or one has ended and the other has not.
+pub fn first_difference(wanted: &[u8], found: &[u8]) -> Option<usize>
     ensures { result ≡ difference_of wanted.now found.now }
 {
     let place = first_place(wanted, found);
-    if place < wanted.len() {
-        return Difference::At(place);
+    if place < wanted.len().max(found.len()) {
+        Some(place)
+    } else {
+        None
     }
-    if place < found.len() {
-        return Difference::At(place);
-    }
-    Difference::Same
 }
 
 // The rest of the found text itself, from the first difference on; the empty end of the found text where that is the wanted text or a beginning of it.
 pub fn difference_tail<'a>(wanted: &[u8], found: &'a [u8]) -> &'a [u8]
     ensures { part_of result ≡ difference_part wanted.now found.entry }
 {
-    let place = first_place(wanted, found);
-    &found[place..]
+    &found[first_place(wanted, found)..]
 }
 
-// Whether and where two texts differ first, and the found text from there on.
+// Where two texts differ first, if they differ, and the found text from there on.
 #[derive(Clone, Copy)]
 pub struct Comparison<'a> {
-    pub difference: Difference,
+    pub difference: Option<usize>,
     pub part: &'a [u8],
 }
 
@@ -70,26 +53,16 @@ pub fn compare<'a>(wanted: &[u8], found: &'a [u8]) -> Comparison<'a>
     }
 }
 
-// How many bytes a field holds: as many as it says, and no more than it has places.
-fn held_size(field: Field) -> usize
-    ensures { result ≡ min field.size 256 }
+// The bytes that a field holds: as many as it says, and no more than it has places.
+pub(crate) fn held(field: &Field) -> &[u8]
+    ensures { result.now ≡ held field.now }
 {
-    if field.size < 256 {
-        return field.size;
-    }
-    256
+    &field.bytes[..field.size.min(256)]
 }
 
 // Whether the bytes that two fields hold differ.
 pub fn fields_differ(wanted: Field, found: Field) -> bool
     ensures { result ≡ differ (held wanted) (held found) }
 {
-    let ours = wanted.bytes;
-    let n = held_size(wanted);
-    let theirs = found.bytes;
-    let m = held_size(found);
-    match first_difference(&ours[..n], &theirs[..m]) {
-        Difference::Same => false,
-        Difference::At(_) => true,
-    }
+    held(&wanted) != held(&found)
 }

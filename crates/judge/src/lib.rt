@@ -5,8 +5,6 @@ mod difference;
 mod stepping;
 mod verdict;
 
-pub use difference::{
-    Comparison, Difference, compare, difference_tail, fields_differ, first_difference,
-};
+pub use difference::{Comparison, compare, difference_tail, fields_differ, first_difference};
 pub use stepping::{Step, judge_window};
 pub use verdict::judge;

@@ -1,5 +1,5 @@
 // One step of the program: from a window of the input to a report.
-ghost use Rattle.std.specs.Prelude.{◌≡◌, not, ◌||◌, length};
+ghost use Rattle.std.specs.Prelude.{◌≡◌, length};
 ghost use Rattle.judge.specs.Steps.{verdict_read, step_leaves, report_choices, step_by, step_call};
 
 use crate::verdict;
@@ -33,25 +33,14 @@ pub enum Step {
 fn verdict_on(reading: Reading) -> Verdict
     ensures { result ≡ verdict_read reading }
 {
-    let answer = reading.answer;
-    let content = reading.content;
-    if answers::is_done(answer) {
-        return verdict::judge(content);
+    if answers::is_done(reading.answer) {
+        verdict::judge(reading.content)
+    } else {
+        Verdict::Unread {
+            line: reading.line,
+            column: reading.column,
+        }
     }
-    Verdict::Unread {
-        line: reading.line,
-        column: reading.column,
-    }
-}
-
-// Whether what a window tells is final: the input has ended, or the window did not end too early.
-fn is_final(early: bool, ended: bool) -> bool
-    ensures { result ≡ (ended || not early) }
-{
-    if ended {
-        return true;
-    }
-    !early
 }
 
 // The report on what was read.
@@ -59,23 +48,21 @@ fn report_on(reading: Reading, number: u64, out: &mut [u8]) -> Step
     ensures { step_leaves result out.new ≡ step_by reading number out.old (report_choices reading number (length out.old)) }
 {
     let verdict = verdict_on(reading);
-    let done = report::report(number, verdict, out);
-    let answer = done.answer;
-    if !answers::is_done(answer) {
+    let Ok(written) = report::report(number, verdict, out) else {
         return Step::Short;
-    }
-    let answer = reading.answer;
-    if answers::is_done(answer) {
-        return Step::Judged {
+    };
+    if answers::is_done(reading.answer) {
+        Step::Judged {
             verdict,
             taken: reading.taken,
-            written: done.written,
-        };
-    }
-    Step::Stopped {
-        line: reading.line,
-        column: reading.column,
-        written: done.written,
+            written,
+        }
+    } else {
+        Step::Stopped {
+            line: reading.line,
+            column: reading.column,
+            written,
+        }
     }
 }
 
@@ -84,14 +71,11 @@ fn report_on(reading: Reading, number: u64, out: &mut [u8]) -> Step
 pub fn judge_window(window: &[u8], ended: bool, number: u64, out: &mut [u8]) -> Step
     ensures { step_leaves result out.new ≡ step_call window.now ended number out.old }
 {
-    if window.len() == 0 {
-        if ended {
-            return Step::End;
-        }
-        return Step::Wait;
+    if window.is_empty() {
+        return if ended { Step::End } else { Step::Wait };
     }
     let reading = record::read_any(window);
-    if !is_final(reading.early, ended) {
+    if reading.early && !ended {
         return Step::Wait;
     }
     report_on(reading, number, out)

@@ -1,7 +1,7 @@
 -- `judge::difference::difference_tail` meets its contract.
 use mathlib.Core.Path.{◌≡◌, sym, ap, ◌∙◌}
 use mathlib.Core.List.{List}
-use Prim.Native.Nat.{ℕ, ◌+◌, ◌-◌, ◌≤◌}
+use Prim.Native.Nat.{ℕ, ◌+◌, ◌-◌}
 use native.Mathlib.Omega.{arith}
 use lib.ListN.{length, take, drop, length-drop}
 use lib.Seq.{take_all}
@@ -14,24 +14,17 @@ to_end : (x : List ℕ) (i : ℕ) → take (length x - i) (drop i x) ≡ drop i 
 to_end x i = take_all (length x - i) (drop i x) (omega (arith, length-drop i x))
 
 pub slice_bounds-result-count : goal.slice_bounds-result-count
-slice_bounds-result-count c =
-    let within : (c.first_place-place.result ≤ length c.args.found.now) = let a = c.args in
-    omega (arith, c.first_place-place.ensures, (inside a.wanted.now a.found.now).1) in
-    within
+slice_bounds-result-count c = omega (arith, c.first_place.ensures, (inside c.args.wanted.now c.args.found.now).1)
 
 pub slice_bounds-result-start : goal.slice_bounds-result-start
-slice_bounds-result-start c =
-    let within : (c.first_place-place.result ≤ length c.args.found.now) = let a = c.args in
-    omega (arith, c.first_place-place.ensures, (inside a.wanted.now a.found.now).1) in
-    within
+slice_bounds-result-start c = omega (arith, c.first_place.ensures, (inside c.args.wanted.now c.args.found.now).1)
 
 pub returns : goal.returns
 returns c =
-    let e = c.first_place-place.ensures in
+    let e = c.first_place.ensures in
     let a = c.args in
-    let wanted = a.wanted.now in
-    let found = a.found.now in
-    let place = (first_difference wanted found).place in
-    let bytes = to_end found _ ∙ ap (λ (i : ℕ). drop i found) e ∙ sym (part_from wanted found) in
-    let offset : c.first_place-place.result + a.found.ref_ptr.1 ≡ a.found.ref_ptr.1 + place = omega (arith, e) in
-    λ j. record { bytes = bytes j; block = a.found.ref_ptr.0; offset = offset j }
+    let place = (first_difference a.wanted.now a.found.now).place in
+    let bytes : drop c.first_place.result a.found.now ≡ (first_difference a.wanted.now a.found.now).part =
+    ap (λ (i : ℕ). drop i a.found.now) e ∙ sym (part_from a.wanted.now a.found.now) in
+    let offset : c.first_place.result + a.found.ref_ptr.1 ≡ a.found.ref_ptr.1 + place = omega (arith, e) in
+    λ j. record { bytes = (to_end a.found.now c.first_place.result ∙ bytes) j; block = a.found.ref_ptr.0; offset = offset j }

@@ -1,39 +1,46 @@
 -- `judge::stepping::judge_window` meets its contract.
 use mathlib.Core.Path.{◌≡◌, sym, ap, ◌∙◌}
 use lib.ListN.{length}
-use borrow.Author.Tests.{eq-eqb, ne_eqb}
+use mathlib.Core.Bool.{Bool, true, false}
+use mathlib.Core.List.{List}
+use Prim.Native.Nat.{ℕ}
+use lib.Dec.{eqb}
+use Rattle.std.proofs.Math.Bool.{or-true}
 use Rattle.record.specs.declared.reading.Reading.{Reading}
 use Rattle.record.specs.Calls.{read_any}
 use Rattle.judge.specs.Steps.{is_final_in, is_final, report_choices, step_by, step_call}
 use Rattle.judge.proofs.stepping.judge_window.Goals as goal
+use Rattle.judge.proofs.stepping.judge_window.Goals.{else-reading-via-then-reading+else-not-ended, else-reading-via-else-reading}
+
+-- a step on a window that tells enough
+final : (window : List ℕ) (ended : Bool) (number : ℕ) (out : List ℕ) → eqb (length window) 0 ≡ false → is_final window ended ≡ true
+    → step_call window ended number out ≡ step_by (read_any window) number out (report_choices (read_any window) number (length out))
+unfolding step_call step_by
+final window ended number out some told = rw (some, told)
 
 pub returns-then-ended : goal.returns-then-ended
 unfolding step_call step_by
-returns-then-ended c = rw (eq-eqb _ 0 c.if-window-eq0.true, c.if-ended.true)
+returns-then-ended c = rw (sym c.is_empty.ensures ∙ c.if-is_empty.true, c.if-ended.true)
 
-pub returns-then-window-eq0 : goal.returns-then-window-eq0
+pub returns-else-ended : goal.returns-else-ended
 unfolding step_call step_by
-returns-then-window-eq0 c = rw (eq-eqb _ 0 c.if-window-eq0.true, c.if-ended.false)
+returns-else-ended c = rw (sym c.is_empty.ensures ∙ c.if-is_empty.true, c.if-ended.false)
 
-pub returns-then-not-is_final : goal.returns-then-not-is_final
+pub returns-then-not-ended : goal.returns-then-not-ended
 unfolding step_call step_by
-returns-then-not-is_final c =
-    let told : (let a = c.args in is_final a.window.now a.ended ≡ c.is_final.result) = let a = c.args in
-    sym (c.is_final.ensures ∙ ap (λ (r : Reading). is_final_in r a.ended) c.read_any-reading.ensures) in
-    let a = c.args in
-    rw (ne_eqb (length a.window.now) 0 c.if-window-eq0.false, told ∙ c.if-not-is_final.true)
+returns-then-not-ended c =
+    let early = ap (λ (r : Reading). r.early) (sym c.read_any-reading.ensures) ∙ c.if-reading.true in
+    rw (sym c.is_empty.ensures ∙ c.if-is_empty.false, c.if-not-ended.true, early)
 
 pub returns : goal.returns
-unfolding step_call step_by
 returns c =
-    let told : (let a = c.args in is_final a.window.now a.ended ≡ c.is_final.result) = let a = c.args in
-    sym (c.is_final.ensures ∙ ap (λ (r : Reading). is_final_in r a.ended) c.read_any-reading.ensures) in
-    let final : (let a = c.args in
-    step_call a.window.now a.ended a.number a.out.now
-    ≡ step_by (read_any a.window.now) a.number a.out.now (report_choices (read_any a.window.now) a.number (length a.out.now))) = let a = c.args in
-    rw (ne_eqb (length a.window.now) 0 c.if-window-eq0.false, told ∙ c.if-not-is_final.false) in
-    let begun = c in
-    let a = begun.args in
+    let a = c.args in
+    let told : is_final_in (read_any a.window.now) a.ended ≡ true =
+    ap (λ (r : Reading). is_final_in r a.ended) (sym c.read_any-reading.ensures)
+    ∙ elim c.else-reading.branch [
+      | else-reading-via-then-reading+else-not-ended w ↦ rw (w.if-not-ended.false)
+      | else-reading-via-else-reading w ↦ rw (w.if-reading.false) (or-true a.ended)
+    ] in
     c.report_on.ensures
-    ∙ ap (λ (r : Reading). step_by r a.number a.out.now (report_choices r a.number (length a.out.now))) begun.read_any-reading.ensures
-    ∙ sym final
+    ∙ ap (λ (r : Reading). step_by r a.number a.out.now (report_choices r a.number (length a.out.now))) c.read_any-reading.ensures
+    ∙ sym (final a.window.now a.ended a.number a.out.now (sym c.is_empty.ensures ∙ c.if-is_empty.false) told)

@@ -50,18 +50,14 @@ by-report : (reading : Reading) (number : ℕ) (out : List ℕ) (verdict : Verdi
     → step_by reading number out (report_choices reading number (length out)) ≡ made reading leaves
 by-report reading number out verdict leaves v l = made-first reading number out ∙ ap (made reading) (sym (l ∙ ap (λ (v : Verdict). report_call number v out) v))
 
-pub returns-then-not-is_done : goal.returns-then-not-is_done
-returns-then-not-is_done c =
-    sym (by-report _ _ _ _ _ c.verdict_on-verdict.ensures c.report-done.ensures ∙ rw (sym c.is_done.ensures ∙ c.if-not-is_done.true))
+pub returns-in_default : goal.returns-in_default
+returns-in_default c = sym (by-report _ _ _ _ _ c.verdict_on-verdict.ensures c.in_default.ensures)
 
 pub returns-then-is_done : goal.returns-then-is_done
 returns-then-is_done c =
     sym
-    (by-report _ _ _ _ _ c.verdict_on-verdict.ensures c.report-done.ensures
-    ∙ rw (sym c.is_done.ensures ∙ c.if-not-is_done.false, sym c.is_done-2.ensures ∙ c.if-is_done.true, sym c.verdict_on-verdict.ensures))
+    (by-report _ _ _ _ _ c.verdict_on-verdict.ensures c.in-Ok.ensures
+    ∙ rw (sym c.is_done.ensures ∙ c.if-is_done.true, sym c.verdict_on-verdict.ensures))
 
-pub returns : goal.returns
-returns c =
-    sym
-    (by-report _ _ _ _ _ c.verdict_on-verdict.ensures c.report-done.ensures
-    ∙ rw (sym c.is_done.ensures ∙ c.if-not-is_done.false, sym c.is_done-2.ensures ∙ c.if-is_done.false))
+pub returns-else-is_done : goal.returns-else-is_done
+returns-else-is_done c = sym (by-report _ _ _ _ _ c.verdict_on-verdict.ensures c.in-Ok.ensures ∙ rw (sym c.is_done.ensures ∙ c.if-is_done.false))

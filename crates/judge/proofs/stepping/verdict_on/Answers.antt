@@ -7,6 +7,6 @@ pub returns-then-is_done : goal.returns-then-is_done
 unfolding verdict_read
 returns-then-is_done c = rw (sym c.is_done.ensures ∙ c.if-is_done.true) c.judge.ensures
 
-pub returns : goal.returns
+pub returns-else-is_done : goal.returns-else-is_done
 unfolding verdict_read
-returns c = rw (sym c.is_done.ensures ∙ c.if-is_done.false)
+returns-else-is_done c = rw (sym c.is_done.ensures ∙ c.if-is_done.false)

@@ -35,39 +35,39 @@ by-fields r ours sound e same =
     let p = parts-of r ours e in
     rw (sound, eq-eqb _ _ (same ∙ p.same-rounds), p.same-cipher, p.same_tag)
 
-pub returns-then-bad-ne0 : goal.returns-then-bad-ne0
+pub returns-then-line-ne0 : goal.returns-then-line-ne0
 unfolding verdict_on
-returns-then-bad-ne0 c =
-    let bad = c.first_broken-bad.ensures in
+returns-then-line-ne0 c =
+    let line = c.first_broken-line.ensures in
     let r = c.args.entry in
-    rw (ne_eqb (broken One r) 0 (λ e. c.if-bad-ne0.true (bad ∙ e)), ← bad)
+    rw (ne_eqb (broken One r) 0 (λ e. c.if-line-ne0.true (line ∙ e)), ← line)
 
 pub returns-then-entry-ours : goal.returns-then-entry-ours
 unfolding verdict_on
 returns-then-entry-ours c =
     let r = c.args.entry in
     let ours = parts-of _ _ c.seal_record-ours.ensures in
-    rw (sym c.first_broken-bad.ensures ∙ c.if-bad-ne0.false, ne_eqb r.rounds (our_rounds r) (λ e. c.if-entry-ours.true (e ∙ sym ours.same-rounds)))
+    rw (sym c.first_broken-line.ensures ∙ c.if-line-ne0.false, ne_eqb r.rounds (our_rounds r) (λ e. c.if-entry-ours.true (e ∙ sym ours.same-rounds)))
 
 pub returns-then-fields_differ : goal.returns-then-fields_differ
 returns-then-fields_differ c =
     rw (
-      by-fields _ _ (sym c.first_broken-bad.ensures ∙ c.if-bad-ne0.false) c.seal_record-ours.ensures c.if-entry-ours.false,
+      by-fields _ _ (sym c.first_broken-line.ensures ∙ c.if-line-ne0.false) c.seal_record-ours.ensures c.if-entry-ours.false,
       sym c.fields_differ.ensures ∙ c.if-fields_differ.true,
     )
 
 pub returns-then-fields_differ-2 : goal.returns-then-fields_differ-2
 returns-then-fields_differ-2 c =
     rw (
-      by-fields _ _ (sym c.first_broken-bad.ensures ∙ c.if-bad-ne0.false) c.seal_record-ours.ensures c.if-entry-ours.false,
+      by-fields _ _ (sym c.first_broken-line.ensures ∙ c.if-line-ne0.false) c.seal_record-ours.ensures c.if-entry-ours.false,
       sym c.fields_differ.ensures ∙ c.if-fields_differ.false,
-      sym c.fields_differ-2.ensures ∙ c.if-fields_differ-2.true,
+      sym c.fields_differ-else-fields_differ.ensures ∙ c.if-fields_differ-2.true,
     )
 
-pub returns : goal.returns
-returns c =
+pub returns-else-fields_differ-2 : goal.returns-else-fields_differ-2
+returns-else-fields_differ-2 c =
     rw (
-      by-fields _ _ (sym c.first_broken-bad.ensures ∙ c.if-bad-ne0.false) c.seal_record-ours.ensures c.if-entry-ours.false,
+      by-fields _ _ (sym c.first_broken-line.ensures ∙ c.if-line-ne0.false) c.seal_record-ours.ensures c.if-entry-ours.false,
       sym c.fields_differ.ensures ∙ c.if-fields_differ.false,
-      sym c.fields_differ-2.ensures ∙ c.if-fields_differ-2.false,
+      sym c.fields_differ-else-fields_differ.ensures ∙ c.if-fields_differ-2.false,
     )
