@@ -67,21 +67,16 @@ const TABLE: [Row; ROWS] = [
 pub fn is_set(set: u64) -> bool
     ensures { result ≡ is_set set }
 {
-    if set == 0 {
-        return false;
-    }
-    set <= (ROWS as u64)
+    (1..=ROWS as u64).contains(&set)
 }
 
 // Where a set's row stands; an unknown set has the first.
+#[tactic(auto, using(crate::proofs::Rows::known_set, crate::proofs::Rows::unknown_set), unfolding(ascon::specs::Sets::table, ascon::specs::Sets::row_of))]
 fn index_of(set: u64) -> usize
     ensures ascon128_value { get_or table result ascon128 ≡ row_of set }
     ensures upper_bound { result < length table }
 {
-    if !is_set(set) {
-        return 0;
-    }
-    (set - 1) as usize
+    if is_set(set) { (set - 1) as usize } else { 0 }
 }
 
 // The row of a set.
@@ -127,14 +122,16 @@ pub fn first_word(set: u64) -> u64
 }
 
 // The padded blocks of associated data.
+#[tactic(auto, using(crate::proofs::Rows::row_sizes), unfolding(ascon::specs::Rounds::ad_blocks))]
 fn ad_blocks(set: u64, ad: u32) -> u64
     ensures value { result ≡ ad_blocks (row_of set).block ad }
     ensures upper_bound { result ≤ 4294967296 }
 {
     if ad == 0 {
-        return 0;
+        0
+    } else {
+        (ad as u64) / (block_length(set) as u64) + 1
     }
-    (ad as u64) / (block_length(set) as u64) + 1
 }
 
 // The rounds of a message, by the lengths of its data and of its text.
@@ -146,17 +143,17 @@ pub fn message_rounds(set: u64, ad: u32, text: u32) -> u64
 }
 
 // The first tests of a start: set, key length, nonce length.
+#[tactic(auto, unfolding(crate::specs::Start::start_test))]
 pub fn start_test(set: u64, key: usize, nonce: usize) -> Answer
     ensures { result ≡ start_test set key nonce }
 {
     if !is_set(set) {
-        return Answer::UnknownSet;
+        Answer::UnknownSet
+    } else if key != key_length(set) {
+        Answer::KeyLength
+    } else if nonce != key_length(set) {
+        Answer::NonceLength
+    } else {
+        Answer::Done
     }
-    if key != key_length(set) {
-        return Answer::KeyLength;
-    }
-    if nonce != key_length(set) {
-        return Answer::NonceLength;
-    }
-    Answer::Done
 }

@@ -8,30 +8,22 @@ use Rattle.ascon.specs.Rounds.{text_blocks, message_rounds}
 use Rattle.sets.proofs.Rows.{row_sizes}
 use Rattle.sets.proofs.message_rounds.Goals as goal
 
+-- the rounds of all blocks are few
+few : (rounds ad text block : ℕ) → rounds ≤ 8 → ad ≤ 4_294_967_296 → text ≤ 4_294_967_295 → rounds * (ad + text / block) ≤ 68_719_476_728
+few rounds ad text block r d t =
+    let most : rounds * (ad + text / block) ≤ 8 * (ad + text / block) = mul-le-mul_right (ad + text / block) r in
+    omega (arith, div-le_self text block)
+
 pub nonzero_div-blocks : goal.nonzero_div-blocks
 nonzero_div-blocks c = rw c.block_length.ensures (row_sizes c.args.set).some_block
 
 pub overflow_mul-result : goal.overflow_mul-result
 overflow_mul-result c =
-    let few : (let a = c.args in
-    c.rounds_between.result * (c.ad_blocks.result + a.text / c.block_length.result) ≤ 68_719_476_728) = let a = c.args in
-    let blocks : ℕ = c.ad_blocks.result + a.text / c.block_length.result in
-    let bound : blocks ≤ 8_589_934_591 = omega (arith, div-le_self a.text c.block_length.result) in
-    let most : c.rounds_between.result * blocks ≤ 8 * blocks =
-    mul-le-mul_right blocks (rw c.rounds_between.ensures (row_sizes a.set).rounds) in
-    omega arith in
-    omega (arith, few)
+    omega (arith, few c.rounds_between.result c.ad_blocks.result c.args.text c.block_length.result (rw c.rounds_between.ensures (row_sizes c.args.set).rounds) c.ad_blocks.ensures.upper_bound (omega arith))
 
 pub overflow_add-result : goal.overflow_add-result
 overflow_add-result c =
-    let few : (let a = c.args in
-    c.rounds_between.result * (c.ad_blocks.result + a.text / c.block_length.result) ≤ 68_719_476_728) = let a = c.args in
-    let blocks : ℕ = c.ad_blocks.result + a.text / c.block_length.result in
-    let bound : blocks ≤ 8_589_934_591 = omega (arith, div-le_self a.text c.block_length.result) in
-    let most : c.rounds_between.result * blocks ≤ 8 * blocks =
-    mul-le-mul_right blocks (rw c.rounds_between.ensures (row_sizes a.set).rounds) in
-    omega arith in
-    omega (arith, few)
+    omega (arith, few c.rounds_between.result c.ad_blocks.result c.args.text c.block_length.result (rw c.rounds_between.ensures (row_sizes c.args.set).rounds) c.ad_blocks.ensures.upper_bound (omega arith))
 
 pub returns : goal.returns
 unfolding message_rounds text_blocks rounds_of constants_of constants
