@@ -6,29 +6,30 @@ ghost use Rattle.permutation.specs.Strings.{same};
 ghost use Rattle.tags.specs.Tags.{sixteen_of, given_tag};
 
 // A string of at most 16 bytes with zeros behind it; zeros for a longer one.
+#[tactic(auto, using(permutation::proofs::Strings::drop_zeros), unfolding(crate::specs::Tags::sixteen_of))]
 pub fn sixteen(string: &[u8]) -> [u8; 16]
     ensures { result ≡ sixteen_of string.now }
 {
     let mut all = [0; 16];
-    if 16 < string.len() {
-        return all;
+    if string.len() <= 16 {
+        all[..string.len()].copy_from_slice(string);
     }
-    all[..string.len()].copy_from_slice(string);
     all
 }
 
 // Puts the first bytes of a tag into a place of at most 16; a longer place stays as it is.
+#[tactic(auto, unfolding(crate::specs::Tags::given_tag))]
 pub fn give_tag(ours: [u8; 16], tag: &mut [u8])
     ensures { tag.new ≡ given_tag ours tag.old }
 {
     let n = tag.len();
-    if 16 < n {
-        return;
+    if n <= 16 {
+        tag.copy_from_slice(&ours[..n]);
     }
-    tag.copy_from_slice(&ours[..n]);
 }
 
-// Whether two strings are one; where their lengths agree, every byte is looked at.
+// Whether two strings are one; where their lengths agree, every byte is looked at, which `==` would not do.
+#[tactic(auto, using(crate::proofs::Compared::same_lengths))]
 pub fn same_tag(ours: &[u8], theirs: &[u8]) -> bool
     ensures { result ≡ same theirs.now ours.now }
 {
@@ -36,10 +37,8 @@ pub fn same_tag(ours: &[u8], theirs: &[u8]) -> bool
         return false;
     }
     let mut equal = true;
-    let mut i = 0;
-    while i < theirs.len() {
-        equal = equal & (theirs[i] == ours[i]);
-        i += 1;
+    for (their, our) in theirs.iter().zip(ours) {
+        equal &= their == our;
     }
     equal
 }
