@@ -4,20 +4,18 @@
 
 ghost use Rattle.std.specs.Prelude.{◌≡◌, ◌≤◌, length};
 
-use judge::Difference;
-
 // The number of standard output.
 const STDOUT_FILENO: i32 = 1;
 
 // Writes the place of a difference, or that there is none.
-fn say_place(difference: Difference) {
+fn say_place(difference: Option<usize>) {
     match difference {
-        Difference::Same => {
-            io::write_all(STDOUT_FILENO, b" same");
-        }
-        Difference::At(place) => {
+        Some(place) => {
             io::write_all(STDOUT_FILENO, b" at=");
             io::print_decimal(STDOUT_FILENO, place as u64);
+        }
+        None => {
+            io::write_all(STDOUT_FILENO, b" same");
         }
     }
 }
@@ -38,21 +36,17 @@ fn tell(wanted: &[u8], found: &[u8]) {
 fn size(number: u64) -> usize
     ensures { result ≤ 3 }
 {
-    if number < 2 {
-        return 0;
+    match number {
+        0..=1 => 0,
+        2..=3 => 1,
+        4..=7 => 2,
+        _ => 3,
     }
-    if number < 4 {
-        return 1;
-    }
-    if number < 8 {
-        return 2;
-    }
-    3
 }
 
 // The letter `a` or `b` of an even or an odd number.
 fn letter(number: u64) -> u8 {
-    97 + (number % 2) as u8
+    b'a' + (number % 2) as u8
 }
 
 // The letters of a number: its binary digits, the lowest first.
@@ -64,18 +58,10 @@ fn letters(number: u64) -> [u8; 3]
 
 // Tells of the texts of two numbers.
 fn tell_short(number: u64, other: u64) {
-    let wanted = letters(number);
-    let wanted_size = size(number);
-    let found = letters(other);
-    let found_size = size(other);
-    tell(&wanted[..wanted_size], &found[..found_size]);
-}
-
-// Tells of the text of a number beside all fifteen.
-fn tell_each(number: u64) {
-    for other in 1..16 {
-        tell_short(number, other);
-    }
+    tell(
+        &letters(number)[..size(number)],
+        &letters(other)[..size(other)],
+    );
 }
 
 // Tells of a text beside each of its beginnings, either way, and beside itself.
@@ -90,15 +76,17 @@ fn tell_beginnings(text: &[u8]) {
 // Tells of twenty times one letter beside the same with another letter at each place.
 fn tell_changes() {
     for i in 0..20 {
-        let mut other = [97; 20];
-        other[i] = 98;
-        tell(b"aaaaaaaaaaaaaaaaaaaa", &other);
+        let mut other = [b'a'; 20];
+        other[i] = b'b';
+        tell(&[b'a'; 20], &other);
     }
 }
 
 fn main() {
     for number in 1..16 {
-        tell_each(number);
+        for other in 1..16 {
+            tell_short(number, other);
+        }
     }
     tell_beginnings(b"abcdefghijklmnopqrst");
     tell_changes();
