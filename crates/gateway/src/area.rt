@@ -1,6 +1,7 @@
 // The spelling of a stream's state in an area of 112 bytes: the words, the key, and the numbers, each word and number in eight bytes, high byte first.
-ghost use Rattle.std.specs.Prelude.{◌≡◌, ◌+◌, ◌*◌, ◌%◌, ◌≤◌, ◌<◌, length, get_or, set, take, drop};
-ghost use Rattle.permutation.specs.Strings.{bytes_of, value_of, string_of_words};
+ghost use Rattle.std.specs.Prelude.{◌≡◌, ◌+◌, ◌*◌, ◌≤◌, length, take, drop, cond, leb};
+ghost use Rattle.std.specs.declared.option.Option.TheVariants.{Some, None};
+ghost use Rattle.permutation.specs.Strings.{string_of_words};
 ghost use Rattle.gateway.specs.Laying.{laid};
 ghost use Rattle.gateway.specs.Spelling.{state_length, phase_number, numbers_of, spelling, number_at, direction_of, phase_of, is_spelling, state_in};
 
@@ -9,109 +10,68 @@ use stream::{Direction, Phase, Stream};
 // The bytes of an area.
 pub(crate) const LENGTH: usize = 112;
 
-// ---- numbers in bytes
+// ---- parts of an area
 
-// The byte at a place, as a number.
-fn byte_at(area: &[u8], at: usize) -> u64
-    requires { at < length area.now }
-    ensures value { result ≡ get_or area.now at 0 }
-    ensures upper_bound { result < 256 }
+// The bytes of a part that begins at a place.
+fn part<const N: usize>(area: &[u8; LENGTH], at: usize) -> [u8; N]
+    requires { at + N ≤ state_length }
+    ensures { result ≡ take N (drop at area.now) }
 {
-    area[at] as u64
-}
-
-// The number of the four bytes at a place.
-fn four_at(area: &[u8], at: usize) -> u64
-    requires { at + 4 ≤ length area.now }
-    ensures value { result ≡ value_of (take 4 (drop at area.now)) }
-    ensures upper_bound { result < 4294967296 }
-{
-    byte_at(area, at) * 16777216
-        + byte_at(area, at + 1) * 65536
-        + byte_at(area, at + 2) * 256
-        + byte_at(area, at + 3)
+    let mut bytes = [0; N];
+    bytes.copy_from_slice(&area[at..at + N]);
+    bytes
 }
 
 // The number of the eight bytes at a place.
-fn number_at(area: &[u8], at: usize) -> u64
-    requires { at + 8 ≤ length area.now }
+fn number_at(area: &[u8; LENGTH], at: usize) -> u64
+    requires { at + 8 ≤ state_length }
     ensures { result ≡ number_at area.now at }
 {
-    four_at(area, at) * 4294967296 + four_at(area, at + 4)
+    u64::from_be_bytes(part(area, at))
 }
 
-// Puts the lowest byte of a number.
-fn put_low(area: &mut [u8], at: usize, number: u64)
-    requires { at < length area.old }
-    ensures area_after { area.new ≡ set area.old at (number % 256) }
-    ensures area_len_unchanged { length area.new ≡ length area.old }
+// Puts bytes from a place on.
+fn put(area: &mut [u8; LENGTH], at: usize, bytes: &[u8])
+    requires { at + length bytes.now ≤ state_length }
+    ensures { area.new ≡ laid area.old at bytes.now }
 {
-    area[at] = (number % 256) as u8;
-}
-
-// Puts the eight bytes of a number from a place on.
-fn put_number(area: &mut [u8], at: usize, number: u64)
-    requires { at + 8 ≤ length area.old }
-    ensures area_after { area.new ≡ laid area.old at (bytes_of 8 number) }
-    ensures area_len_unchanged { length area.new ≡ length area.old }
-{
-    put_low(&mut *area, at, number / 72057594037927936);
-    let at1 = at + 1;
-    put_low(&mut *area, at1, number / 281474976710656);
-    let at2 = at1 + 1;
-    put_low(&mut *area, at2, number / 1099511627776);
-    let at3 = at2 + 1;
-    put_low(&mut *area, at3, number / 4294967296);
-    let at4 = at3 + 1;
-    put_low(&mut *area, at4, number / 16777216);
-    let at5 = at4 + 1;
-    put_low(&mut *area, at5, number / 65536);
-    let at6 = at5 + 1;
-    put_low(&mut *area, at6, number / 256);
-    put_low(area, at6 + 1, number);
+    area[at..at + bytes.len()].copy_from_slice(bytes);
 }
 
 // Puts numbers, eight bytes each, from a place on.
-fn put_numbers(area: &mut [u8], at: usize, numbers: &[u64])
-    requires { at + 8 * length numbers.now ≤ length area.old }
-    ensures area_after { area.new ≡ laid area.old at (string_of_words numbers.now) }
-    ensures area_len_unchanged { length area.new ≡ length area.old }
+fn put_numbers(area: &mut [u8; LENGTH], at: usize, numbers: &[u64])
+    requires { at + 8 * length numbers.now ≤ state_length }
+    ensures { area.new ≡ laid area.old at (string_of_words numbers.now) }
 {
-    let mut place = at;
-    let mut i = 0;
-    while i < numbers.len() {
-        put_number(&mut *area, place, numbers[i]);
-        place += 8;
-        i += 1;
+    for (i, number) in numbers.iter().enumerate() {
+        put(area, at + 8 * i, &number.to_be_bytes());
     }
 }
 
 // ---- directions and phases
 
-// The direction of a number up to 2.
-fn direction_of(number: u64) -> Direction
-    ensures { result ≡ direction_of number }
+// The direction of a number, which is up to 2.
+fn direction_of(number: u64) -> Option<Direction>
+    ensures { result ≡ cond (leb number 2) (Some (direction_of number)) None }
 {
-    if number == 0 {
-        return Direction::Sealing;
+    match number {
+        0 => Some(Direction::Sealing),
+        1 => Some(Direction::Checking),
+        2 => Some(Direction::Opening),
+        _ => None,
     }
-    if number == 1 {
-        return Direction::Checking;
-    }
-    Direction::Opening
 }
 
-// The phase of a number up to 2.
-fn phase_of(number: u64) -> Phase
-    ensures { result ≡ phase_of number }
+// The phase of a number, which is up to 2.
+fn phase_of(number: u64) -> Option<Phase>
+    ensures { result ≡ cond (leb number 2) (Some (phase_of number)) None }
 {
-    if number == 0 {
-        return Phase::Ad;
+    match number {
+        0 => Some(Phase::Ad),
+        1 => Some(Phase::Text),
+        2 => Some(Phase::Ended),
+        _ => None,
     }
-    if number == 1 {
-        return Phase::Text;
-    }
-    Phase::Ended
 }
 
 // The number of a phase.
@@ -127,69 +87,39 @@ fn phase_number(phase: Phase) -> u64
 
 // ---- states
 
-// Whether an area spells a state.
-pub(crate) fn is_spelling(area: &[u8]) -> bool
-    ensures { result ≡ is_spelling area.now }
+// The state that an area spells, if it spells one.
+pub(crate) fn state_in(area: &[u8; LENGTH]) -> Option<Stream>
+    ensures { result ≡ cond (is_spelling area.now) (Some (state_in area.now)) None }
 {
-    if area.len() != LENGTH {
-        return false;
-    }
-    (number_at(area, 64) <= 2) & (number_at(area, 72) <= 2)
-}
-
-// The key in an area.
-fn key_in(area: &[u8]) -> [u8; 16]
-    requires { length area.now ≡ state_length }
-    ensures { result ≡ take 16 (drop 40 area.now) }
-{
-    tags::sixteen(&area[40..56])
-}
-
-// The state that an area spells.
-pub(crate) fn state_in(area: &[u8]) -> Stream
-    requires { length area.now ≡ state_length }
-    ensures { result ≡ state_in area.now }
-{
-    let words = [
-        number_at(area, 0),
-        number_at(area, 8),
-        number_at(area, 16),
-        number_at(area, 24),
-        number_at(area, 32),
-    ];
-    let key = key_in(area);
-    Stream {
-        words,
+    let direction = direction_of(number_at(area, 64))?;
+    let phase = phase_of(number_at(area, 72))?;
+    Some(Stream {
+        words: [
+            number_at(area, 0),
+            number_at(area, 8),
+            number_at(area, 16),
+            number_at(area, 24),
+            number_at(area, 32),
+        ],
         set: number_at(area, 56),
-        direction: direction_of(number_at(area, 64)),
-        phase: phase_of(number_at(area, 72)),
-        key,
+        direction,
+        phase,
+        key: part(area, 40),
         ad: number_at(area, 80) as usize,
         text: number_at(area, 88) as usize,
         place: number_at(area, 96) as usize,
         limit: number_at(area, 104),
-    }
-}
-
-// Puts a key into an area.
-fn put_key(area: &mut [u8], key: [u8; 16])
-    requires { length area.old ≡ state_length }
-    ensures area_after { area.new ≡ laid area.old 40 key }
-    ensures area_len_unchanged { length area.new ≡ length area.old }
-{
-    area[40..56].copy_from_slice(&key);
+    })
 }
 
 // The numbers behind the key, in their order.
 fn numbers_of(state: Stream) -> [u64; 7]
     ensures { result ≡ numbers_of state }
 {
-    let direction = state.direction;
-    let phase = state.phase;
     [
         state.set,
-        stream::rank(direction),
-        phase_number(phase),
+        stream::rank(state.direction),
+        phase_number(state.phase),
         state.ad as u64,
         state.text as u64,
         state.place as u64,
@@ -197,15 +127,13 @@ fn numbers_of(state: Stream) -> [u64; 7]
     ]
 }
 
-// Puts the spelling of a state into an area.
-pub(crate) fn put_state(area: &mut [u8], state: Stream)
-    requires { length area.old ≡ state_length }
-    ensures { area.new ≡ spelling state }
+// The spelling of a state.
+pub(crate) fn spelling(state: Stream) -> [u8; LENGTH]
+    ensures { result ≡ spelling state }
 {
-    let words = state.words;
-    let key = state.key;
-    let numbers = numbers_of(state);
-    put_numbers(&mut *area, 0, &words);
-    put_key(&mut *area, key);
-    put_numbers(area, 56, &numbers);
+    let mut area = [0; LENGTH];
+    put_numbers(&mut area, 0, &state.words);
+    put(&mut area, 40, &state.key);
+    put_numbers(&mut area, 56, &numbers_of(state));
+    area
 }

@@ -32,8 +32,7 @@ pub fn kvistmaur_seal(
     ensures tag_after { tag.new ≡ (seal_call set key.now nonce.now ad.now text.now out.old tag.old).tag }
 {
     let outcome = message::seal(set, key, nonce, ad, text, out, tag);
-    let answer = outcome.answer;
-    word::word(answer, outcome.rounds)
+    word::word(outcome.answer, outcome.rounds)
 }
 
 // Opens a message.
@@ -50,6 +49,5 @@ pub fn kvistmaur_open(
     ensures out_after { out.new ≡ (open_call set key.now nonce.now ad.now cipher.now tag.now out.old).out }
 {
     let outcome = message::open(set, key, nonce, ad, cipher, tag, out);
-    let answer = outcome.answer;
-    word::word(answer, outcome.rounds)
+    word::word(outcome.answer, outcome.rounds)
 }

@@ -1,16 +1,15 @@
 -- `gateway::area::phase_of` meets its contract.
-use borrow.Author.Tests.{eq-eqb, ne_eqb}
 use Rattle.gateway.specs.Spelling.{phase_of}
 use Rattle.gateway.proofs.area.phase_of.Goals as goal
 
-pub returns-then-number-eq0 : goal.returns-then-number-eq0
+pub returns-in-0 : goal.returns-in-0
 unfolding phase_of
-returns-then-number-eq0 c = rw (eq-eqb _ _ c.if-number-eq0.true)
+returns-in-0 c = rw c.in-0.is
 
-pub returns-then-number-eq1 : goal.returns-then-number-eq1
+pub returns-in-1 : goal.returns-in-1
 unfolding phase_of
-returns-then-number-eq1 c = rw (ne_eqb _ _ c.if-number-eq0.false, eq-eqb _ _ c.if-number-eq1.true)
+returns-in-1 c = rw c.in-1.is
 
-pub returns : goal.returns
+pub returns-in-2 : goal.returns-in-2
 unfolding phase_of
-returns c = rw (ne_eqb _ _ c.if-number-eq0.false, ne_eqb _ _ c.if-number-eq1.false)
+returns-in-2 c = rw c.in-2.is

@@ -1,38 +1,25 @@
 -- `gateway::streams::kvistmaur_stream_open` meets its contract.
 use mathlib.Core.Path.{◌≡◌, sym, ap, ◌∙◌, subst}
-use mathlib.Core.Bool.{true, false}
 use Prim.Native.Nat.{◌≤◌}
+use borrow.Author.Rules.{rules}
 use Rattle.stream.specs.declared.Direction.TheVariants.{Opening}
-use Rattle.stream.specs.declared.Stream.{Stream}
-use Rattle.stream.specs.Calls.{Called, text_call}
+use Rattle.stream.specs.Calls.{Called, called, text_call}
 use Rattle.stream.proofs.Bounds.{text_few}
-use Rattle.gateway.specs.Spelling.{is_spelling}
-use Rattle.gateway.specs.Calls.{left_lent, left_beside}
-use Rattle.gateway.proofs.Spelling.{spelling_length}
-use Rattle.gateway.proofs.Calls.{left_called, text_on_lem, text_off}
+use Rattle.gateway.specs.Spelling.{state_in}
+use Rattle.gateway.proofs.Calls.{left_called, text_met}
 use Rattle.gateway.proofs.streams.kvistmaur_stream_open.Goals as goal
 
-pub returns-then-not-is_spelling : goal.returns-then-not-is_spelling
-returns-then-not-is_spelling c =
-    let a = c.args in
-    let no : is_spelling a.state.now ≡ false = sym c.is_spelling.ensures ∙ c.if-not-is_spelling.true in
-    (λ j. left_lent (c.unspelled.ensures j) a.state.now a.out.now) ∙ text_off a.state.now no Opening a.cipher.now a.out.now
-
-pub state_in-before-requires : goal.state_in-before-requires
-state_in-before-requires c =
-    let spelled : (is_spelling c.args.state.now ≡ true) = sym c.is_spelling.ensures ∙ c.if-not-is_spelling.false in
-    spelling_length _ spelled
-
-pub leave-requires : goal.leave-requires
-leave-requires c =
-    let spelled : (is_spelling c.args.state.now ≡ true) = sym c.is_spelling.ensures ∙ c.if-not-is_spelling.false in
-    record { state_len = spelling_length _ spelled; rounds_bound = subst (λ (call : Called). call.outcome.rounds ≤ 8_912_928) (sym c.open-outcome.ensures) (text_few Opening _ _ _) }
+pub with_state-requires-clause-rounds_bound : goal.with_state-requires-clause-rounds_bound
+with_state-requires-clause-rounds_bound c = λ s x o y post.
+    let gave : called o y.now ≡ text_call Opening s c.args.cipher.now x.now = search rules in
+    subst (λ (call : Called). call.outcome.rounds ≤ 8_912_928) (sym gave) (text_few Opening _ _ _)
 
 pub returns : goal.returns
 returns c =
-    let spelled : (is_spelling c.args.state.now ≡ true) = sym c.is_spelling.ensures ∙ c.if-not-is_spelling.false in
     let a = c.args in
-    (λ j. left_beside (c.leave.ensures j) c.open-outcome.new.out)
-    ∙ ap left_called c.open-outcome.ensures
-    ∙ ap (λ (s : Stream). left_called (text_call Opening s a.cipher.now a.out.now)) c.state_in-before.ensures
-    ∙ text_on_lem a.state.now spelled Opening a.cipher.now a.out.now
+    text_met a.state.now Opening a.cipher.now a.out.now _
+    (λ is.
+    let met = c.with_state.ensures.spelled is in
+    let gave : called met.1 met.2.now ≡ text_call Opening (state_in a.state.now) a.cipher.now met.0.now = search rules in
+    met.5 ∙ ap left_called (gave ∙ ap (text_call Opening (state_in a.state.now) a.cipher.now) met.4))
+    c.with_state.ensures.not_spelled
