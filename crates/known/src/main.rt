@@ -6,42 +6,27 @@ use permutation::{Run, State};
 // The number of standard output.
 const STDOUT_FILENO: i32 = 1;
 
-// Writes a line of text.
+// Writes a line of text. Kept on `io`, which rests on `write` alone (docs/ANSWERS.md): std's `println!` would trust two more declarations of the C library.
 fn say(text: &[u8]) {
     io::write_all(STDOUT_FILENO, text);
     io::write_all(STDOUT_FILENO, b"\n");
 }
 
-// Writes a word and a blank.
-fn show_word(word: u64) {
-    io::print_hex(STDOUT_FILENO, word, 16);
-    io::write_all(STDOUT_FILENO, b" ");
-}
-
 // Writes what the state is of, and on the next line its five words.
 fn show(of: &[u8], s: State) {
     say(of);
-    show_word(s.x0);
-    show_word(s.x1);
-    show_word(s.x2);
-    show_word(s.x3);
+    for word in [s.x0, s.x1, s.x2, s.x3] {
+        io::print_hex(STDOUT_FILENO, word, 16);
+        io::write_all(STDOUT_FILENO, b" ");
+    }
     io::print_hex(STDOUT_FILENO, s.x4, 16);
     say(b"");
-}
-
-// Whether two states are one.
-fn same(s: State, t: State) -> bool {
-    s.x0 == t.x0 && s.x1 == t.x1 && s.x2 == t.x2 && s.x3 == t.x3 && s.x4 == t.x4
 }
 
 // Writes whether two states are one.
 fn compare(of: &[u8], s: State, t: State) {
     io::write_all(STDOUT_FILENO, of);
-    if same(s, t) {
-        say(b" yes");
-    } else {
-        say(b" no");
-    }
+    say(if s == t { b" yes" } else { b" no" });
 }
 
 fn main() {
