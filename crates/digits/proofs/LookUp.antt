@@ -1,15 +1,15 @@
 -- The list that the code looks characters up in says of each what it is as a digit.
 use mathlib.Core.Path.{◌≡◌, refl, sym, ap}
-use mathlib.Core.Bool.{Bool, true, false, cond, ◌||◌}
-use Prim.Native.Nat.{ℕ, zero, suc, ◌-◌, ◌/◌, ◌≤◌, ◌<◌}
+use mathlib.Core.Bool.{Bool, true, false}
+use Prim.Native.Nat.{ℕ, zero, suc, ◌≤◌, ◌<◌}
 use native.Mathlib.Omega.{arith}
-use lib.Dec.{T, eqb, ltb, eqb→eq}
+use lib.Dec.{T, eqb, eqb→eq}
 use lib.ListN.{get_or-eq_default}
 use Rattle.permutation.proofs.Test.{at}
 use Rattle.digits.specs.declared.hex.Case.{Case}
 use Rattle.digits.specs.declared.hex.Case.TheVariants.{Lower, Upper}
 use Rattle.std.specs.Prelude.{Option, Some, None}
-use Rattle.digits.specs.Hex.{digit_in, is_value}
+use Rattle.digits.specs.Hex.{digit_in}
 use Rattle.digits.specs.LookUp.{no_digits, digit_rows, digit_row, entry_of, said, none_below}
 
 -- ---- rows
@@ -42,20 +42,3 @@ pub looked_up : (case : Case) (character : ℕ) → character < 256 → said cas
 unfolding digit_in
 looked_up Lower character h = same_eq _ _ (at 256 (λ c. same (said Lower (entry_of c)) (digit_in Lower c)) tt character h)
 looked_up Upper character h = same_eq _ _ (at 256 (λ c. same (said Upper (entry_of c)) (digit_in Upper c)) tt character h)
-
--- an entry is a digit in lower case where it is below 16
-pub lower_said : (e : ℕ) → is_value (said Lower e) ≡ ltb e 16
-lower_said e = go (ltb e 16)
-  where
-    go : (b : Bool) → is_value (cond b (Some e) None) ≡ b
-    go true = refl
-    go false = refl
-
--- and in upper case where it is below ten, or 16 more than a value
-pub upper_said : (e : ℕ) → is_value (said Upper e) ≡ (ltb e 10 || eqb (e / 16) 1)
-upper_said e = go (ltb e 10) (eqb (e / 16) 1)
-  where
-    go : (b c : Bool) → is_value (cond b (Some e) (cond c (Some (e - 16)) None)) ≡ (b || c)
-    go true c = refl
-    go false true = refl
-    go false false = refl

@@ -79,6 +79,22 @@ places_least = by_digits (λ (n : ℕ). (k : ℕ) → n < 10 ^ suc k → places 
     more n d l h rest zero b = absurd (omega arith)
     more n d l h rest (suc k) b = omega (arith, places_more n d l h, rest k (omega arith))
 
+-- a number from a power of ten on has more digits than the power has zeros
+pub places_most : (n k : ℕ) → 10 ^ k ≤ n → suc k ≤ places n
+places_most = by_digits (λ (n : ℕ). (k : ℕ) → 10 ^ k ≤ n → suc k ≤ places n) one more
+  where
+    one : (d : ℕ) → d < 10 → (k : ℕ) → 10 ^ k ≤ d → suc k ≤ places d
+    one d h zero b = omega (arith, places_some d)
+    one d h (suc k) b = absurd (omega (arith, one_le_pow k))
+      where
+        one_le_pow : (k : ℕ) → 1 ≤ 10 ^ k
+        one_le_pow zero = omega arith
+        one_le_pow (suc k) = omega (arith, one_le_pow k)
+
+    more : (n d : ℕ) → 1 ≤ n → d < 10 → ((k : ℕ) → 10 ^ k ≤ n → suc k ≤ places n) → (k : ℕ) → 10 ^ k ≤ 10 * n + d → suc k ≤ places (10 * n + d)
+    more n d l h rest zero b = omega (arith, places_some (10 * n + d))
+    more n d l h rest (suc k) b = omega (arith, places_more n d l h, rest k (omega arith))
+
 -- a numeral has as many digits as its number
 pub length_numeral : (n : ℕ) → length (numeral n) ≡ places n
 unfolding numeral

@@ -11,6 +11,7 @@ pub use hex::{BadDigit, Case, is_digit, put_bytes, read_digit, read_pair};
 pub use numbers::{number_length, put_number};
 
 // Puts a text at the beginning of a place, and gives its length; a place too short for it stays as it is, and the length is 0.
+// No Option here and in the three that put: each caller has made room, and adds the lengths of what it puts; an Option would be opened at each sum.
 pub fn put_text(text: &[u8], out: &mut [u8]) -> usize
     ensures { laid result out.new ≡ put text.now out.old }
 {

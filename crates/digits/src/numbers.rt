@@ -7,13 +7,10 @@ ghost use Rattle.digits.specs.Room.{laid, put};
 pub fn number_length(n: u64) -> usize
     ensures { result ≡ places n }
 {
-    let mut count = 1;
-    let mut rest = n;
-    while 10 <= rest {
-        rest /= 10;
-        count += 1;
+    match n {
+        0 => 1,
+        _ => n.ilog10() as usize + 1,
     }
-    count
 }
 
 // Puts the numeral of a number at the beginning of a place, and gives its length; a place too short for it stays as it is, and the length is 0.
@@ -24,10 +21,8 @@ pub fn put_number(n: u64, out: &mut [u8]) -> usize
     if out.len() < count {
         return 0;
     }
-    let mut i = count;
     let mut rest = n;
-    while 0 < i {
-        i -= 1;
+    for i in (0..count).rev() {
         out[i] = b'0' + (rest % 10) as u8;
         rest /= 10;
     }

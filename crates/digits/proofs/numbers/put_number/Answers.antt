@@ -23,5 +23,5 @@ returns c =
     let none : l.i ≡ 0 = omega arith in
     put_is (numeral a.n) a.out.now l.out count (counted ∙ sym (length_numeral a.n)) c.if-out-count.false
     (ap (λ (i : ℕ). decimals i l.rest ++ drop i l.out) (sym none)
-    ∙ l.invariant.2
+    ∙ l.invariant
     ∙ ap (λ (k : ℕ). decimals k a.n ++ drop count a.out.now) counted)
