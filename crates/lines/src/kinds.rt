@@ -28,6 +28,7 @@ pub struct Kind {
 }
 
 // A text of at most 32 bytes as a name, with zeros behind it; the empty name for a longer text.
+#[tactic(auto, unfolding(crate::specs::Right::named))]
 pub fn named(text: &[u8]) -> Name
     ensures { result ≡ named text.now }
 {

@@ -1,5 +1,5 @@
 // A line at the beginning of a text.
-ghost use Rattle.std.specs.Prelude.{◌≡◌, ◌≤◌};
+ghost use Rattle.std.specs.Prelude.{◌≡◌, ◌<◌};
 ghost use Rattle.lines.specs.Steps.{begin, stop, found_at, read_of, either_of};
 
 use crate::kinds::Kind;
@@ -33,7 +33,7 @@ pub fn begun() -> State
 
 // What a walk found that passed so many characters.
 fn found(passed: usize, state: State) -> Result<Line, Stopped>
-    requires { passed ≤ 0x7fffffffffffffff }
+    requires { passed < usize.MAX }
     ensures { result ≡ found_at (stop passed state) }
 {
     if state.ended {

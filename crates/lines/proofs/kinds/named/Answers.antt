@@ -1,14 +1,10 @@
 -- `lines::kinds::named` meets its contract.
 use mathlib.Core.List.{◌++◌}
 use lib.ListN.{length}
-use borrow.Author.Tests.{le-leb, lt-leb}
+use borrow.Author.Tests.{le-leb}
 use Rattle.permutation.proofs.Strings.{drop_zeros}
 use Rattle.lines.specs.Right.{named}
 use Rattle.lines.proofs.kinds.named.Goals as goal
-
-pub returns-then-text-gt32 : goal.returns-then-text-gt32
-unfolding named
-returns-then-text-gt32 c = rw (lt-leb (length c.args.text.now) 32 c.if-text-gt32.true)
 
 pub returns : goal.returns
 unfolding named
