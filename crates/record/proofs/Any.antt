@@ -19,10 +19,9 @@ use Rattle.lines.specs.Steps.{name_step, step_of, read_of}
 use Rattle.record.specs.declared.form.Form.{Form}
 use Rattle.record.specs.declared.form.Form.TheVariants.{One, Two}
 use Rattle.record.specs.declared.form.Record.{Record}
-use Rattle.record.specs.declared.reading.Reading.{Reading}
 use Rattle.record.specs.Form.{blank, value_kind}
 use Rattle.record.specs.Text.{names, name, kind_of, value_text, line_text, text_from, text_of, most_bytes}
-use Rattle.record.specs.Calls.{refused_at, read_as, read_call, mark, shared, form_of, inside_mark, read_any}
+use Rattle.record.specs.Calls.{Reading, refused_at, read_as, read_call, mark, shared, form_of, inside_mark, read_any}
 use Rattle.record.specs.Laws.{BegunWhole, WrongAt, Spellable, BegunAny, ReadsAny}
 use Rattle.record.proofs.Lines.{line_length}
 use Rattle.record.proofs.Bounds.{few_bytes}

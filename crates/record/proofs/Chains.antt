@@ -1,7 +1,7 @@
 -- Lines of a form one after another: their text, and the first that breaks its rule.
 use mathlib.Core.Path.{◌≡◌, refl}
 use mathlib.Core.Bool.{Bool, true, false, cond}
-use mathlib.Core.List.{List}
+use mathlib.Core.List.{List, []}
 use Prim.Native.Nat.{ℕ, zero, suc, ◌+◌, ◌-◌, ◌≤◌, ◌<◌}
 use native.Mathlib.Omega.{arith}
 use lib.Dec.{ltb}
@@ -9,8 +9,8 @@ use lib.ListN.{length, length-append}
 use borrow.Author.Tests.{ltb-true, ltb-false}
 use Rattle.record.specs.declared.form.Form.{Form}
 use Rattle.record.specs.declared.form.Record.{Record}
-use Rattle.record.specs.Form.{part_at, lines_in, keeps, broken_from}
-use Rattle.record.specs.Text.{line_text, text_from}
+use Rattle.record.specs.Form.{part_at, lines_in, keeps, broken_from, broken}
+use Rattle.record.specs.Text.{line_text, text_from, text_of}
 use Rattle.record.proofs.Places.{Alike}
 
 module _ (form : Form) where
@@ -24,6 +24,15 @@ module _ (form : Form) where
   text_more r line h =
       let e : lines_in form + 1 - line ≡ suc (lines_in form + 1 - (line + 1)) = omega arith in
       rw e (length-append (line_text (part_at form line) r) (text_from form (lines_in form + 1 - (line + 1)) (line + 1) r))
+
+  -- from the first one on they are all
+  pub text_all : (r : Record) → text_left 1 r ≡ text_of form r
+  unfolding text_of
+  text_all r = let all : lines_in form + 1 - 1 ≡ lines_in form = omega arith in rw all
+
+  -- and behind the last there is none
+  pub text_none : (r : Record) (line : ℕ) → lines_in form ≤ line → text_left (line + 1) r ≡ []
+  text_none r line h = let none : lines_in form + 1 - (line + 1) ≡ 0 = omega arith in rw none
 
   -- k lines, from a line on, keep their rules
   abbrev pub Sound : ℕ → ℕ → Record → Type 0
@@ -53,3 +62,8 @@ module _ (form : Form) where
           → (broken_from form k (line + 1) r ≡ 0 → line + 1 ≤ m → keeps (part_at form m) r ≡ true) → keeps (part_at form m) r ≡ true
       go true f h rest = pick (ltb line m) refl f (rest h)
       go false f h rest = absurd (omega arith)
+
+  -- so the lines of a record in form keep their rules
+  pub in_form_rule : (r : Record) → broken form r ≡ 0 → Sound (lines_in form) 1 r
+  unfolding broken
+  in_form_rule r e = broken_rule (lines_in form) 1 r (omega arith) e

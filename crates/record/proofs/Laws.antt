@@ -19,10 +19,9 @@ use Rattle.lines.proofs.Tables.{stopped_at, read_before, broken_before, mended}
 use Rattle.record.specs.declared.form.Form.{Form}
 use Rattle.record.specs.declared.form.Form.TheVariants.{One, Two}
 use Rattle.record.specs.declared.form.Record.{Record}
-use Rattle.record.specs.declared.reading.Reading.{Reading}
 use Rattle.record.specs.Form.{part_at, lines_in, with_number, with_field, blank, value_kind, broken, loses_chip}
 use Rattle.record.specs.Text.{kind_of, line_text, text_from, text_of, most_bytes}
-use Rattle.record.specs.Calls.{read_at, given, lines_of, refused_at, read_as, answered, read_call, write_leaves, write_call}
+use Rattle.record.specs.Calls.{Reading, read_at, given, lines_of, refused_at, read_as, answered, read_call, write_leaves, write_call}
 use Rattle.record.specs.Laws.{Typed, BegunWhole, WrongAt, Spellable, ReadsAndWrites}
 use Rattle.record.proofs.Rules.{copied_part}
 use Rattle.record.proofs.Lines.{line_length}

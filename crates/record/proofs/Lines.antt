@@ -20,8 +20,8 @@ use Rattle.digits.proofs.Spelling.{and_both, bytes_hex}
 use Rattle.digits.proofs.Room.{length_line}
 use Rattle.lines.specs.declared.kinds.Value.{Value}
 use Rattle.lines.specs.declared.kinds.Value.TheVariants.{Fixed, Number, Bytes}
-use Rattle.lines.specs.declared.walk.Found.TheVariants.{Line}
 use Rattle.lines.specs.Right.{Spells, Right, value_in}
+use Rattle.lines.specs.Steps.{a_line}
 use Rattle.lines.specs.Laws.{FoundIn}
 use Rattle.lines.proofs.Values.{value_in_lem, written_read}
 use Rattle.record.specs.declared.field.Field.{Field}
@@ -111,7 +111,7 @@ value_copied =
 
 -- a line of a form that keeps its rule is read, and gives the part copied
 pub record Spelled (form : Form) (line : ℕ) (r s : Record) (rest : List ℕ) : Type 0 where
-  pub read : read_at form line s (line_text (part_at form line) r ++ rest) ≡ Line (length (line_text (part_at form line) r)) (said_at (part_at form line) r)
+  pub read : read_at form line s (line_text (part_at form line) r ++ rest) ≡ a_line (length (line_text (part_at form line) r)) (said_at (part_at form line) r)
   pub gives : given form line s (said_at (part_at form line) r) (line_text (part_at form line) r) ≡ copied_part (part_at form line) r s
 
 pub line_spelled : (form : Form) (line : ℕ) → 1 ≤ line → line ≤ lines_in form → (r s : Record) → Whole (field_at (part_at form line) r) → keeps (part_at form line) r ≡ true
@@ -215,13 +215,13 @@ pub record Passed (form : Form) (line : ℕ) (r : Record) (text : List ℕ) (siz
   pub there : text ≡ line_text (part_at form line) next ++ drop size text
 
 -- a line that is read was written so
-pub line_passed : (form : Form) (line : ℕ) → 1 ≤ line → line ≤ lines_in form → (r : Record) (text : List ℕ) (size says : ℕ) → read_at form line r text ≡ Line size says
+pub line_passed : (form : Form) (line : ℕ) → 1 ≤ line → line ≤ lines_in form → (r : Record) (text : List ℕ) (size says : ℕ) → read_at form line r text ≡ a_line size says
     → Passed form line r text size (given form line r says (take size text))
 unfolding line_text given
 line_passed form line h m r text size says e =
     let part : ℕ = part_at form line in
     let is-part = part_is form line h m in
-    let t : FoundIn (right_at form line r) text (Line size says) = rw e at (told form line r text) in
+    let t : FoundIn (right_at form line r) text (a_line size says) = rw e at (told form line r text) in
     let kind = kind_of part r.set in
     let value : List ℕ = value_in kind (take size text) in
     let is : value ≡ t.1.value = value_in_lem kind (take size text) says (fit_kind part r.set) t.1 in

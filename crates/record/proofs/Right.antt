@@ -8,9 +8,9 @@ use native.Mathlib.Omega.{arith}
 use lib.Dec.{ltb}
 use lib.ListN.{length, take, drop, take-append-drop, length-append}
 use lib.Seq.{take_all, take_at, take-length, drop-append_seam}
-use Rattle.lines.specs.declared.walk.Found.TheVariants.{Line, Stopped}
 use Rattle.lines.specs.Column.{LeavesAt}
 use Rattle.lines.specs.Right.{Lines}
+use Rattle.lines.specs.Steps.{a_line, no_line}
 use Rattle.lines.specs.Laws.{FoundIn}
 use Rattle.lines.specs.Tables.{whole, broken_at}
 use Rattle.lines.proofs.Columns.{same_lines}
@@ -83,8 +83,8 @@ module _ (form : Form) (k : ℕ) (few : k < lines_in form) (x : List ℕ) (f : F
 
       forth : Lines (right_at form (1 + k) before) next → FirstLines form (1 + k) (x ++ next)
       forth l =
-          let found : read_at form (1 + k) before next ≡ Line (length next) l.0 =
-          only form (1 + k) before next (Line (length next) l.0) (omega arith, rw (take-length next) l.1) in
+          let found : read_at form (1 + k) before next ≡ a_line (length next) l.0 =
+          only form (1 + k) before next (a_line (length next) l.0) (omega arith, rw (take-length next) l.1) in
           let all = read_more_lem (read_at form) (given form) 1 blank k (length x) before (x ++ next) (length next) l.0 read (rw behind found) in
           let size : ℕ = length x + length next in
           let first = read_first form (suc k) (omega arith) (x ++ next) size _ all in
@@ -98,9 +98,9 @@ module _ (form : Form) (k : ℕ) (few : k < lines_in form) (x : List ℕ) (f : F
           let at : m.at ≡ length x = cc in
           let earlier : m.earlier ≡ before = cc in
           let size : m.size ≡ length next = omega (arith, m.ends, length-append x next) in
-          let found : read_at form (1 + k) before next ≡ Line m.size m.says =
+          let found : read_at form (1 + k) before next ≡ a_line m.size m.says =
           (λ j. read_at form (1 + k) (sym earlier j) ((sym behind ∙ ap (λ (n : ℕ). drop n (x ++ next)) (sym at)) j)) ∙ m.found in
-          let t : FoundIn (right_at form (1 + k) before) next (Line m.size m.says) = rw found at (told form (1 + k) before next) in
+          let t : FoundIn (right_at form (1 + k) before) next (a_line m.size m.says) = rw found at (told form (1 + k) before next) in
           (m.says, rw (take_all m.size next (omega arith)) at t.1)
 
 -- ---- where a text leaves them
@@ -115,7 +115,7 @@ stop_wrong form text bad column early s =
     let b = read_begun form k (omega arith) text s.end s.last s.read in
     let same : whole s.end s.last ≡ whole (length b.lines) (copied form k b.right.entry) = sym s.read ∙ begun_read form k (omega arith) text b in
     let last : s.last ≡ copied form k b.right.entry = cc in
-    let t : FoundIn (right_at form bad s.last) (drop s.end text) (Stopped column) = rw s.stopped at (told form bad s.last (drop s.end text)) in
+    let t : FoundIn (right_at form bad s.last) (drop s.end text) (no_line column) = rw s.stopped at (told form bad s.last (drop s.end text)) in
     let wrong : LeavesAt (Lines (right_at form (1 + k) (copied form k b.right.entry))) (drop s.end text) column =
     subst₂ (λ (n : ℕ) (r : Record). LeavesAt (Lines (right_at form n r)) (drop s.end text) column) s.number last t in
     record {
@@ -156,7 +156,7 @@ wrong_stop form text line column w =
     let b = by_table form text line column w in
     let number : 1 + k ≡ line = omega (arith, w.first) in
     let behind : drop (length x) text ≡ w.before.rest = ap (drop (length x)) (sym w.before.parts) ∙ drop-append_seam x w.before.rest in
-    let stopped : read_at form line b.last (drop (length x) text) ≡ Stopped column = rw behind (only form line b.last w.before.rest (Stopped column) b.wrong) in
+    let stopped : read_at form line b.last (drop (length x) text) ≡ no_line column = rw behind (only form line b.last w.before.rest (no_line column) b.wrong) in
     let early : Bool = ltb (length (drop (length x) text)) column in
     let here : lines_of form (suc k) text ≡ broken_at line column early =
     rw number at (read_no_more (read_at form) (given form) 1 blank k (length x) b.last text column b.read (rw number stopped)) in

@@ -3,8 +3,8 @@ use mathlib.Core.Path.{◌≡◌, refl}
 use mathlib.Core.List.{List}
 use Prim.Native.Nat.{ℕ}
 use native.Mathlib.Omega.{arith}
-use Rattle.lines.specs.declared.walk.Found.{Found}
 use Rattle.lines.specs.Right.{name_of, Right}
+use Rattle.lines.specs.Steps.{Found}
 use Rattle.lines.specs.Laws.{Fit, FoundIn}
 use Rattle.lines.proofs.Laws.{reads_lines, some_line}
 use Rattle.lines.proofs.Names.{named_fit}

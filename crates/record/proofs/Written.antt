@@ -2,10 +2,13 @@
 use mathlib.Core.Path.{◌≡◌, refl, ap}
 use mathlib.Core.Bool.{Bool, true, false, cond}
 use mathlib.Core.List.{List, ◌++◌}
-use Prim.Native.Nat.{ℕ, ◌≤◌}
+use Prim.Native.Nat.{ℕ, zero, suc, ◌≤◌}
+use native.Mathlib.Omega.{arith}
 use lib.Dec.{eqb, leb}
 use lib.ListN.{length, drop}
 use borrow.Author.Tests.{leb-true, eqb-true, le-leb, not-false}
+use Rattle.std.specs.Prelude.{Some, None}
+use Rattle.std.proofs.Common.{rules}
 use Rattle.answers.specs.declared.Answer.{Answer}
 use Rattle.answers.specs.declared.Answer.TheVariants.{Done}
 use Rattle.answers.specs.Numbers.{is_done}
@@ -14,7 +17,17 @@ use Rattle.answers.proofs.Order.{none_holds}
 use Rattle.record.specs.declared.form.Form.{Form}
 use Rattle.record.specs.declared.form.Record.{Record}
 use Rattle.record.specs.Form.{broken, loses_chip}
-use Rattle.record.specs.Calls.{WriteLeaves, write_leaves, refused_with, write_faults, write_as}
+use Rattle.record.specs.Calls.{line_found, WriteLeaves, write_leaves, refused_with, write_faults, write_as}
+
+-- a line that was found is the first that breaks its rule
+pub found_line : (n line : ℕ) → line_found n ≡ Some line → (n ≡ line) × (1 ≤ n)
+found_line zero line e = search rules
+found_line (suc n) line e = (cc, omega arith)
+
+-- where none was found none does
+pub none_found : (n : ℕ) → line_found n ≡ None → n ≡ 0
+none_found zero e = refl
+none_found (suc n) e = search rules
 
 module _ (form : Form) (r : Record) (text out : List ℕ) where
   -- what a writing leaves that wrote it

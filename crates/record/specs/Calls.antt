@@ -1,6 +1,6 @@
 -- What reading and writing a record answer, in either form.
-use Rattle.std.specs.Prelude.{Bool, true, false, cond, not, ◌&&◌, List, [], ◌∷◌, ◌++◌, ℕ, suc, eqb, leb, ltb, length, drop}
-use Rattle.std.proofs.Math.Option.{Option, some, none}
+use mathlib.Core.Option as option
+use Rattle.std.specs.Prelude.{Bool, true, false, cond, not, ◌&&◌, List, [], ◌∷◌, ◌++◌, ℕ, zero, suc, eqb, leb, ltb, length, drop, Option, Some, None, Result, Ok, Err}
 use Rattle.answers.specs.declared.Answer.{Answer}
 use Rattle.answers.specs.declared.Answer.TheVariants.{Done, NoRoom, BrokenRecord, ChipLost}
 use Rattle.answers.specs.Numbers.{is_done}
@@ -9,25 +9,36 @@ use Rattle.digits.specs.Ascii.{ascii}
 use Rattle.digits.specs.Hex.{from_hex_in}
 use Rattle.lines.specs.declared.kinds.Value.{Value}
 use Rattle.lines.specs.declared.kinds.Value.TheVariants.{Fixed, Number, Bytes}
-use Rattle.lines.specs.declared.walk.Found.{Found}
 use Rattle.lines.specs.Right.{value_in}
-use Rattle.lines.specs.Steps.{read_of}
+use Rattle.lines.specs.Steps.{Found, read_of}
 use Rattle.lines.specs.Tables.{Outcome, whole, broken_at, lines_from}
 use Rattle.record.specs.declared.field.Field.{Field}
 use Rattle.record.specs.declared.form.Form.{Form}
 use Rattle.record.specs.declared.form.Form.TheVariants.{One, Two}
 use Rattle.record.specs.declared.form.Record.{Record}
-use Rattle.record.specs.declared.reading.Reading.{Reading}
-use Rattle.record.specs.declared.writing.Writing.{Writing}
+use Rattle.record.specs.declared.outcome.Read.{Read}
+use Rattle.record.specs.declared.outcome.Unread.{Unread}
+use Rattle.record.specs.declared.writing.Unwritten as unwritten
+use Rattle.record.specs.declared.writing.Unwritten.{Unwritten}
 use Rattle.record.specs.Form.{field_of, part_at, lines_in, with_number, with_field, blank, value_kind, broken, loses_chip}
 use Rattle.record.specs.Text.{kind_of, text_of}
 
 -- ---- reading
 
+-- what reading answers: the answer; the line and column at which a text is wrong, and whether it only ended too early, so that more of it can make a record; how many
+-- bytes were taken; and the record
+pub record Reading : Type 0 where
+  pub answer : Answer
+  pub line : ℕ
+  pub column : ℕ
+  pub early : Bool
+  pub taken : ℕ
+  pub content : Record
+
 -- bytes as a field, where they are at most 256; else the empty field
-abbrev pub fitted : Option (List ℕ) → Field
-fitted (some x) = cond (leb (length x) 256) (field_of x) (field_of [])
-fitted none = field_of []
+abbrev pub fitted : option.Option (List ℕ) → Field
+fitted (option.some x) = cond (leb (length x) 256) (field_of x) (field_of [])
+fitted option.none = field_of []
 
 -- the record with what a line says in a part: nothing, the number, or the bytes of the digits
 abbrev pub with_said : Value → ℕ → Record → ℕ → List ℕ → Record
@@ -65,6 +76,11 @@ answered (broken_at line column early) = refused_at line column early
 unfoldable pub read_call : Form → List ℕ → Reading
 read_call form text = answered (lines_of form (lines_in form) text)
 
+-- the answer of a reading that gives the record and how many bytes it took, or where the text is wrong
+abbrev pub reading_of : Result (Read Record) Unread → Reading
+reading_of (Ok read) = read_as read.taken read.content
+reading_of (Err wrong) = refused_at wrong.line wrong.column wrong.early
+
 -- ---- reading either form
 
 -- a first line that begins so is form 2's
@@ -91,6 +107,18 @@ read_any text = cond (inside_mark text) (refused_at 1 1 true) (read_call (form_o
 
 -- ---- writing
 
+-- what writing answers: the answer, the line of a broken record, the column 0, since a record that is handed over has none, and how many bytes were written
+pub record Writing : Type 0 where
+  pub answer : Answer
+  pub line : ℕ
+  pub column : ℕ
+  pub written : ℕ
+
+-- a line that was found by its number; 0 where none was
+abbrev pub line_found : ℕ → Option ℕ
+line_found zero = None
+line_found (suc line) = Some (suc line)
+
 -- an answer, and what the place of the text then holds
 pub record WriteLeaves : Type 0 where
   pub outcome : Writing
@@ -102,6 +130,13 @@ write_leaves outcome out = record { outcome = outcome; out = out }
 -- a refusal: nothing is written
 unfoldable pub refused_with : Answer → ℕ → Writing
 refused_with answer line = record { answer = answer; line = line; column = 0; written = 0 }
+
+-- the answer of a writing that gives how many bytes it wrote, or why it wrote none
+abbrev pub writing_of : Result ℕ Unwritten → Writing
+writing_of (Ok size) = record { answer = Done; line = 0; column = 0; written = size }
+writing_of (Err (unwritten.TheVariants.Broken line)) = refused_with BrokenRecord line
+writing_of (Err unwritten.TheVariants.ChipLost) = refused_with ChipLost 0
+writing_of (Err unwritten.TheVariants.NoRoom) = refused_with NoRoom 0
 
 -- 10, 11, 6: by the record, and by how long its text and the room are
 abbrev pub write_faults : Form → Record → ℕ → ℕ → List (Choice Answer)

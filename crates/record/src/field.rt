@@ -4,9 +4,10 @@ ghost use Rattle.digits.specs.Hex.{from_hex_in};
 ghost use Rattle.record.specs.Form.{field_of, is_field};
 ghost use Rattle.record.specs.Calls.{fitted};
 
-use digits::{Case, Pair};
+use digits::Case;
 
-// The bytes of a line: the first `size` of 256 places.
+// The bytes of a line: the first `size` of 256 places. There is no heap, so they stand here; and since records out of form are handed in and refused (`first_broken`),
+// no invariant bounds the size.
 #[derive(Clone, Copy)]
 pub struct Field {
     pub bytes: [u8; 256],
@@ -14,6 +15,7 @@ pub struct Field {
 }
 
 // A field with no bytes.
+#[tactic(auto, unfolding(crate::specs::Form::field_of))]
 pub(crate) fn no_field() -> Field
     ensures { result ≡ field_of [] }
 {
@@ -24,44 +26,27 @@ pub(crate) fn no_field() -> Field
 }
 
 // Whether a field has at most 256 bytes, and zeros in every place past them.
+#[tactic(auto, unfolding(crate::specs::Form::is_field))]
 pub(crate) fn is_field(field: Field) -> bool
     ensures { result ≡ is_field field }
 {
-    let bytes = field.bytes;
-    let mut i = field.size;
-    if 256 < i {
-        return false;
-    }
-    while i < 256 {
-        if bytes[i] != 0 {
-            return false;
-        }
-        i += 1;
-    }
-    true
+    field.size <= 256 && field.bytes[field.size..] == [0; 256][field.size..]
 }
 
 // The field of digits, two a byte; the empty one where they are no bytes, or more than 256.
 pub fn read_field(case: Case, text: &[u8]) -> Field
     ensures { result ≡ fitted (from_hex_in case text.now) }
 {
+    let size = text.len() / 2;
+    if 256 < size || text.len() % 2 != 0 {
+        return no_field();
+    }
     let mut bytes = [0; 256];
-    let mut size = 0;
-    let mut at = 0;
-    while at < text.len() {
-        if size == 256 {
-            return no_field();
-        }
-        if text.len() - at == 1 {
-            return no_field();
-        }
-        let pair = digits::read_pair(case, text[at], text[at + 1]);
-        let Pair::Byte(b) = pair else {
+    for i in 0..size {
+        let Ok(b) = digits::read_pair(case, text[2 * i], text[2 * i + 1]) else {
             return no_field();
         };
-        bytes[size] = b;
-        size += 1;
-        at += 2;
+        bytes[i] = b;
     }
     Field { bytes, size }
 }

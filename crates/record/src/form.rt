@@ -1,8 +1,9 @@
 // A record part by part: what each part is called, what it holds, and its rule; and which parts the lines of a form are.
 ghost use Rattle.std.specs.Prelude.{◌≡◌, ◌&&◌, ◌≤◌, leb, length};
 ghost use Rattle.lines.specs.Right.{named};
-ghost use Rattle.record.specs.Form.{part_at, lines_in, is_keyed, number_at, field_at, with_number, with_field, blank, value_kind, allows, keeps, broken, loses_chip};
+ghost use Rattle.record.specs.Form.{part_at, lines_in, number_at, field_at, with_number, with_field, blank, value_kind, allows, keeps, broken, loses_chip};
 ghost use Rattle.record.specs.Text.{name, kind_of};
+ghost use Rattle.record.specs.Calls.{line_found};
 
 use crate::field;
 use crate::field::Field;
@@ -41,18 +42,14 @@ pub(crate) fn lines_in(form: Form) -> usize
     }
 }
 
-// The part of a record that stands in a line of a form.
+// The part of a record that stands in a line of a form. A part is named by its line in form 2: the definitions (`part_at`, `keeps`) speak of parts by this number.
 pub(crate) fn part_at(form: Form, line: usize) -> usize
     requires { line ≤ 10 }
     ensures { result ≡ part_at form line }
 {
     match form {
-        Form::One => {
-            if line == 1 {
-                return 2;
-            }
-            line + 2
-        }
+        Form::One if line == 1 => 2,
+        Form::One => line + 2,
         Form::Two => line,
     }
 }
@@ -75,30 +72,15 @@ pub(crate) fn name_of(part: usize) -> Name
     }
 }
 
-// Whether a part has the length of the set's key.
-fn is_keyed(part: usize) -> bool
-    ensures { result ≡ is_keyed part }
-{
-    if part == 4 {
-        return true;
-    }
-    if part == 5 {
-        return true;
-    }
-    part == 9
-}
-
 // The number of a part that holds one: the set, the chip or the rounds.
 pub(crate) fn number_at(part: usize, entry: Record) -> u64
     ensures { result ≡ number_at part entry }
 {
-    if part == 2 {
-        return entry.set;
+    match part {
+        2 => entry.set,
+        3 => entry.chip,
+        _ => entry.rounds,
     }
-    if part == 3 {
-        return entry.chip;
-    }
-    entry.rounds
 }
 
 // The bytes of a part that holds some.
@@ -117,62 +99,51 @@ pub(crate) fn field_at(part: usize, entry: Record) -> Field
 }
 
 // A record with another number in a part.
+#[tactic(auto, unfolding(crate::specs::Form::with_number))]
 pub(crate) fn with_number(part: usize, entry: Record, n: u64) -> Record
     ensures { result ≡ with_number part n entry }
 {
-    let mut next = entry;
     match part {
-        2 => {
-            next.set = n;
-            next
-        }
-        3 => {
-            next.chip = n;
-            next
-        }
-        10 => {
-            next.rounds = n;
-            next
-        }
-        _ => next,
+        2 => Record { set: n, ..entry },
+        3 => Record { chip: n, ..entry },
+        10 => Record { rounds: n, ..entry },
+        _ => entry,
     }
 }
 
 // A record with other bytes in a part.
+#[tactic(auto, unfolding(crate::specs::Form::with_field))]
 pub(crate) fn with_field(part: usize, entry: Record, field: Field) -> Record
     ensures { result ≡ with_field part field entry }
 {
-    let mut next = entry;
     match part {
-        4 => {
-            next.key = field;
-            next
-        }
-        5 => {
-            next.nonce = field;
-            next
-        }
-        6 => {
-            next.ad = field;
-            next
-        }
-        7 => {
-            next.text = field;
-            next
-        }
-        8 => {
-            next.cipher = field;
-            next
-        }
-        9 => {
-            next.tag = field;
-            next
-        }
-        _ => next,
+        4 => Record {
+            key: field,
+            ..entry
+        },
+        5 => Record {
+            nonce: field,
+            ..entry
+        },
+        6 => Record { ad: field, ..entry },
+        7 => Record {
+            text: field,
+            ..entry
+        },
+        8 => Record {
+            cipher: field,
+            ..entry
+        },
+        9 => Record {
+            tag: field,
+            ..entry
+        },
+        _ => entry,
     }
 }
 
 // The record of zeros.
+#[tactic(auto, unfolding(crate::specs::Form::blank))]
 pub(crate) fn no_record() -> Record
     ensures { result ≡ blank }
 {
@@ -191,45 +162,39 @@ pub(crate) fn no_record() -> Record
 }
 
 // What a part may hold, where the set is this.
+#[tactic(auto, using(sets::proofs::Rows::row_sizes), unfolding(crate::specs::Form::value_kind, ascon::specs::Sets::table))]
 pub(crate) fn value_of(part: usize, set: u64) -> Value
     ensures { result ≡ value_kind part set }
 {
-    if part == 1 {
-        return Value::Fixed(2);
+    match part {
+        1 => Value::Fixed(2),
+        2 => Value::Number(1, sets::ROWS as u64),
+        3 => Value::Number(0, 65535),
+        10 => Value::Number(0, 9999999),
+        4 | 5 | 9 => {
+            let key = sets::key_length(set) as u16;
+            Value::Bytes(key, key, Case::Lower)
+        }
+        _ => Value::Bytes(0, 256, Case::Lower),
     }
-    if part == 2 {
-        return Value::Number(1, sets::ROWS as u64);
-    }
-    if part == 3 {
-        return Value::Number(0, 65535);
-    }
-    if part == 10 {
-        return Value::Number(0, 9999999);
-    }
-    if is_keyed(part) {
-        let key = sets::key_length(set) as u16;
-        return Value::Bytes(key, key, Case::Lower);
-    }
-    Value::Bytes(0, 256, Case::Lower)
 }
 
 // The kind of a part's line, where the set is this.
+#[tactic(auto, unfolding(crate::specs::Text::kind_of))]
 pub(crate) fn kind_of(part: usize, set: u64) -> Kind
     ensures { result ≡ kind_of part set }
 {
-    let name = name_of(part);
-    let value = value_of(part, set);
-    Kind { name, value }
+    Kind {
+        name: name_of(part),
+        value: value_of(part, set),
+    }
 }
 
 // Whether a number lies between two.
 fn is_between(least: u64, most: u64, n: u64) -> bool
     ensures { result ≡ (leb least n && leb n most) }
 {
-    if n < least {
-        return false;
-    }
-    n <= most
+    least <= n && n <= most
 }
 
 // Whether a number or a field is what may be held.
@@ -240,36 +205,33 @@ fn is_allowed(value: Value, n: u64, field: Field) -> bool
         Value::Fixed(_) => true,
         Value::Number(least, most) => is_between(least, most, n),
         Value::Bytes(least, most, _) => {
-            if !field::is_field(field) {
-                return false;
-            }
-            is_between(least as u64, most as u64, field.size as u64)
+            field::is_field(field) && is_between(least as u64, most as u64, field.size as u64)
         }
     }
 }
 
 // Whether a part holds what it may.
+#[tactic(auto, unfolding(crate::specs::Form::keeps))]
 pub(crate) fn keeps_rule(part: usize, entry: Record) -> bool
     ensures { result ≡ keeps part entry }
 {
-    let value = value_of(part, entry.set);
-    let field = field_at(part, entry);
-    is_allowed(value, number_at(part, entry), field)
+    is_allowed(
+        value_of(part, entry.set),
+        number_at(part, entry),
+        field_at(part, entry),
+    )
 }
 
-// The first line of a record in a form that breaks its rule; 0 where the record is in form.
-pub fn first_broken(form: Form, entry: Record) -> usize
-    ensures { result ≡ broken form entry }
+// The first line of a record in a form that breaks its rule, if one does.
+pub fn first_broken(form: Form, entry: Record) -> Option<usize>
+    ensures { result ≡ line_found (broken form entry) }
 {
-    let last = lines_in(form);
-    let mut line = 1;
-    while line <= last {
+    for line in 1..=lines_in(form) {
         if !keeps_rule(part_at(form, line), entry) {
-            return line;
+            return Some(line);
         }
-        line += 1;
     }
-    0
+    None
 }
 
 // Whether a form has no line for the chip, and the chip is another than 0.

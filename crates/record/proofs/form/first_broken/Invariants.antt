@@ -1,6 +1,6 @@
--- `record::form::first_broken` meets its contract. The loop's invariant: the lines left decide. The measure is the number of lines left.
+-- `record::form::first_broken` meets its contract. The loop's invariant: the lines left decide.
 use mathlib.Core.Path.{◌≡◌}
-use Prim.Native.Nat.{ℕ, ◌+◌, ◌-◌, ◌≤◌}
+use Prim.Native.Nat.{ℕ, ◌+◌, ◌-◌}
 use Rattle.record.specs.declared.form.Form.{Form}
 use Rattle.record.specs.declared.form.Record.{Record}
 use Rattle.record.specs.Form.{lines_in, broken_from, broken}
@@ -11,7 +11,4 @@ abbrev pub left : Form → ℕ → Record → ℕ
 left form line r = broken_from form (lines_in form + 1 - line) line r
 
 abbrev pub invariant-loop-line : goal.invariant-loop-line
-invariant-loop-line l = (l.last ≡ lines_in l.form) × (l.line ≤ l.last + 1) × (left l.form l.line l.entry ≡ broken l.form l.entry)
-
-abbrev pub decreases-loop-line : goal.decreases-loop-line
-decreases-loop-line l = l.last + 1 - l.line
+invariant-loop-line l = left l.form l.line l.entry ≡ broken l.form l.entry

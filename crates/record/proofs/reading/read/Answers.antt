@@ -1,155 +1,142 @@
-use mathlib.Core.Path.{◌≡◌, sym, ap, ◌∙◌}
-use mathlib.Core.Bool.{Bool, true, false, cond}
+-- `record::reading::read` meets its contract.
+use mathlib.Core.Path.{◌≡◌, sym, ap, ap₂, ◌∙◌}
 use mathlib.Core.List.{List}
-use mathlib.Core.Logic.{◌⊎◌, inl, inr, ⊎_elim}
-use Prim.Native.Nat.{ℕ, ◌+◌, ◌-◌, ◌≤◌}
+use Prim.Native.Nat.{ℕ, suc, ◌+◌, ◌-◌, ◌≤◌}
 use native.Mathlib.Omega.{arith}
-use lib.Dec.{eqb, ltb}
+use lib.Dec.{ltb}
 use lib.ListN.{length, take, drop, length-drop}
-use lib.Seq.{length-take-le}
-use borrow.Author.Tests.{not-true, not-false}
+use lib.Seq.{take_all, length-take-le}
+use Rattle.std.specs.Prelude.{Ok, Err}
 use Rattle.lines.specs.declared.kinds.Kind.{Kind}
-use Rattle.lines.specs.declared.step.State.{State}
-use Rattle.lines.specs.declared.walk.Found.TheVariants.{Line, Stopped}
-use Rattle.lines.specs.Steps.{stop, found_at, walk, step_of, begin, read_of}
+use Rattle.lines.specs.declared.walk.Line.{Line}
+use Rattle.lines.specs.Steps.{Found, read_of}
 use Rattle.lines.specs.Laws.{FoundIn}
-use Rattle.lines.specs.Tables.{broken_at, lines_from}
-use Rattle.lines.proofs.Walks.{Walking, walk_off, walk_end}
+use Rattle.lines.specs.Tables.{broken_at, go_on, lines_from}
 use Rattle.lines.proofs.Values.{line_size, value_there}
 use Rattle.record.specs.declared.form.Form.{Form}
 use Rattle.record.specs.declared.form.Record.{Record}
 use Rattle.record.specs.Form.{part_at, lines_in}
 use Rattle.record.specs.Text.{kind_of}
-use Rattle.record.specs.Calls.{with_value, read_at, given, lines_of, read_as, answered, read_call}
+use Rattle.record.specs.Calls.{with_value, read_at, given, answered, read_call}
 use Rattle.record.proofs.Table.{fit_kind, right_at, told}
-use Rattle.record.proofs.reading.read.Invariants.{from, Left, one_line, ended-there}
+use Rattle.record.proofs.reading.read.Invariants.{from, Left}
 use Rattle.record.proofs.reading.read.Goals as goal
-use Rattle.record.proofs.reading.read.Goals.{Else-not-state, Joined-last-line, then-last-line, else-last-line+then-not-state}
+use Rattle.record.proofs.reading.read.Goals.{In-Ok, After-with_value-content}
 
-module _ (form : Form) (text : List ℕ) (r : Record) (at line end : ℕ) (s : State) where
-  -- what a walk over a line of a text found
-  record Walked : Type 0 where
-    begun : at ≤ end
-    inside : end ≤ length text
-    found : read_at form line r (drop at text) ≡ found_at (stop (end - at) s)
+-- a line, and those behind it
+one_line : (form : Form) (line at : ℕ) (r : Record) (text : List ℕ) → line ≤ lines_in form → (f : Found) → read_at form line r (drop at text) ≡ f
+    → from form line at r text ≡ go_on line (drop at text) f (λ size says. from form (line + 1) (at + size) (given form line r says (take size (drop at text))) text)
+one_line form line at r text h f e =
+    let more : lines_in form + 1 - line ≡ suc (lines_in form + 1 - (line + 1)) = omega arith in
+    ap (λ (k : ℕ). lines_from (read_at form) (given form) k line at r text) more
+    ∙ ap (λ (q : Found). go_on line (drop at text) q (λ size says. from form (line + 1) (at + size) (given form line r says (take size (drop at text))) text)) e
 
-  -- by whether it passed the line feed
-  found-by : (b : Bool) → s.ended ≡ b → Walked → read_at form line r (drop at text) ≡ cond b (Line (end - at) s.number) (Stopped (end - at + 1))
-  found-by b e w = w.found ∙ ap (λ (t : Bool). cond t (Line (end - at) s.number) (Stopped (end - at + 1))) e
+-- a line that was read has its name, its value and a line feed; the value gives the record behind it
+record Passed (form : Form) (line : ℕ) (r : Record) (rest : List ℕ) (kind : Kind) (part : ℕ) (found : Line) : Type 0 where
+  long : kind.name.size + 1 ≤ found.size
+  inside : found.size ≤ length rest
+  gives : given form line r found.number (take found.size rest)
+      ≡ with_value part r found.number (take (found.size - 1 - kind.name.size) (drop kind.name.size rest))
 
-  -- a line that is not passed is the broken one
-  refused : (last : ℕ) → Left form text r last at line → line ≤ last → s.ended ≡ false → Walked
-      → broken_at line (end - at + 1) (eqb end (length text)) ≡ lines_of form (lines_in form) text
-  refused last left h e w =
-      ap (broken_at line (end - at + 1)) (ended-there at end (length text) w.begun w.inside ∙ ap (λ (n : ℕ). ltb n (end - at + 1)) (sym (length-drop at text)))
-      ∙ sym (one_line form line at r text (omega (arith, left.count)) _ (found-by false e w))
-      ∙ left.rest
+passed_line : (form : Form) (line : ℕ) (r : Record) (rest : List ℕ) (kind : Kind) (part : ℕ) (found : Line) → part ≡ part_at form line → kind ≡ kind_of part r.set
+    → read_at form line r rest ≡ Ok found → Passed form line r rest kind part found
+unfolding given
+passed_line form line r rest kind part found part-is kind-is e =
+    let t : FoundIn (right_at form line r) rest (Ok found) = rw e at (told form line r rest) in
+    rw (kind-is, part-is)
+    (let k : Kind = kind_of (part_at form line) r.set in
+    let long : k.name.size + 1 ≤ found.size =
+    omega (arith, line_size k (take found.size rest) found.number (fit_kind (part_at form line) r.set) t.1, length-take-le found.size rest t.0) in
+    let count : 0 + found.size - 1 - (0 + k.name.size) ≡ found.size - 1 - k.name.size = omega arith in
+    let from : 0 + k.name.size ≡ k.name.size = omega arith in
+    record {
+      long = long;
+      inside = t.0;
+      gives =
+          ap (with_value (part_at form line) r found.number)
+          (value_there k rest 0 found.size t.0 long ∙ ap₂ (λ (n i : ℕ). take n (drop i rest)) count from);
+    })
 
-  -- a line that was passed has its name, its value and a line feed; the value gives the record behind it
-  record LinePassed (part : ℕ) (kind : Kind) : Type 0 where
-    long : kind.name.size + 1 ≤ end - at
-    gives : given form line r s.number (take (end - at) (drop at text))
-        ≡ with_value part r s.number (take (end - 1 - (at + kind.name.size)) (drop (at + kind.name.size) text))
+-- the text from a place on
+from-there : (text : List ℕ) (at : ℕ) → take (length text - at) (drop at text) ≡ drop at text
+from-there text at = take_all (length text - at) (drop at text) (omega (arith, length-drop at text))
 
-  passed-line : (part : ℕ) (kind : Kind) → part ≡ part_at form line → kind ≡ kind_of part r.set → s.ended ≡ true → Walked → LinePassed part kind
-  unfolding given
-  passed-line part kind part-is kind-is e w =
-      let x : List ℕ = drop at text in
-      let t : FoundIn (right_at form line r) x (Line (end - at) s.number) = rw (found-by true e w) at (told form line r x) in
-      let there : at + (end - at) ≡ end = omega (arith, w.begun) in
-      rw (kind-is, part-is)
-      (let k : Kind = kind_of (part_at form line) r.set in
-      let long : k.name.size + 1 ≤ end - at =
-      omega (arith, line_size k (take (end - at) x) s.number (fit_kind (part_at form line) r.set) t.1, length-take-le (end - at) x t.0) in
-      record {
-        long = long;
-        gives = ap (with_value (part_at form line) r s.number) (rw there at (value_there k text at (end - at) t.0 long));
-      })
+-- what the reading of a line found
+found_there : (form : Form) (text : List ℕ) (line at : ℕ) (r : Record) (part : ℕ) (kind : Kind) (found : Found) → part ≡ part_at form line → kind ≡ kind_of part r.set
+    → found ≡ read_of kind (take (length text - at) (drop at text)) → read_at form line r (drop at text) ≡ found
+found_there form text line at r part kind found part-is kind-is e =
+    ap₂ read_of (sym (kind-is ∙ ap (λ (k : ℕ). kind_of k r.set) part-is)) (sym (from-there text at)) ∙ sym e
 
-  -- and the reading goes on behind it
-  read-on : (last : ℕ) (next : Record) → Left form text r last at line → line ≤ last → s.ended ≡ true → Walked
-      → next ≡ given form line r s.number (take (end - at) (drop at text)) → Left form text next last end (line + 1)
-  read-on last next left h e w g =
-      let there : at + (end - at) ≡ end = omega (arith, w.begun) in
-      record {
-        count = left.count;
-        first = omega arith;
-        most = omega arith;
-        inside = w.inside;
-        rest =
-            (λ j. from form (line + 1) (sym there j) (g j) text)
-            ∙ sym (one_line form line at r text (omega (arith, left.count)) _ (found-by true e w))
-            ∙ left.rest;
-      }
-
--- the kind is that of the line's part
-walked-as : (form : Form) (text : List ℕ) (r : Record) (at line end : ℕ) (s : State) (part : ℕ) (kind : Kind) → part ≡ part_at form line → kind ≡ kind_of part r.set
-    → Walking kind text at s end → walk (step_of kind) begin (drop at text) ≡ stop (end - at) s → Walked form text r at line end s
-unfolding read_of
-walked-as form text r at line end s part kind part-is kind-is w stopped = record {
-  begun = w.begun;
-  inside = w.inside;
-  found = ap (λ (k : Kind). read_of k (drop at text)) (cc) ∙ ap found_at stopped;
-}
-
--- what the walk over a line that was passed found
-walked : (c : Else-not-state) → Walked c.args.form c.args.text.now c.loop-line.entry c.loop-line.at c.loop-line.line c.digits.end c.digits.state
-walked c = walked-as _ _ _ _ _ _ _ _ _ c.part_at-part.ensures c.kind_of-kind.ensures c.digits.invariant (grind (arith, walk_end, walk_off))
-
--- and the parts of that line
-parts : (c : Else-not-state)
-    → LinePassed c.args.form c.args.text.now c.loop-line.entry c.loop-line.at c.loop-line.line c.digits.end c.digits.state c.part_at-part.result c.kind_of-kind.result
-parts c = passed-line _ _ _ _ _ _ _ _ _ c.part_at-part.ensures c.kind_of-kind.ensures (not-false _ c.if-not-state.false) (walked c)
-
--- how the loop ended: after the last line, or at a broken one
-ended : (c : Joined-last-line) → let found = c.if-last-line in
-    ((found.bad ≡ 0) × (lines_in c.args.form + 1 - c.loop-line.line ≡ 0))
-    ⊎ ((1 ≤ found.bad) × (broken_at found.bad found.column found.early ≡ lines_of c.args.form (lines_in c.args.form) c.args.text.now))
-ended c =
+-- the parts of a line that was read
+parts : (c : In-Ok) → let a = c.args in
     let l = c.loop-line in
-    elim c.if-last-line.branch [
-      | then-last-line w ↦ inl (w.bad-is, omega (arith, w.if-last-line.true, l.invariant.count))
-      | else-last-line+then-not-state w ↦
-          let d = w.digits in
-          let line_walked : Walked c.args.form c.args.text.now l.entry l.at l.line d.end d.state =
-          walked-as _ _ _ _ _ _ _ _ _ w.part_at-part.ensures w.kind_of-kind.ensures d.invariant (grind (arith, walk_end, walk_off)) in
-          inr (
-            omega (arith, w.bad-is, l.invariant.first),
-            rw (w.column-is, w.early-is, w.bad-is)
-                (refused _ _ _ _ _ _ _ _ l.invariant (omega (arith, w.if-last-line.false)) (not-true _ w.if-not-state.true) line_walked),
-          )
-    ]
-
-pub overflow_add-from : goal.overflow_add-from
-overflow_add-from c = record { fits = omega (arith, (parts (goal.at.overflow_add-from c).Else-not-state).long) }
-
-pub overflow_sub-feed : goal.overflow_sub-feed
-overflow_sub-feed c = omega (arith, (parts (goal.at.overflow_sub-feed c).Else-not-state).long)
-
-pub slice_bounds-with_value-count : goal.slice_bounds-with_value-count
-slice_bounds-with_value-count c = omega (arith, (parts (goal.at.slice_bounds-with_value-count c).Else-not-state).long)
-
-pub slice_bounds-with_value-start : goal.slice_bounds-with_value-start
-slice_bounds-with_value-start c = omega (arith, (parts (goal.at.slice_bounds-with_value-start c).Else-not-state).long)
-
-pub loop-line-preserved : goal.loop-line-preserved
-loop-line-preserved c =
-    let passed = (goal.at.loop-line-preserved c).Else-not-state in
-    read-on _ _ _ _ _ _ _ _ _ c.loop-line.invariant (omega arith) (not-false _ c.if-not-state.false) (walked passed)
-    (c.with_value-next.ensures ∙ sym (parts passed).gives)
-
-pub returns-then-bad-ne0 : goal.returns-then-bad-ne0
-unfolding read_call
-returns-then-bad-ne0 c =
-    c.refusal.ensures
-    ∙ ⊎_elim (λ w. absurd (c.if-bad-ne0.true w.0)) (λ w. ap answered w.1) (ended (goal.at.returns-then-bad-ne0 c).Joined-last-line)
-
-pub returns : goal.returns
-unfolding read_call read_as
-returns c =
+    Passed a.form l.line l.content (drop l.taken a.text.now) c.kind_of-kind.result c.part_at-part.result c.in-Ok.found
+parts c =
     let a = c.args in
     let l = c.loop-line in
-    ⊎_elim
-    (λ w. ap answered (ap (λ (k : ℕ). lines_from (read_at a.form) (given a.form) k l.line l.at l.entry a.text.now) (sym w.1) ∙ l.invariant.rest))
-    (λ w. absurd (omega (arith, w.0, c.if-bad-ne0.false)))
-    (ended (goal.at.returns c).Joined-last-line)
+    let found = found_there a.form a.text.now l.line l.taken l.content _ _ _ c.part_at-part.ensures c.kind_of-kind.ensures c.read.ensures in
+    passed_line a.form l.line l.content (drop l.taken a.text.now) _ _ _ c.part_at-part.ensures c.kind_of-kind.ensures (found ∙ c.in-Ok.is)
+
+-- the lines behind one that was read, from the record that it gave
+read-on : (c : After-with_value-content) → let a = c.args in
+    let l = c.loop-line in
+    Passed a.form l.line l.content (drop l.taken a.text.now) c.kind_of-kind.result c.part_at-part.result c.in-Ok.found
+    → Left a.form a.text.now c.with_value-content.result (l.taken + c.in-Ok.found.size) (l.line + 1)
+read-on c p =
+    let a = c.args in
+    let l = c.loop-line in
+    let found : Line = c.in-Ok.found in
+    let rest : List ℕ = drop l.taken a.text.now in
+    let there = found_there a.form a.text.now l.line l.taken l.content _ _ _ c.part_at-part.ensures c.kind_of-kind.ensures c.read.ensures ∙ c.in-Ok.is in
+    let given-is : given a.form l.line l.content found.number (take found.size rest) ≡ c.with_value-content.result =
+    p.gives
+    ∙ ap (λ (x : List ℕ). with_value c.part_at-part.result l.content found.number (take (found.size - 1 - c.kind_of-kind.result.name.size) (drop c.kind_of-kind.result.name.size x)))
+    (sym (from-there a.text.now l.taken))
+    ∙ sym c.with_value-content.ensures in
+    record {
+      inside = omega (arith, p.inside, length-drop l.taken a.text.now, l.invariant.inside);
+      rest =
+          ap (λ (r : Record). from a.form (l.line + 1) (l.taken + found.size) r a.text.now) (sym given-is)
+          ∙ sym (one_line a.form l.line l.taken l.content a.text.now (omega (arith, c.lines_in-line-end.ensures)) (Ok found) there)
+          ∙ l.invariant.rest;
+    }
+
+pub overflow_sub-found : goal.overflow_sub-found
+overflow_sub-found c = omega (arith, (parts (goal.at.overflow_sub-found c).In-Ok).long)
+
+pub slice_bounds-with_value-count : goal.slice_bounds-with_value-count
+slice_bounds-with_value-count c = omega (arith, (parts (goal.at.slice_bounds-with_value-count c).In-Ok).long)
+
+pub slice_bounds-with_value-start : goal.slice_bounds-with_value-start
+slice_bounds-with_value-start c = let p = parts (goal.at.slice_bounds-with_value-start c).In-Ok in omega (arith, p.long, p.inside)
+
+pub slice_bounds-with_value-end : goal.slice_bounds-with_value-end
+slice_bounds-with_value-end c = let p = parts (goal.at.slice_bounds-with_value-end c).In-Ok in omega (arith, p.long, p.inside, length-drop c.loop-line.taken c.args.text.now)
+
+pub overflow_add-taken : goal.overflow_add-taken
+overflow_add-taken c =
+    let left = read-on (goal.at.overflow_add-taken c).After-with_value-content (parts (goal.at.overflow_add-taken c).In-Ok) in
+    record { fits = omega (arith, left.inside, c.well_formed) }
+
+pub returns-in-Err : goal.returns-in-Err
+unfolding read_call
+returns-in-Err c =
+    let a = c.args in
+    let l = c.loop-line in
+    let found = found_there a.form a.text.now l.line l.taken l.content _ _ _ c.part_at-part.ensures c.kind_of-kind.ensures c.read.ensures ∙ c.in-Err.is in
+    ap (λ (x : List ℕ). answered (broken_at l.line c.in-Err.stopped.column (ltb (length x) c.in-Err.stopped.column))) (from-there a.text.now l.taken)
+    ∙ ap answered
+    (sym (one_line a.form l.line l.taken l.content a.text.now (omega (arith, c.lines_in-line-end.ensures)) (Err c.in-Err.stopped) found)
+    ∙ l.invariant.rest)
+
+pub loop-line-preserved : goal.loop-line-preserved
+loop-line-preserved c = read-on (goal.at.loop-line-preserved c).After-with_value-content (parts (goal.at.loop-line-preserved c).In-Ok)
+
+pub returns-in-Ok : goal.returns-in-Ok
+unfolding read_call
+returns-in-Ok c =
+    let a = c.args in
+    let l = c.loop-line in
+    let left = read-on (goal.at.returns-in-Ok c).After-with_value-content (parts (goal.at.returns-in-Ok c).In-Ok) in
+    let last : lines_in a.form + 1 - (l.line + 1) ≡ 0 = omega (arith, c.lines_in-line-end.ensures) in
+    ap answered (ap (λ (k : ℕ). lines_from (read_at a.form) (given a.form) k (l.line + 1) (l.taken + c.in-Ok.found.size) c.with_value-content.result a.text.now) (sym last) ∙ left.rest)

@@ -22,10 +22,10 @@ pieces part r n e k =
     (omega (arith, line_length part r), omega (arith, line_length part r, (name_sizes part).1, value_most part r k))
 
 pub overflow_add-result : goal.overflow_add-result
-overflow_add-result c = record { fits = omega (arith, pieces c.args.part c.args.entry _ c.name_of-name.ensures c.requires) }
+overflow_add-result c = record { fits = omega (arith, pieces c.args.part c.args.entry _ c.name_of.ensures c.requires) }
 
 pub overflow_add-result-2 : goal.overflow_add-result-2
-overflow_add-result-2 c = record { fits = omega (arith, pieces c.args.part c.args.entry _ c.name_of-name.ensures c.requires) }
+overflow_add-result-2 c = record { fits = omega (arith, pieces c.args.part c.args.entry _ c.name_of.ensures c.requires) }
 
 pub returns : goal.returns
-returns c = omega (arith, pieces c.args.part c.args.entry _ c.name_of-name.ensures c.requires)
+returns c = omega (arith, pieces c.args.part c.args.entry _ c.name_of.ensures c.requires)

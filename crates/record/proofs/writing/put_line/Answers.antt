@@ -2,21 +2,18 @@
 use mathlib.Core.Path.{◌≡◌, sym, ap₂, ◌∙◌}
 use mathlib.Core.List.{List}
 use Prim.Native.Nat.{ℕ}
+use native.Mathlib.Omega.{arith}
 use lib.ListN.{take}
 use lib.Seq.{length-take-le, take-append_seam}
 use Rattle.digits.specs.Room.{line_of, put}
 use Rattle.digits.proofs.Room.{put_inside, put_count}
 use Rattle.record.specs.Text.{value_text, line_text}
-use Rattle.record.proofs.Names.{held_name}
+use Rattle.record.proofs.Names.{name_sizes, held_name}
 use Rattle.record.proofs.Bounds.{value_most}
 use Rattle.record.proofs.writing.put_line.Goals as goal
 
-pub slice_bounds-bytes-end : goal.slice_bounds-bytes-end
-slice_bounds-bytes-end c = (held_name _ _ c.name_of-name.ensures).inside
-
-pub slice_bounds-put_line-end : goal.slice_bounds-put_line-end
-slice_bounds-put_line-end c =
-    let n = c.name_of-name in sym (length-take-le n.result.size n.result.bytes (held_name _ _ n.ensures).inside)
+pub shared_ref_as_front-put_line : goal.shared_ref_as_front-put_line
+shared_ref_as_front-put_line c = omega (arith, (held_name _ _ c.name_of-name.ensures).size_is, (name_sizes c.args.part).1)
 
 pub slice_bounds-value-end : goal.slice_bounds-value-end
 slice_bounds-value-end c = (put_inside _ _ _ _ c.put_value-count.ensures).0

@@ -1,28 +1,20 @@
--- `record::writing::write` meets its contract. The loop's invariant: the lines before stand in the place, and those left have room. The measure is the number of
--- lines left.
+-- `record::writing::write` meets its contract. The loop's invariant: the lines before stand in the place, and those left have room.
 use mathlib.Core.Path.{◌≡◌}
 use mathlib.Core.List.{List}
-use Prim.Native.Nat.{ℕ, ◌+◌, ◌-◌, ◌≤◌}
+use Prim.Native.Nat.{ℕ, ◌+◌, ◌-◌}
 use lib.ListN.{length}
 use Rattle.digits.specs.Room.{laid, put}
 use Rattle.record.specs.declared.form.Form.{Form}
 use Rattle.record.specs.declared.form.Record.{Record}
-use Rattle.record.specs.Form.{lines_in}
 use Rattle.record.specs.Text.{text_from, text_of}
 use Rattle.record.proofs.Chains.{text_left}
 use Rattle.record.proofs.writing.write.Given as goal
 
 -- what holds before a line is put
-pub record Left (form : Form) (r : Record) (before out : List ℕ) (last at line : ℕ) : Type 0 where
-  pub count : last ≡ lines_in form
-  pub first : 1 ≤ line
-  pub most : line ≤ last + 1
+pub record Left (form : Form) (r : Record) (before out : List ℕ) (at line : ℕ) : Type 0 where
   pub sized : at ≡ length (text_from form (line - 1) 1 r)
   pub sum : at + length (text_left form line r) ≡ length (text_of form r)
   pub done : laid at out ≡ put (text_from form (line - 1) 1 r) before
 
 abbrev pub invariant-loop-line : goal.invariant-loop-line
-invariant-loop-line l = Left l.form l.entry l.initial.out l.out l.last l.at l.line
-
-abbrev pub decreases-loop-line : goal.decreases-loop-line
-decreases-loop-line l = l.last + 1 - l.line
+invariant-loop-line l = Left l.form l.entry l.initial.out l.out l.at l.line
