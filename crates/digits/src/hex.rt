@@ -99,8 +99,7 @@ fn digit_in(case: Case, character: u8) -> Option<u8>
 {
     let entry = entry_of(character);
     match (case, entry) {
-        (Case::Lower, 0..16) | (Case::Upper, 0..10) => Some(entry),
-        (Case::Upper, 16..32) => Some(entry - 16),
+        (Case::Lower, 0..16) | (Case::Upper, 0..10 | 16..32) => Some(entry % 16),
         _ => None,
     }
 }
