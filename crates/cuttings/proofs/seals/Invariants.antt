@@ -1,9 +1,0 @@
--- `cuttings::seals` is safe and ends: the measure is the number of cuttings left.
-use Rattle.std.proofs.Common.{◌-◌}
-use Rattle.cuttings.proofs.seals.Given as goal
-
-abbrev pub invariant-loop-k : goal.invariant-loop-k
-invariant-loop-k l = Unit {0}
-
-abbrev pub decreases-loop-k : goal.decreases-loop-k
-decreases-loop-k l = 216 - l.k
