@@ -4,8 +4,10 @@
 
 ghost use Rattle.std.specs.Prelude.{◌≡◌, ◌≤◌, length};
 ghost use Rattle.io.specs.Counts.{IsPrefixLen};
+ghost use Rattle.record.specs.Calls.{writing_of};
 
-use record::{Field, Form, Record, Writing};
+use answers::Answer;
+use record::{Field, Form, Record, Unwritten};
 
 // The number of standard input.
 const STDIN_FILENO: i32 = 0;
@@ -50,43 +52,42 @@ fn say_line(name: &[u8], n: u64) {
 fn marked() -> [u8; PLACES]
     ensures { 1710 ≡ length result }
 {
-    let mut places = [0; PLACES];
-    let mut i = 0;
-    while i < PLACES {
-        places[i] = (128 + i % 127) as u8;
-        i += 1;
-    }
-    places
+    std::array::from_fn(|i| (128 + i % 127) as u8)
 }
 
 // Writes whether the places behind what was written are as they were.
 fn say_rest(kept: bool) {
     if kept {
         io::write_all(STDOUT_FILENO, b" rest=kept\n");
-        return;
+    } else {
+        io::write_all(STDOUT_FILENO, b" rest=changed\n");
     }
-    io::write_all(STDOUT_FILENO, b" rest=changed\n");
 }
 
 // Says what came of a writing: the answer, whether the places behind what was written are as they were, and what was written.
-fn say_writing(writing: Writing, before: &[u8], places: &[u8])
-    requires written_in_bounds { writing.written ≤ length before.now }
-    requires prefix_len { IsPrefixLen writing.written places.now }
+fn say_writing(writing: Result<usize, Unwritten>, before: &[u8], places: &[u8])
+    requires written_in_bounds { (writing_of writing).written ≤ length before.now }
+    requires prefix_len { IsPrefixLen (writing_of writing).written places.now }
 {
-    let answer = writing.answer;
-    let written = writing.written;
+    let (answer, line) = match writing {
+        Ok(_) => (Answer::Done, 0),
+        Err(Unwritten::Broken { line }) => (Answer::BrokenRecord, line),
+        Err(Unwritten::ChipLost) => (Answer::ChipLost, 0),
+        Err(Unwritten::NoRoom) => (Answer::NoRoom, 0),
+    };
+    let written = writing.unwrap_or(0);
     say(b" answer=", answers::number(answer));
-    say_count(b" line=", writing.line);
-    say_count(b" column=", writing.column);
+    say_count(b" line=", line);
+    say_count(b" column=", 0);
     say_count(b" written=", written);
-    say_rest(check::same(&before[written..], &places[written..]));
+    say_rest(before[written..] == places[written..]);
     io::write_all(STDOUT_FILENO, &places[..written]);
 }
 
 // Writes a record in a form, in the first places, so many.
-fn write_in(form: Form, entry: Record, places: &mut [u8], room: usize) -> Writing
+fn write_in(form: Form, entry: Record, places: &mut [u8], room: usize) -> Result<usize, Unwritten>
     requires { room ≤ length places.old }
-    ensures { IsPrefixLen result.written places.new }
+    ensures { IsPrefixLen (writing_of result).written places.new }
 {
     record::write(form, entry, &mut places[..room])
 }
@@ -101,67 +102,60 @@ fn attempt(form: Form, entry: Record, room: usize) -> usize
     let writing = write_in(form, entry, &mut places, room);
     say_count(b": room=", room);
     say_writing(writing, &before, &places);
-    writing.written
+    writing.unwrap_or(0)
 }
 
 // A number changed.
 fn change_number(n: u64, over: u64, change: Change) -> u64 {
     match change {
         Change::Over => over,
-        Change::More => std::num::wrapping_add_u64(n, 1),
-        Change::Less => std::num::wrapping_sub_u64(n, 1),
+        Change::More => n.wrapping_add(1),
+        Change::Less => n.wrapping_sub(1),
         Change::Last => u64::MAX,
     }
 }
 
 // A field changed.
-fn change_field(field: Field, change: Change) -> Field {
-    let mut next = field;
+fn change_field(mut field: Field, change: Change) -> Field {
     match change {
-        Change::Over => next.size = 257,
-        Change::More => next.size = std::num::wrapping_add_usize(field.size, 1),
-        Change::Less => next.size = std::num::wrapping_sub_usize(field.size, 1),
-        Change::Last => next.bytes[255] = 1,
+        Change::Over => field.size = 257,
+        Change::More => field.size = field.size.wrapping_add(1),
+        Change::Less => field.size = field.size.wrapping_sub(1),
+        Change::Last => field.bytes[255] = 1,
     }
-    next
+    field
 }
 
 // A record with a part changed: one of those that form 2 has in its lines 2 to 10.
-fn change_part(entry: Record, part: usize, change: Change) -> Record {
-    let mut next = entry;
+fn change_part(mut entry: Record, part: usize, change: Change) -> Record {
     match part {
-        2 => next.set = change_number(entry.set, sets::ROWS as u64 + 1, change),
-        3 => next.chip = change_number(entry.chip, 65536, change),
-        4 => next.key = change_field(entry.key, change),
-        5 => next.nonce = change_field(entry.nonce, change),
-        6 => next.ad = change_field(entry.ad, change),
-        7 => next.text = change_field(entry.text, change),
-        8 => next.cipher = change_field(entry.cipher, change),
-        9 => next.tag = change_field(entry.tag, change),
-        _ => next.rounds = change_number(entry.rounds, 10000000, change),
+        2 => entry.set = change_number(entry.set, sets::ROWS as u64 + 1, change),
+        3 => entry.chip = change_number(entry.chip, 65536, change),
+        4 => entry.key = change_field(entry.key, change),
+        5 => entry.nonce = change_field(entry.nonce, change),
+        6 => entry.ad = change_field(entry.ad, change),
+        7 => entry.text = change_field(entry.text, change),
+        8 => entry.cipher = change_field(entry.cipher, change),
+        9 => entry.tag = change_field(entry.tag, change),
+        _ => entry.rounds = change_number(entry.rounds, 10000000, change),
     }
-    next
+    entry
 }
 
 // Writes a record with a part changed, each of the nine in turn.
 fn try_parts(name: &[u8], form: Form, entry: Record, change: Change) {
-    let mut part: usize = 2;
-    while part < 11 {
+    for part in 2..=10 {
         say_count(name, part);
         attempt(form, change_part(entry, part, change), PLACES);
-        part += 1;
     }
 }
 
 // Writes a record with its last parts over their limits, the last alone first and all nine in the end, in no room.
-fn try_several(form: Form, entry: Record) {
-    let mut next = entry;
-    let mut part: usize = 10;
-    while 1 < part {
-        next = change_part(next, part, Change::Over);
+fn try_several(form: Form, mut entry: Record) {
+    for part in (2..=10).rev() {
+        entry = change_part(entry, part, Change::Over);
         say_count(b"over from part ", part);
-        attempt(form, next, 0);
-        part -= 1;
+        attempt(form, entry, 0);
     }
 }
 
@@ -193,24 +187,24 @@ fn rewrite(form: Form, entry: Record) {
 fn rewrite_all(text: &[u8])
     requires { length text.now ≤ 65536 }
 {
-    let mut at = 0;
-    let mut number = 1;
-    while at < text.len() {
+    let mut rest = text;
+    let mut number: u64 = 1;
+    while !rest.is_empty() {
         say_line(b"record=", number);
-        let reading = record::read_any(&text[at..]);
-        let content = reading.content;
-        let taken = reading.taken;
-        if taken == 0 {
-            say_count(b"unread: line=", reading.line);
-            say_line(b" column=", reading.column as u64);
-            return;
-        }
+        let reading = match record::read_any(rest) {
+            Ok(reading) => reading,
+            Err(unread) => {
+                say_count(b"unread: line=", unread.line);
+                say_line(b" column=", unread.column as u64);
+                return;
+            }
+        };
         say_line(b"form=", 1);
-        rewrite(Form::One, content);
+        rewrite(Form::One, reading.content);
         say_line(b"form=", 2);
-        rewrite(Form::Two, content);
-        at += taken;
-        number = std::num::wrapping_add_u64(number, 1);
+        rewrite(Form::Two, reading.content);
+        rest = &rest[reading.taken..];
+        number = number.wrapping_add(1);
     }
 }
 

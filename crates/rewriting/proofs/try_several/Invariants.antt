@@ -1,8 +1,0 @@
--- `rewriting::try_several` is safe and ends: the measure is the number of parts left.
-use Rattle.rewriting.proofs.try_several.Given as goal
-
-abbrev pub invariant-loop-part : goal.invariant-loop-part
-invariant-loop-part l = Unit {0}
-
-abbrev pub decreases-loop-part : goal.decreases-loop-part
-decreases-loop-part l = l.part
