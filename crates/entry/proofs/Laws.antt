@@ -13,7 +13,7 @@ use Rattle.lines.proofs.Readings as readings
 use Rattle.lines.proofs.Readings.{Answers}
 use Rattle.record.specs.declared.form.Form.TheVariants.{One}
 use Rattle.record.specs.declared.form.Record.{Record}
-use Rattle.record.specs.declared.reading.Reading.{Reading}
+use Rattle.record.specs.Calls.{Reading}
 use Rattle.record.specs.Calls.{refused_at, read_as, write_leaves}
 use Rattle.record.specs.Laws.{Typed, Spellable}
 use Rattle.record.proofs.InForm.{in_form}

@@ -14,7 +14,7 @@ use Rattle.digits.specs.Numbers.{places, decimals, numeral}
 use Rattle.digits.proofs.Numerals.{places_least, length_numeral}
 use Rattle.digits.proofs.Spelling.{and_both}
 use Rattle.lines.specs.declared.kinds.Value.TheVariants.{Fixed, Bytes}
-use Rattle.lines.specs.declared.walk.Found.{Found}
+use Rattle.lines.specs.Steps.{Found}
 use Rattle.lines.specs.Right.{name_of, Right, Lines}
 use Rattle.lines.specs.Laws.{fits, plain, Fit, FoundIn, OneFeed}
 use Rattle.lines.proofs.Rows.{Rows}

@@ -1,20 +1,21 @@
 -- What reading and writing an entry answer.
-use Rattle.std.specs.Prelude.{Bool, false, cond, List, [], ℕ, ◌-◌, ◌*◌, eqb, length, take, drop}
+use Rattle.std.specs.Prelude.{Bool, false, cond, List, [], ℕ, ◌-◌, ◌*◌, eqb, length, take, drop, Result, Ok, Err}
 use Rattle.answers.specs.declared.Answer.{Answer}
 use Rattle.answers.specs.declared.Answer.TheVariants.{UnknownSet}
 use Rattle.ascon.specs.Sets.{is_set, row_of}
 use Rattle.digits.specs.declared.hex.Case.TheVariants.{Upper}
 use Rattle.digits.specs.Hex.{from_hex_in}
-use Rattle.lines.specs.declared.walk.Found.{Found}
 use Rattle.lines.specs.Right.{value_in}
-use Rattle.lines.specs.Steps.{read_of}
+use Rattle.lines.specs.Steps.{Found, read_of}
 use Rattle.lines.specs.Tables.{Outcome, whole, broken_at, lines_from}
 use Rattle.record.specs.declared.field.Field.{Field}
 use Rattle.record.specs.declared.form.Form.TheVariants.{One}
 use Rattle.record.specs.declared.form.Record.{Record}
-use Rattle.record.specs.declared.reading.Reading.{Reading}
 use Rattle.record.specs.Form.{field_of, blank}
-use Rattle.record.specs.Calls.{fitted, refused_at, read_as, WriteLeaves, write_as}
+use Rattle.record.specs.declared.outcome.Read.{Read}
+use Rattle.record.specs.Calls.{Reading, fitted, refused_at, read_as, WriteLeaves, write_as}
+use Rattle.entry.specs.declared.reading.Unread.{Unread}
+use Rattle.entry.specs.declared.reading.Unread.TheVariants as unread
 use Rattle.entry.specs.Form.{kind_at, entry_text, right_rounds}
 
 -- ---- reading
@@ -82,6 +83,12 @@ refused_for answer line column early = record { answer = answer; line = line; co
 -- for its set: no line and column
 abbrev pub unknown : Reading
 unknown = refused_for UnknownSet 0 0 false
+
+-- the answer of a reading that gives the record and how many bytes it took, or why nothing is read
+abbrev pub reading_of : Result (Read Record) Unread → Reading
+reading_of (Ok read) = read_as read.taken read.content
+reading_of (Err unread.UnknownSet) = unknown
+reading_of (Err (unread.Broken wrong)) = refused_at wrong.line wrong.column wrong.early
 
 -- the entry of a set and a number that a text begins with
 unfoldable pub read_entry : ℕ → ℕ → List ℕ → Reading

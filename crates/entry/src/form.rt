@@ -29,12 +29,12 @@ fn count_name(number: u64) -> Name
 }
 
 // The name of a line, with which it begins.
+#[tactic(auto, unfolding(crate::specs::Form::name))]
 pub(crate) fn name_of(number: u64, line: usize) -> Name
     ensures { result ≡ named (name number line) }
 {
     match line {
-        0 => count_name(number),
-        1 => count_name(number),
+        0 | 1 => count_name(number),
         2 => lines::named(b"Key = "),
         3 => lines::named(b"Nonce = "),
         4 => lines::named(b"PT = "),
@@ -45,25 +45,26 @@ pub(crate) fn name_of(number: u64, line: usize) -> Name
 }
 
 // What may stand behind the name of a line, in this set.
+#[tactic(auto, using(sets::proofs::Rows::row_sizes), unfolding(crate::specs::Form::value_kind))]
 fn value_of(set: u64, line: usize) -> Value
     ensures { result ≡ value_kind (row_of set).key line }
 {
     let key = sets::key_length(set) as u16;
     match line {
-        2 => Value::Bytes(key, key, Case::Upper),
-        3 => Value::Bytes(key, key, Case::Upper),
-        4 => Value::Bytes(0, 256, Case::Upper),
-        5 => Value::Bytes(0, 256, Case::Upper),
+        2 | 3 => Value::Bytes(key, key, Case::Upper),
+        4 | 5 => Value::Bytes(0, 256, Case::Upper),
         6 => Value::Bytes(key, key + 256, Case::Upper),
         _ => Value::Fixed(0),
     }
 }
 
 // The kind of a line, in an entry of this set and number.
+#[tactic(auto, unfolding(crate::specs::Form::kind_at))]
 pub(crate) fn kind_at(set: u64, number: u64, line: usize) -> Kind
     ensures { result ≡ kind_at set number line }
 {
-    let name = name_of(number, line);
-    let value = value_of(set, line);
-    Kind { name, value }
+    Kind {
+        name: name_of(number, line),
+        value: value_of(set, line),
+    }
 }

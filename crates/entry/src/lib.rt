@@ -6,5 +6,5 @@ mod form;
 mod reading;
 mod writing;
 
-pub use reading::read;
+pub use reading::{Unread, read};
 pub use writing::write;

@@ -5,14 +5,13 @@ ghost use Rattle.digits.specs.Hex.{hex_in};
 ghost use Rattle.digits.specs.Room.{laid, put};
 ghost use Rattle.record.specs.declared.form.Form.TheVariants.{One};
 ghost use Rattle.record.specs.Form.{field_of, held, broken};
-ghost use Rattle.record.specs.Calls.{write_leaves, refused_with};
+ghost use Rattle.record.specs.Calls.{writing_of, write_leaves};
 ghost use Rattle.entry.specs.Form.{bytes_at, line_text, entry_text};
 ghost use Rattle.entry.specs.Calls.{write_entry};
 
 use crate::form;
-use answers::Answer;
 use digits::Case;
-use record::{Field, Form, Record, Writing};
+use record::{Field, Form, Record, Unwritten};
 
 // The field of a record that stands behind the name of a line; the empty one where none does.
 fn first_field(line: usize, entry: Record) -> Field
@@ -33,9 +32,10 @@ fn second_field(line: usize, entry: Record) -> Field
     ensures { result ≡ cond (eqb line 6) entry.tag (field_of []) }
 {
     if line == 6 {
-        return entry.tag;
+        entry.tag
+    } else {
+        record::read_field(Case::Upper, b"")
     }
-    record::read_field(Case::Upper, b"")
 }
 
 // Puts the digits of a field at the beginning of a place, and gives how many.
@@ -43,9 +43,7 @@ fn put_field(field: Field, out: &mut [u8]) -> usize
     requires { field.size ≤ 256 }
     ensures { laid result out.new ≡ put (hex_in Upper (held field)) out.old }
 {
-    let bytes = field.bytes;
-    let size = field.size;
-    digits::put_bytes(Case::Upper, &bytes[..size], out)
+    digits::put_bytes(Case::Upper, &field.bytes[..field.size], out)
 }
 
 // Puts the digits of a line of a record in form at the beginning of a place that has room for them, and gives how many.
@@ -64,11 +62,9 @@ fn put_line(number: u64, line: usize, entry: Record, out: &mut [u8]) -> usize
     ensures { laid result out.new ≡ put (line_text number line entry) out.old }
 {
     let name = form::name_of(number, line);
-    let bytes = name.bytes;
-    let size = name.size;
     let mut value = [0; 544];
     let count = put_value(line, entry, &mut value);
-    digits::put_line(&bytes[..size], &value[..count], out)
+    digits::put_line(&name.bytes[..name.size], &value[..count], out)
 }
 
 // Puts the entry of a record in form at the beginning of a place that has room for it, and gives its length.
@@ -78,47 +74,26 @@ fn put_entry(number: u64, entry: Record, out: &mut [u8]) -> usize
     ensures { laid result out.new ≡ put (entry_text number entry) out.old }
 {
     let mut at = 0;
-    let mut line = 1;
-    while line <= 7 {
+    for line in 1..8 {
         at += put_line(number, line, entry, &mut out[at..]);
-        line += 1;
     }
     at
 }
 
-// A refusal: the answer, and the broken line if there is one.
-fn refusal(answer: Answer, line: usize) -> Writing
-    ensures { result ≡ refused_with answer line }
-{
-    Writing {
-        answer,
-        line,
-        column: 0,
-        written: 0,
-    }
-}
-
 // Writes the entry of a record at the beginning of a place; a record out of form, with a chip, or a place too short is refused.
-pub fn write(number: u64, entry: Record, out: &mut [u8]) -> Writing
-    ensures { write_leaves result out.new ≡ write_entry number entry out.old }
+pub fn write(number: u64, entry: Record, out: &mut [u8]) -> Result<usize, Unwritten>
+    ensures { write_leaves (writing_of result) out.new ≡ write_entry number entry out.old }
 {
-    let bad = record::first_broken(Form::One, entry);
-    if bad != 0 {
-        return refusal(Answer::BrokenRecord, bad);
+    if let Some(line) = record::first_broken(Form::One, entry) {
+        return Err(Unwritten::Broken { line });
     }
     if entry.chip != 0 {
-        return refusal(Answer::ChipLost, 0);
+        return Err(Unwritten::ChipLost);
     }
     let mut text = [0; 1696];
     let size = put_entry(number, entry, &mut text);
     if out.len() < size {
-        return refusal(Answer::NoRoom, 0);
+        return Err(Unwritten::NoRoom);
     }
-    digits::put_text(&text[..size], out);
-    Writing {
-        answer: Answer::Done,
-        line: 0,
-        column: 0,
-        written: size,
-    }
+    Ok(digits::put_text(&text[..size], out))
 }

@@ -1,4 +1,4 @@
--- `entry::reading::read` meets its contract. The loop's invariant: the lines left decide. The measure is their number.
+-- `entry::reading::read` meets its contract. The loop's invariant: the lines left decide.
 use mathlib.Core.Path.{◌≡◌}
 use mathlib.Core.List.{List}
 use Prim.Native.Nat.{ℕ, ◌-◌, ◌≤◌}
@@ -19,14 +19,9 @@ from set number line at r text = lines_from (read_at set number) (given set numb
 
 -- what holds before a line is read
 pub record Left (set number : ℕ) (text : List ℕ) (r : Record) (at line : ℕ) : Type 0 where
-  pub first : 1 ≤ line
-  pub most : line ≤ 8
   pub inside : at ≤ length text
   pub few : Few r
   pub rest : from set number line at r text ≡ lines_of set number 7 text
 
 abbrev pub invariant-loop-line : goal.invariant-loop-line
-invariant-loop-line l = Left l.set l.number l.text l.entry l.at l.line
-
-abbrev pub decreases-loop-line : goal.decreases-loop-line
-decreases-loop-line l = 8 - l.line
+invariant-loop-line l = Left l.set l.number l.text l.content l.taken l.line

@@ -1,6 +1,6 @@
 use mathlib.Core.Path.{◌≡◌, refl, sym, ap, ◌∙◌}
 use mathlib.Core.List.{List, [], ◌++◌, append_assoc}
-use Prim.Native.Nat.{ℕ, suc, ◌+◌, ◌-◌, ◌≤◌}
+use Prim.Native.Nat.{ℕ, suc, ◌+◌, ◌-◌, ◌≤◌, ◌<◌}
 use native.Mathlib.Omega.{arith}
 use lib.ListN.{length, take, drop, length-append}
 use Rattle.digits.specs.Room.{laid, put}
@@ -11,7 +11,7 @@ use Rattle.entry.specs.Form.{line_text, entry_text}
 use Rattle.entry.proofs.writing.put_entry.Invariants.{Left}
 use Rattle.entry.proofs.writing.put_entry.Goals as goal
 
-module _ (number : ℕ) (r : Record) (before out : List ℕ) (at line : ℕ) (left : Left number r before out at line) (h : line ≤ 7)
+module _ (number : ℕ) (r : Record) (before out : List ℕ) (at line : ℕ) (left : Left number r before out at line) (h : line < 8)
     (room : length (entry_text number r) ≤ length before) where
   -- the lines up to this one
   abbrev passed : List ℕ
@@ -32,7 +32,6 @@ module _ (number : ℕ) (r : Record) (before out : List ℕ) (at line : ℕ) (le
       → Left number r before (behind at out part) (at + n) (line + 1)
   one_more part n e =
       record {
-        most = omega arith;
         earlier = passed;
         whole = parts;
         done = put_after left.earlier (line_text number line r) before out part at n left.done (omega (arith, ap length parts, length-append passed later)) e;
@@ -40,7 +39,7 @@ module _ (number : ℕ) (r : Record) (before out : List ℕ) (at line : ℕ) (le
 
 pub loop-line-init : goal.loop-line-init
 unfolding entry_text
-loop-line-init c = record { most = omega arith; earlier = []; whole = refl; done = sym (put_fits [] c.args.out.now (omega arith)) }
+loop-line-init c = record { earlier = []; whole = refl; done = sym (put_fits [] c.args.out.now (omega arith)) }
 
 pub slice_bounds-put_line-count : goal.slice_bounds-put_line-count
 slice_bounds-put_line-count c = (put_inside _ _ _ _ c.loop-line.invariant.done).0

@@ -1,8 +1,7 @@
--- `entry::writing::put_entry` meets its contract. The loop's invariant: the lines before stand in the place, and with those left they are the entry. The measure is the
--- number of lines left.
+-- `entry::writing::put_entry` meets its contract. The loop's invariant: the lines before stand in the place, and with those left they are the entry.
 use mathlib.Core.Path.{◌≡◌}
 use mathlib.Core.List.{List, ◌++◌}
-use Prim.Native.Nat.{ℕ, ◌-◌, ◌≤◌}
+use Prim.Native.Nat.{ℕ, ◌-◌}
 use Rattle.digits.specs.Room.{laid, put}
 use Rattle.lines.specs.Texts.{text_from}
 use Rattle.record.specs.declared.form.Record.{Record}
@@ -11,13 +10,9 @@ use Rattle.entry.proofs.writing.put_entry.Given as goal
 
 -- what holds before a line is put
 pub record Left (number : ℕ) (r : Record) (before out : List ℕ) (at line : ℕ) : Type 0 where
-  pub most : line ≤ 8
   pub earlier : List ℕ
   pub whole : earlier ++ text_from (line_text number) (8 - line) line r ≡ entry_text number r
   pub done : laid at out ≡ put earlier before
 
 abbrev pub invariant-loop-line : goal.invariant-loop-line
 invariant-loop-line l = Left l.number l.entry l.initial.out l.out l.at l.line
-
-abbrev pub decreases-loop-line : goal.decreases-loop-line
-decreases-loop-line l = 8 - l.line

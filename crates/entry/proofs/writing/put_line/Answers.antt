@@ -21,8 +21,10 @@ use Rattle.entry.proofs.writing.put_line.Goals as goal
 held_name : (number line : ℕ) (n : Name) → number ≤ largest_number → n ≡ named (name number line) → Holds (name number line) n
 held_name number line n h e = named_holds (name number line) (omega (arith, name_few number h line)) n e
 
-pub slice_bounds-bytes-end : goal.slice_bounds-bytes-end
-slice_bounds-bytes-end c = (held_name c.args.number c.args.line _ (omega (arith, c.ranges.number.fits)) c.name_of-name.ensures).inside
+pub shared_ref_as_front-put_line : goal.shared_ref_as_front-put_line
+shared_ref_as_front-put_line c =
+    let h : c.args.number ≤ largest_number = omega (arith, c.ranges.number.fits) in
+    omega (arith, (held_name c.args.number c.args.line _ h c.name_of-name.ensures).size_is, name_few c.args.number h c.args.line)
 
 pub slice_bounds-put_line-end : goal.slice_bounds-put_line-end
 slice_bounds-put_line-end c =

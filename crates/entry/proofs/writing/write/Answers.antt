@@ -6,18 +6,21 @@ use native.Mathlib.Omega.{arith}
 use lib.ListN.{length, take}
 use lib.Seq.{length-take-le, take-append_seam}
 use borrow.Author.Tests.{le-leb, lt-leb, eq-eqb, ne_eqb}
-use Rattle.answers.specs.declared.Answer.TheVariants.{Done}
 use Rattle.digits.specs.Room.{laid, put}
 use Rattle.digits.proofs.Room.{put_inside, put_count}
 use Rattle.record.specs.declared.form.Form.TheVariants.{One}
 use Rattle.record.specs.declared.form.Record.{Record}
-use Rattle.record.specs.declared.writing.Writing.{Writing}
 use Rattle.record.specs.Form.{broken}
-use Rattle.record.specs.Calls.{write_leaves}
+use Rattle.record.proofs.Written.{found_line, none_found}
 use Rattle.entry.specs.Form.{largest_number, entry_text}
 use Rattle.entry.specs.Calls.{write_entry}
 use Rattle.entry.proofs.Bounds.{entry_most}
 use Rattle.entry.proofs.writing.write.Goals as goal
+use Rattle.entry.proofs.writing.write.Goals.{In_default}
+
+-- no line breaks its rule
+in_form : (c : In_default) → broken One c.args.entry ≡ 0
+in_form c = none_found _ (sym c.first_broken.ensures ∙ c.in_default.is)
 
 -- the text put is the record's
 text-put : (number size : ℕ) (e : Record) (before after : List ℕ) → number ≤ largest_number → broken One e ≡ 0 → length before ≡ 1_696
@@ -27,37 +30,32 @@ text-put number size e before after h in_form room is =
     let whole = put_count text before after size is (rw room (entry_most number h e in_form)) in
     (whole.0, ap₂ take whole.0 whole.1 ∙ take-append_seam text _)
 
-pub returns-then-bad-ne0 : goal.returns-then-bad-ne0
+pub returns-in-Some : goal.returns-in-Some
 unfolding write_entry
-returns-then-bad-ne0 c =
-    let a = c.args in
-    let bad = c.first_broken-bad.ensures in
-    rw (ne_eqb (broken One a.entry) 0 (λ e. c.if-bad-ne0.true (bad ∙ e)), ← bad) (ap (λ (w : Writing). write_leaves w a.out.now) c.refusal.ensures)
+returns-in-Some c =
+    let found = found_line (broken One c.args.entry) c.in-Some.line (sym c.first_broken.ensures ∙ c.in-Some.is) in
+    rw (ne_eqb (broken One c.args.entry) 0 (λ e. omega (arith, e, found.1)), found.0)
 
 pub returns-then-entry-ne0 : goal.returns-then-entry-ne0
 unfolding write_entry
-returns-then-entry-ne0 c =
-    let a = c.args in
-    rw (sym c.first_broken-bad.ensures ∙ c.if-bad-ne0.false, ne_eqb a.entry.chip 0 c.if-entry-ne0.true)
-    (ap (λ (w : Writing). write_leaves w a.out.now) c.refusal-then-entry-ne0.ensures)
+returns-then-entry-ne0 c = rw (in_form (goal.at.returns-then-entry-ne0 c).In_default, ne_eqb c.args.entry.chip 0 c.if-entry-ne0.true)
 
 pub put_entry-size-requires : goal.put_entry-size-requires
 put_entry-size-requires c =
-    let in_form = sym c.first_broken-bad.ensures ∙ c.if-bad-ne0.false in
-    record { value = in_form; in_bounds = entry_most c.args.number (omega (arith, c.ranges.number.fits)) c.args.entry in_form }
+    let whole = in_form (goal.at.put_entry-size-requires c).In_default in
+    record { value = whole; in_bounds = entry_most c.args.number (omega (arith, c.ranges.number.fits)) c.args.entry whole }
 
 pub returns-then-out-size : goal.returns-then-out-size
 unfolding write_entry
 returns-then-out-size c =
     let a = c.args in
-    let in_form = sym c.first_broken-bad.ensures ∙ c.if-bad-ne0.false in
-    let done = text-put a.number _ a.entry _ _ (omega (arith, c.ranges.number.fits)) in_form refl c.put_entry-size.ensures in
+    let whole = in_form (goal.at.returns-then-out-size c).In_default in
+    let done = text-put a.number _ a.entry _ _ (omega (arith, c.ranges.number.fits)) whole refl c.put_entry-size.ensures in
     rw (
-      in_form,
+      whole,
       eq-eqb a.entry.chip 0 c.if-entry-ne0.false,
       lt-leb (length (entry_text a.number a.entry)) (length a.out.now) (omega (arith, done.0, c.if-out-size.true)),
     )
-    (ap (λ (w : Writing). write_leaves w a.out.now) c.refusal-then-out-size.ensures)
 
 pub slice_bounds-text-end : goal.slice_bounds-text-end
 slice_bounds-text-end c = (put_inside _ _ _ _ c.put_entry-size.ensures).0
@@ -70,10 +68,9 @@ pub returns : goal.returns
 unfolding write_entry
 returns c =
     let a = c.args in
-    let in_form = sym c.first_broken-bad.ensures ∙ c.if-bad-ne0.false in
-    let done = text-put a.number _ a.entry _ _ (omega (arith, c.ranges.number.fits)) in_form refl c.put_entry-size.ensures in
+    let whole = in_form (goal.at.returns c).In_default in
+    let done = text-put a.number _ a.entry _ _ (omega (arith, c.ranges.number.fits)) whole refl c.put_entry-size.ensures in
     let text = entry_text a.number a.entry in
     let fits : length text ≤ length a.out.now = omega (arith, done.0, c.if-out-size.false) in
-    let whole = put_count text a.out.now _ _ (c.put_text.ensures ∙ ap (λ (x : List ℕ). put x a.out.now) done.1) fits in
-    rw (in_form, eq-eqb a.entry.chip 0 c.if-entry-ne0.false, le-leb (length text) (length a.out.now) fits)
-    (λ j. write_leaves (record { answer = Done; line = 0; column = 0; written = done.0 j }) (whole.1 j))
+    let put = put_count text a.out.now _ _ (c.put_text.ensures ∙ ap (λ (x : List ℕ). put x a.out.now) done.1) fits in
+    rw (whole, eq-eqb a.entry.chip 0 c.if-entry-ne0.false, le-leb (length text) (length a.out.now) fits, put.0, put.1)
