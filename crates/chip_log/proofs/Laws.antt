@@ -10,7 +10,7 @@ use Rattle.lines.proofs.Texts as texts
 use Rattle.lines.proofs.Readings as readings
 use Rattle.lines.proofs.Readings.{Answers}
 use Rattle.record.proofs.Laws.{done_broken}
-use Rattle.chip_log.specs.declared.reading.Reading.{Reading}
+use Rattle.chip_log.specs.Calls.{Reading}
 use Rattle.chip_log.specs.Form.{line_text, entry_text, blank}
 use Rattle.chip_log.specs.Calls.{read_call, read_line, read_at, given, refused_at, read_as, answered, read_entry}
 use Rattle.chip_log.specs.Laws.{InForm, most_bytes, ReadsLog}

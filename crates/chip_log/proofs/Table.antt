@@ -14,7 +14,7 @@ use Rattle.digits.specs.declared.hex.Case.TheVariants.{Lower}
 use Rattle.digits.specs.Ascii.{ascii}
 use Rattle.digits.specs.Room.{line_of}
 use Rattle.lines.specs.declared.kinds.Value.TheVariants.{Fixed, Number, Bytes}
-use Rattle.lines.specs.declared.walk.Found.{Found}
+use Rattle.lines.specs.Steps.{Found}
 use Rattle.lines.specs.Right.{name_of, Right, Lines}
 use Rattle.lines.specs.Steps.{read_of, either_of}
 use Rattle.lines.specs.Laws.{fits, plain, Fit, FoundIn, Either, OneFeed}

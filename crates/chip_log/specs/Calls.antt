@@ -1,19 +1,20 @@
 -- What reading an entry of a log answers.
-use Rattle.std.specs.Prelude.{Bool, false, cond, List, ℕ, eqb}
+use Rattle.std.specs.Prelude.{Bool, false, cond, List, ℕ, eqb, Result, Ok, Err}
+use Rattle.answers.specs.declared.Answer.{Answer}
 use Rattle.answers.specs.declared.Answer.TheVariants.{Done, BrokenRecord}
 use Rattle.digits.specs.declared.hex.Case.TheVariants.{Lower}
 use Rattle.digits.specs.Hex.{from_hex_in}
 use Rattle.lines.specs.declared.kinds.Kind.{Kind}
-use Rattle.lines.specs.declared.walk.Found.{Found}
 use Rattle.lines.specs.Right.{value_in}
-use Rattle.lines.specs.Steps.{read_of, either_of}
+use Rattle.lines.specs.Steps.{Found, read_of, either_of}
 use Rattle.lines.specs.Tables.{Outcome, whole, broken_at, lines_from}
 use Rattle.record.specs.declared.field.Field.{Field}
+use Rattle.record.specs.declared.outcome.Read.{Read}
+use Rattle.record.specs.declared.outcome.Unread.{Unread}
 use Rattle.record.specs.Calls.{fitted}
 use Rattle.chip_log.specs.declared.form.Call.{Call}
 use Rattle.chip_log.specs.declared.form.Call.TheVariants.{Start1, Start2, Ad, Text, Finish}
 use Rattle.chip_log.specs.declared.form.Entry.{Entry}
-use Rattle.chip_log.specs.declared.reading.Reading.{Reading}
 use Rattle.chip_log.specs.Form.{kind_at, call_kind, blank}
 
 -- the call that the number of a first line tells
@@ -34,10 +35,6 @@ read_line call line text = cond (eqb line 1) (read_call text) (read_of (kind_at 
 unfoldable pub field_in : Kind → List ℕ → Field
 field_in kind line = fitted (from_hex_in Lower (value_in kind line))
 
--- the entry with another call
-abbrev pub with_call : Call → Entry → Entry
-with_call call e = record { call = call; input = e.input; answer = e.answer; out = e.out; rounds = e.rounds }
-
 -- the table: how a line is read, and the entry that the lines give with it
 abbrev pub read_at : ℕ → Entry → List ℕ → Found
 read_at line e text = read_line e.call line text
@@ -56,6 +53,16 @@ given line e says text =
 abbrev pub lines_of : ℕ → List ℕ → Outcome Entry
 lines_of count text = lines_from read_at given count 1 0 blank text
 
+-- what reading answers: the answer; the line and column at which a text is wrong, and whether it only ended too early, so that more of it can make an entry; how many
+-- bytes were taken; and the entry
+pub record Reading : Type 0 where
+  pub answer : Answer
+  pub line : ℕ
+  pub column : ℕ
+  pub early : Bool
+  pub taken : ℕ
+  pub content : Entry
+
 -- refused at a line and column, by a text that ended too early or not: nothing taken
 unfoldable pub refused_at : ℕ → ℕ → Bool → Reading
 refused_at line column early = record { answer = BrokenRecord; line = line; column = column; early = early; taken = 0; content = blank }
@@ -71,3 +78,8 @@ answered (broken_at line column early) = refused_at line column early
 -- the entry that a text begins with
 unfoldable pub read_entry : List ℕ → Reading
 read_entry text = answered (lines_of 5 text)
+
+-- what is answered by a reading that gives the entry and how many bytes it took, or where the text is wrong
+abbrev pub reading_of : Result (Read Entry) Unread → Reading
+reading_of (Ok read) = read_as read.taken read.content
+reading_of (Err wrong) = refused_at wrong.line wrong.column wrong.early

@@ -2,21 +2,21 @@
 ghost use Rattle.std.specs.Prelude.{◌≡◌, ◌++◌};
 ghost use Rattle.digits.specs.Ascii.{ascii};
 ghost use Rattle.lines.specs.Right.{named};
-ghost use Rattle.chip_log.specs.Form.{word_of, rank_of, call_kind, start_data, data_kind, name, value_kind, kind_at};
+ghost use Rattle.chip_log.specs.Form.{word_of, call_kind, start_data, data_kind, name, value_kind, kind_at};
 ghost use Rattle.chip_log.specs.Calls.{call_of, read_call, read_line};
 
 use digits::Case;
-use lines::{Found, Kind, Name, Value};
+use lines::{Kind, Line, Name, Stopped, Value};
 use record::Field;
 
-// A call on a stream: a start in set 1 or 2, a piece of the associated data, a piece of the text, the finish.
+// A call on a stream: a start in set 1 or 2, a piece of the associated data, a piece of the text, the finish; each with the number that its first line tells.
 #[derive(Clone, Copy)]
 pub enum Call {
-    Start1,
-    Start2,
-    Ad,
-    Text,
-    Finish,
+    Start1 = 1,
+    Start2 = 2,
+    Ad = 3,
+    Text = 4,
+    Finish = 5,
 }
 
 // An entry: the call and what it was handed; the answer, the output and the rounds that the chip gave.
@@ -42,59 +42,45 @@ fn call_name(call: Call) -> Name
     }
 }
 
-// The number that tells a call.
-fn rank(call: Call) -> u64
-    ensures { result ≡ rank_of call }
-{
-    match call {
-        Call::Start1 => 1,
-        Call::Start2 => 2,
-        Call::Ad => 3,
-        Call::Text => 4,
-        Call::Finish => 5,
-    }
-}
-
 // The kind of a call's first line.
+#[tactic(auto, unfolding(crate::specs::Form::call_kind))]
 fn call_kind(call: Call) -> Kind
     ensures { result ≡ call_kind call }
 {
-    let name = call_name(call);
     Kind {
-        name,
-        value: Value::Fixed(rank(call)),
+        name: call_name(call),
+        value: Value::Fixed(call as u64),
     }
 }
 
-// The call that a number tells.
-pub(crate) fn call_of(number: u64) -> Call
-    ensures { result ≡ call_of number }
-{
-    match number {
-        2 => Call::Start2,
-        3 => Call::Ad,
-        4 => Call::Text,
-        5 => Call::Finish,
-        _ => Call::Start1,
+// The call that a number tells; any other number tells a start in set 1.
+impl From<u64> for Call {
+    ghost from_gives = { λ number call. call ≡ call_of number };
+
+    fn from(number: u64) -> Call {
+        match number {
+            2 => Call::Start2,
+            3 => Call::Ad,
+            4 => Call::Text,
+            5 => Call::Finish,
+            _ => Call::Start1,
+        }
     }
 }
 
 // Reads the first line that a text begins with: that of any call.
-fn read_call(text: &[u8]) -> Found
+fn read_call(text: &[u8]) -> Result<Line, Stopped>
     ensures { result ≡ read_call text.now }
 {
-    let start1 = lines::read(call_kind(Call::Start1), text);
-    let start2 = lines::read(call_kind(Call::Start2), text);
-    let ad = lines::read(call_kind(Call::Ad), text);
-    let piece = lines::read(call_kind(Call::Text), text);
-    let finish = lines::read(call_kind(Call::Finish), text);
-    lines::either(
-        lines::either(lines::either(lines::either(start1, start2), ad), piece),
-        finish,
-    )
+    let mut found = lines::read(call_kind(Call::Start1), text);
+    for call in [Call::Start2, Call::Ad, Call::Text, Call::Finish] {
+        found = lines::either(found, lines::read(call_kind(call), text));
+    }
+    found
 }
 
 // What may stand on the second line of a start in a set: its key and its nonce.
+#[tactic(auto, using(sets::proofs::Rows::row_sizes))]
 fn start_data(set: u64) -> Value
     ensures { result ≡ start_data set }
 {
@@ -109,8 +95,7 @@ fn data_kind(call: Call) -> Value
     match call {
         Call::Start1 => start_data(1),
         Call::Start2 => start_data(2),
-        Call::Ad => Value::Bytes(0, 256, Case::Lower),
-        Call::Text => Value::Bytes(0, 256, Case::Lower),
+        Call::Ad | Call::Text => Value::Bytes(0, 256, Case::Lower),
         Call::Finish => Value::Bytes(0, 0, Case::Lower),
     }
 }
@@ -139,20 +124,24 @@ fn value_of(call: Call, line: usize) -> Value
 }
 
 // The kind of a line behind the first, in an entry of this call.
+#[tactic(auto, unfolding(crate::specs::Form::kind_at))]
 pub(crate) fn kind_at(call: Call, line: usize) -> Kind
     ensures { result ≡ kind_at call line }
 {
-    let name = name_of(line);
-    let value = value_of(call, line);
-    Kind { name, value }
+    Kind {
+        name: name_of(line),
+        value: value_of(call, line),
+    }
 }
 
 // Reads a line of an entry, where the first line, if there was one, told this call.
-pub(crate) fn read_line(call: Call, line: usize, text: &[u8]) -> Found
+#[tactic(auto, unfolding(crate::specs::Calls::read_line))]
+pub(crate) fn read_line(call: Call, line: usize, text: &[u8]) -> Result<Line, Stopped>
     ensures { result ≡ read_line call line text.now }
 {
     if line == 1 {
-        return read_call(text);
+        read_call(text)
+    } else {
+        lines::read(kind_at(call, line), text)
     }
-    lines::read(kind_at(call, line), text)
 }

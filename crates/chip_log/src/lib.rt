@@ -5,4 +5,4 @@ mod form;
 mod reading;
 
 pub use form::{Call, Entry};
-pub use reading::{Reading, read};
+pub use reading::read;

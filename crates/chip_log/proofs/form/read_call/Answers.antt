@@ -1,27 +1,27 @@
 -- `chip_log::form::read_call` meets its contract.
-use mathlib.Core.Path.{◌≡◌, ap, ap₂, ◌∙◌}
-use Rattle.lines.specs.declared.kinds.Kind.{Kind}
+use Rattle.std.proofs.Common.{arith, ◌≡◌, List, ℕ, ◌+◌, ◌<◌, length, drop, get_or, add-one}
+use Rattle.std.proofs.Math.Seq.{drop-cons}
+use Rattle.lines.specs.Steps.{Found}
 use Rattle.lines.specs.Steps.{read_of, either_of}
-use Rattle.chip_log.specs.declared.form.Call.TheVariants.{Start1, Start2, Ad, Text, Finish}
+use Rattle.chip_log.specs.declared.form.Call.{Call}
 use Rattle.chip_log.specs.Form.{call_kind}
 use Rattle.chip_log.specs.Calls.{read_call}
+use Rattle.chip_log.proofs.form.read_call.Invariants.{or_of}
 use Rattle.chip_log.proofs.form.read_call.Goals as goal
 
-pub returns : goal.returns
+-- the line of a call, or those of the calls behind it
+next_of : (found : Found) (calls : List Call) (other : Call) (i : ℕ) (text : List ℕ) → i < length calls
+    → or_of (either_of found (read_of (call_kind (get_or calls i other)) text)) (drop (i + 1) calls) text ≡ or_of found (drop i calls) text
+next_of found calls other i text h = rw (add-one, drop-cons calls i other)
+
+pub loop-call-init : goal.loop-call-init
 unfolding read_call
+loop-call-init c = rw (c.read-found.ensures, c.call_kind.ensures)
+
+pub loop-call-preserved : goal.loop-call-preserved
+loop-call-preserved c = rw (c.either-found.ensures, c.read.ensures, c.call_kind-in-loop-call.ensures, next_of _ _ _ _ _ c.loop-call-test.true) c.loop-call.invariant
+
+pub returns : goal.returns
 returns c =
-    let d = c in
-    let e = d in
-    let f = e in
-    let g = f in
-    let h = g in
-    let text = h.args.text.now in
-    let start1 : h.read-start1.result ≡ read_of (call_kind Start1) text = h.read-start1.ensures ∙ ap (λ (k : Kind). read_of k text) h.call_kind.ensures in
-    let start2 : g.read-start2.result ≡ read_of (call_kind Start2) text = g.read-start2.ensures ∙ ap (λ (k : Kind). read_of k text) g.call_kind-2.ensures in
-    let ad : f.read-ad.result ≡ read_of (call_kind Ad) text = f.read-ad.ensures ∙ ap (λ (k : Kind). read_of k text) f.call_kind-3.ensures in
-    let piece : e.read-piece.result ≡ read_of (call_kind Text) text = e.read-piece.ensures ∙ ap (λ (k : Kind). read_of k text) e.call_kind-4.ensures in
-    let finish : d.read-finish.result ≡ read_of (call_kind Finish) text = d.read-finish.ensures ∙ ap (λ (k : Kind). read_of k text) d.call_kind-5.ensures in
-    let one = c.either.ensures ∙ ap₂ either_of start1 start2 in
-    let two = c.either-2.ensures ∙ ap₂ either_of one ad in
-    let three = c.either-3.ensures ∙ ap₂ either_of two piece in
-    c.either-4.ensures ∙ ap₂ either_of three finish
+    let all : c.loop-call.call-index ≡ 4 = omega arith in
+    rw all at c.loop-call.invariant
