@@ -12,7 +12,7 @@ use Rattle.answers.specs.declared.Answer.TheVariants.{Done, BrokenRecord}
 use Rattle.answers.specs.Numbers.{is_done}
 use Rattle.answers.proofs.Numbers.{done_is}
 use Rattle.record.specs.declared.form.Record.{Record}
-use Rattle.record.specs.declared.reading.Reading.{Reading}
+use Rattle.record.specs.Calls.{Reading}
 use Rattle.record.specs.Text.{text_of}
 use Rattle.record.specs.Calls.{form_of, read_as, read_any}
 use Rattle.record.specs.Laws.{WrongAt}

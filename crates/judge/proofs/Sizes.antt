@@ -13,8 +13,7 @@ use Rattle.answers.specs.Numbers.{is_done}
 use Rattle.answers.specs.Order.{◌when◌, first}
 use Rattle.answers.proofs.Numbers.{done_is}
 use Rattle.record.specs.declared.form.Form.TheVariants.{Two}
-use Rattle.record.specs.declared.reading.Reading.{Reading}
-use Rattle.record.specs.Calls.{refused_at, read_any}
+use Rattle.record.specs.Calls.{Reading, refused_at, read_any}
 use Rattle.record.specs.Laws.{BegunAny}
 use Rattle.record.specs.Text.{most_bytes}
 use Rattle.record.proofs.Any.{any_inside, reads_any}

@@ -13,8 +13,7 @@ use Rattle.answers.specs.Numbers.{is_done}
 use Rattle.answers.specs.Order.{◌when◌, first}
 use Rattle.record.specs.declared.form.Form.TheVariants.{One}
 use Rattle.record.specs.declared.form.Record.{Record}
-use Rattle.record.specs.declared.reading.Reading.{Reading}
-use Rattle.record.specs.Calls.{form_of, refused_at, read_as, read_any}
+use Rattle.record.specs.Calls.{Reading, form_of, refused_at, read_as, read_any}
 use Rattle.record.proofs.Any.{reads_any}
 use Rattle.record.proofs.Places.{few_lines}
 use Rattle.record.proofs.TwoForms.{in_one}

@@ -2,8 +2,7 @@
 use Rattle.std.specs.Prelude.{Bool, cond, not, ◌&&◌, ◌||◌, List, [], ◌∷◌, ◌++◌, ℕ, zero, suc, ◌+◌, eqb, leb, length, take, drop}
 use Rattle.answers.specs.Numbers.{is_done}
 use Rattle.answers.specs.Order.{Choice, ◌when◌, first}
-use Rattle.record.specs.declared.reading.Reading.{Reading}
-use Rattle.record.specs.Calls.{read_any}
+use Rattle.record.specs.Calls.{Reading, read_any}
 use Rattle.report.specs.declared.Verdict.{Verdict}
 use Rattle.report.specs.declared.Verdict.TheVariants.{Unread}
 use Rattle.report.specs.Reports.{report_text}

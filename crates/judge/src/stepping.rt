@@ -1,9 +1,10 @@
 // One step of the program: from a window of the input to a report.
 ghost use Rattle.std.specs.Prelude.{◌≡◌, length};
+ghost use Rattle.record.specs.Calls.{reading_of};
 ghost use Rattle.judge.specs.Steps.{verdict_read, step_leaves, report_choices, step_by, step_call};
 
 use crate::verdict;
-use record::Reading;
+use record::{Read, Record, Unread};
 use report::Verdict;
 
 // What a step does.
@@ -30,39 +31,41 @@ pub enum Step {
 }
 
 // The verdict on what was read.
-fn verdict_on(reading: Reading) -> Verdict
-    ensures { result ≡ verdict_read reading }
+fn verdict_on(reading: Result<Read<Record>, Unread>) -> Verdict
+    ensures { result ≡ verdict_read (reading_of reading) }
 {
-    if answers::is_done(reading.answer) {
-        verdict::judge(reading.content)
-    } else {
-        Verdict::Unread {
-            line: reading.line,
-            column: reading.column,
-        }
+    match reading {
+        Ok(read) => verdict::judge(read.content),
+        Err(Unread { line, column, .. }) => Verdict::Unread { line, column },
     }
 }
 
+// Whether a text only ended too early, so that more of it can make a record.
+fn is_early(reading: Result<Read<Record>, Unread>) -> bool
+    ensures { result ≡ (reading_of reading).early }
+{
+    reading.is_err_and(|unread| unread.early)
+}
+
 // The report on what was read.
-fn report_on(reading: Reading, number: u64, out: &mut [u8]) -> Step
-    ensures { step_leaves result out.new ≡ step_by reading number out.old (report_choices reading number (length out.old)) }
+fn report_on(reading: Result<Read<Record>, Unread>, number: u64, out: &mut [u8]) -> Step
+    ensures { step_leaves result out.new ≡ step_by (reading_of reading) number out.old (report_choices (reading_of reading) number (length out.old)) }
 {
     let verdict = verdict_on(reading);
     let Ok(written) = report::report(number, verdict, out) else {
         return Step::Short;
     };
-    if answers::is_done(reading.answer) {
-        Step::Judged {
+    match reading {
+        Ok(Read { taken, .. }) => Step::Judged {
             verdict,
-            taken: reading.taken,
+            taken,
             written,
-        }
-    } else {
-        Step::Stopped {
-            line: reading.line,
-            column: reading.column,
+        },
+        Err(Unread { line, column, .. }) => Step::Stopped {
+            line,
+            column,
             written,
-        }
+        },
     }
 }
 
@@ -75,7 +78,7 @@ pub fn judge_window(window: &[u8], ended: bool, number: u64, out: &mut [u8]) -> 
         return if ended { Step::End } else { Step::Wait };
     }
     let reading = record::read_any(window);
-    if reading.early && !ended {
+    if is_early(reading) && !ended {
         return Step::Wait;
     }
     report_on(reading, number, out)

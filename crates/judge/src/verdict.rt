@@ -58,8 +58,7 @@ fn seal_record(entry: Record) -> Ours
 pub fn judge(entry: Record) -> Verdict
     ensures { result ≡ verdict_on entry }
 {
-    let line = record::first_broken(Form::One, entry);
-    if line != 0 {
+    if let Some(line) = record::first_broken(Form::One, entry) {
         return Verdict::Unread { line, column: 0 };
     }
     let ours = seal_record(entry);

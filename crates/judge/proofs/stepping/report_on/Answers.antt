@@ -9,7 +9,11 @@ use lib.Seq.{take-length}
 use Rattle.answers.specs.declared.Answer.TheVariants.{Done, NoRoom}
 use Rattle.answers.specs.Numbers.{is_done}
 use Rattle.answers.specs.Order.{◌when◌, first}
-use Rattle.record.specs.declared.reading.Reading.{Reading}
+use Rattle.std.specs.Prelude.{Result, Ok}
+use Rattle.record.specs.declared.form.Record.{Record}
+use Rattle.record.specs.declared.outcome.Read.{Read}
+use Rattle.record.specs.declared.outcome.Unread.{Unread}
+use Rattle.record.specs.Calls.{Reading, refused_at, read_as, reading_of}
 use Rattle.report.specs.declared.Verdict.{Verdict}
 use Rattle.report.specs.Reports.{report_text, ReportLeaves, report_leaves, report_call}
 use Rattle.judge.specs.declared.stepping.Step.TheVariants.{Judged, Stopped, Short}
@@ -53,11 +57,13 @@ by-report reading number out verdict leaves v l = made-first reading number out 
 pub returns-in_default : goal.returns-in_default
 returns-in_default c = sym (by-report _ _ _ _ _ c.verdict_on-verdict.ensures c.in_default.ensures)
 
-pub returns-then-is_done : goal.returns-then-is_done
-returns-then-is_done c =
-    sym
-    (by-report _ _ _ _ _ c.verdict_on-verdict.ensures c.in-Ok.ensures
-    ∙ rw (sym c.is_done.ensures ∙ c.if-is_done.true, sym c.verdict_on-verdict.ensures))
+pub returns-in-Ok-reading : goal.returns-in-Ok-reading
+unfolding read_as
+returns-in-Ok-reading c =
+    let verdict : c.verdict_on-verdict.result ≡ verdict_read (reading_of (Ok c.in-Ok-reading.field-0)) =
+    c.verdict_on-verdict.ensures ∙ ap (λ (r : Result (Read Record) Unread). verdict_read (reading_of r)) c.in-Ok-reading.is in
+    sym (by-report _ _ _ _ _ c.verdict_on-verdict.ensures c.in-Ok.ensures ∙ rw (c.in-Ok-reading.is, sym verdict))
 
-pub returns-else-is_done : goal.returns-else-is_done
-returns-else-is_done c = sym (by-report _ _ _ _ _ c.verdict_on-verdict.ensures c.in-Ok.ensures ∙ rw (sym c.is_done.ensures ∙ c.if-is_done.false))
+pub returns-in-Err : goal.returns-in-Err
+unfolding refused_at
+returns-in-Err c = sym (by-report _ _ _ _ _ c.verdict_on-verdict.ensures c.in-Ok.ensures ∙ rw c.in-Err.is)

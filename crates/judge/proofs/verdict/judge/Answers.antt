@@ -6,7 +6,9 @@ use Rattle.answers.specs.Order.{◌when◌, first}
 use Rattle.record.specs.declared.form.Form.TheVariants.{One}
 use Rattle.record.specs.declared.form.Record.{Record}
 use Rattle.record.specs.Form.{held, broken}
+use native.Mathlib.Omega.{arith}
 use Rattle.record.proofs.Fields.{held_field}
+use Rattle.record.proofs.Written.{none_found, found_line}
 use Rattle.report.specs.declared.Verdict.TheVariants.{Equal, Cipher, Tag}
 use Rattle.judge.specs.declared.verdict.Ours.{Ours}
 use Rattle.judge.specs.Difference.{differ}
@@ -35,31 +37,30 @@ by-fields r ours sound e same =
     let p = parts-of r ours e in
     rw (sound, eq-eqb _ _ (same ∙ p.same-rounds), p.same-cipher, p.same_tag)
 
-pub returns-then-line-ne0 : goal.returns-then-line-ne0
+pub returns-in-Some : goal.returns-in-Some
 unfolding verdict_on
-returns-then-line-ne0 c =
-    let line = c.first_broken-line.ensures in
-    let r = c.args.entry in
-    rw (ne_eqb (broken One r) 0 (λ e. c.if-line-ne0.true (line ∙ e)), ← line)
+returns-in-Some c =
+    let found = found_line _ _ (sym c.in-Some.ensures) in
+    rw (ne_eqb (broken One c.args.entry) 0 (λ e. omega (arith, found.1, e)), found.0)
 
 pub returns-then-entry-ours : goal.returns-then-entry-ours
 unfolding verdict_on
 returns-then-entry-ours c =
     let r = c.args.entry in
     let ours = parts-of _ _ c.seal_record-ours.ensures in
-    rw (sym c.first_broken-line.ensures ∙ c.if-line-ne0.false, ne_eqb r.rounds (our_rounds r) (λ e. c.if-entry-ours.true (e ∙ sym ours.same-rounds)))
+    rw (none_found _ (sym c.in_default.ensures), ne_eqb r.rounds (our_rounds r) (λ e. c.if-entry-ours.true (e ∙ sym ours.same-rounds)))
 
 pub returns-then-fields_differ : goal.returns-then-fields_differ
 returns-then-fields_differ c =
     rw (
-      by-fields _ _ (sym c.first_broken-line.ensures ∙ c.if-line-ne0.false) c.seal_record-ours.ensures c.if-entry-ours.false,
+      by-fields _ _ (none_found _ (sym c.in_default.ensures)) c.seal_record-ours.ensures c.if-entry-ours.false,
       sym c.fields_differ.ensures ∙ c.if-fields_differ.true,
     )
 
 pub returns-then-fields_differ-2 : goal.returns-then-fields_differ-2
 returns-then-fields_differ-2 c =
     rw (
-      by-fields _ _ (sym c.first_broken-line.ensures ∙ c.if-line-ne0.false) c.seal_record-ours.ensures c.if-entry-ours.false,
+      by-fields _ _ (none_found _ (sym c.in_default.ensures)) c.seal_record-ours.ensures c.if-entry-ours.false,
       sym c.fields_differ.ensures ∙ c.if-fields_differ.false,
       sym c.fields_differ-else-fields_differ.ensures ∙ c.if-fields_differ-2.true,
     )
@@ -67,7 +68,7 @@ returns-then-fields_differ-2 c =
 pub returns-else-fields_differ-2 : goal.returns-else-fields_differ-2
 returns-else-fields_differ-2 c =
     rw (
-      by-fields _ _ (sym c.first_broken-line.ensures ∙ c.if-line-ne0.false) c.seal_record-ours.ensures c.if-entry-ours.false,
+      by-fields _ _ (none_found _ (sym c.in_default.ensures)) c.seal_record-ours.ensures c.if-entry-ours.false,
       sym c.fields_differ.ensures ∙ c.if-fields_differ.false,
       sym c.fields_differ-else-fields_differ.ensures ∙ c.if-fields_differ-2.false,
     )
