@@ -80,7 +80,7 @@ places_least = by_digits (λ (n : ℕ). (k : ℕ) → n < 10 ^ suc k → places 
     more n d l h rest (suc k) b = omega (arith, places_more n d l h, rest k (omega arith))
 
 -- a number from a power of ten on has more digits than the power has zeros
-pub places_most : (n k : ℕ) → 10 ^ k ≤ n → suc k ≤ places n
+places_most : (n k : ℕ) → 10 ^ k ≤ n → suc k ≤ places n
 places_most = by_digits (λ (n : ℕ). (k : ℕ) → 10 ^ k ≤ n → suc k ≤ places n) one more
   where
     one : (d : ℕ) → d < 10 → (k : ℕ) → 10 ^ k ≤ d → suc k ≤ places d
@@ -94,6 +94,10 @@ places_most = by_digits (λ (n : ℕ). (k : ℕ) → 10 ^ k ≤ n → suc k ≤ 
     more : (n d : ℕ) → 1 ≤ n → d < 10 → ((k : ℕ) → 10 ^ k ≤ n → suc k ≤ places n) → (k : ℕ) → 10 ^ k ≤ 10 * n + d → suc k ≤ places (10 * n + d)
     more n d l h rest zero b = omega (arith, places_some (10 * n + d))
     more n d l h rest (suc k) b = omega (arith, places_more n d l h, rest k (omega arith))
+
+-- so how many digits it has
+pub places_is : (n k : ℕ) → 10 ^ k ≤ n → n < 10 * 10 ^ k → k + 1 ≡ places n
+places_is n k h b = omega (arith, places_least n k (omega arith), places_most n k h)
 
 -- a numeral has as many digits as its number
 pub length_numeral : (n : ℕ) → length (numeral n) ≡ places n

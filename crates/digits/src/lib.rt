@@ -12,6 +12,7 @@ pub use numbers::{number_length, put_number};
 
 // Puts a text at the beginning of a place, and gives its length; a place too short for it stays as it is, and the length is 0.
 // No Option here and in the three that put: each caller has made room, and adds the lengths of what it puts; an Option would be opened at each sum.
+#[tactic(auto, using(crate::proofs::Room::put_short, crate::proofs::Room::put_is))]
 pub fn put_text(text: &[u8], out: &mut [u8]) -> usize
     ensures { laid result out.new ≡ put text.now out.old }
 {
@@ -23,13 +24,16 @@ pub fn put_text(text: &[u8], out: &mut [u8]) -> usize
 }
 
 // Puts a line, a name, a value and a line feed, at the beginning of a place, and gives its length; a place too short for it stays as it is, and the length is 0.
+#[tactic(auto, using(crate::proofs::Room::put_short, crate::proofs::Room::length_line))]
 pub fn put_line(name: &[u8], value: &[u8], out: &mut [u8]) -> usize
     ensures { laid result out.new ≡ put (line_of name.now value.now) out.old }
 {
-    if out.len() < name.len() + value.len() + 1 {
+    let size = name.len() + value.len();
+    if out.len() <= size {
         return 0;
     }
-    let named = put_text(name, out);
-    let valued = named + put_text(value, &mut out[named..]);
-    valued + put_text(b"\n", &mut out[valued..])
+    out[..name.len()].copy_from_slice(name);
+    out[name.len()..size].copy_from_slice(value);
+    out[size] = b'\n';
+    size + 1
 }

@@ -4,6 +4,7 @@ ghost use Rattle.digits.specs.Numbers.{places, numeral};
 ghost use Rattle.digits.specs.Room.{laid, put};
 
 // How many digits the numeral of a number has.
+#[tactic(auto, using(crate::proofs::Numerals::places_is), unfolding(crate::specs::Numbers::places))]
 pub fn number_length(n: u64) -> usize
     ensures { result ≡ places n }
 {
@@ -14,6 +15,7 @@ pub fn number_length(n: u64) -> usize
 }
 
 // Puts the numeral of a number at the beginning of a place, and gives its length; a place too short for it stays as it is, and the length is 0.
+#[tactic(auto, using(crate::proofs::Room::put_short, crate::proofs::Room::put_is, crate::proofs::Numerals::length_numeral), unfolding(crate::specs::Numbers::numeral))]
 pub fn put_number(n: u64, out: &mut [u8]) -> usize
     ensures { laid result out.new ≡ put (numeral n) out.old }
 {

@@ -7,7 +7,7 @@ use lib.ListN.{length, get_or, set, drop}
 use lib.Seq.{take-length}
 use Rattle.digits.specs.declared.hex.Case.{Case}
 use Rattle.digits.specs.Hex.{hex_digit_in, hex_in}
-use Rattle.digits.proofs.Room.{put_short, put_is}
+use Rattle.digits.proofs.Room.{put_is}
 use Rattle.digits.proofs.Spelling.{length_hex}
 use Rattle.digits.proofs.hex.put_bytes.Invariants.{spelt}
 use Rattle.digits.proofs.hex.put_bytes.Goals as goal
@@ -29,11 +29,6 @@ one_more case (b ∷ x) (p ∷ []) i h room = absurd (omega arith)
 one_more case (b ∷ x) (p ∷ q ∷ out) zero h room = refl
 one_more case (b ∷ x) (p ∷ q ∷ out) (suc i) h room =
     rw (two-more i, two-more (suc i), suc_one (2 * i)) (ap (λ (y : List ℕ). hex_digit_in case (b / 16) ∷ hex_digit_in case (b % 16) ∷ y) (one_more case x out i (omega arith) (omega arith)))
-
-pub returns-then-out-bytes : goal.returns-then-out-bytes
-returns-then-out-bytes c =
-    let a = c.args in
-    put_short (hex_in a.case a.bytes.now) a.out.now (omega (arith, length_hex a.case a.bytes.now, c.if-out-bytes.true))
 
 pub loop-i-preserved : goal.loop-i-preserved
 loop-i-preserved c =
