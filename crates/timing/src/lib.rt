@@ -7,6 +7,7 @@ ghost use Rattle.timing.specs.Call.{called, permute_call, read_digits};
 use permutation::Run;
 
 // Runs twelve, or v1's eight or six rounds, on the words and gives their number; any other number of rounds gives 0 and leaves the words.
+// The answer is a number, 0 for a refusal, since C reads it by `kvistmaur_permute`.
 #[tactic(auto, unfolding(crate::specs::Call::permute_call, permutation::specs::Runs::rounds_of, permutation::specs::Runs::constants_of, permutation::specs::Runs::constants))]
 pub fn kvistmaur_permute(rounds: u64, words: &mut [u64; 5]) -> u64
     ensures { called result words.new ≡ permute_call rounds words.old }
