@@ -7,8 +7,7 @@ use native.Mathlib.Omega.{arith}
 use lib.Dec.{eqb}
 use lib.ListN.{length, drop}
 use borrow.Author.Tests.{eqb-true}
-use Rattle.record.specs.declared.reading.Reading.{Reading}
-use Rattle.record.specs.Calls.{refused_at, read_any}
+use Rattle.record.specs.Calls.{Reading, refused_at, read_any}
 use Rattle.record.specs.Laws.{BegunAny}
 use Rattle.record.proofs.Any.{reads_any}
 use Rattle.judge.specs.Steps.{is_final}
