@@ -12,10 +12,10 @@ use borrow.Author.Tests.{le-leb, lt-leb, leb-false}
 use Rattle.answers.specs.declared.Answer.TheVariants.{Done, UnknownSet, NoRoom, BrokenRecord, ChipLost}
 use Rattle.answers.specs.Numbers.{number_of}
 use Rattle.record.specs.declared.form.Record.{Record}
-use Rattle.record.specs.declared.reading.Reading.{Reading}
+use Rattle.record.specs.Calls.{Reading}
 use Rattle.record.specs.Form.{loses_chip}
 use Rattle.record.specs.Calls.{read_as}
-use Rattle.moving.specs.declared.all.MovingAll.{MovingAll}
+use Rattle.moving.specs.Moves.{MovingAll}
 use Rattle.moving.specs.declared.route.Route.{Route}
 use Rattle.moving.specs.declared.route.Route.TheVariants.{Forward, Back, Import, Export}
 use Rattle.moving.specs.Moves.{is_known, read_by, form_by, text_by, Whole, whole, stopped, is_whole, moved_all, all_leaves, refused_all, summary, all_by, move_all_call}

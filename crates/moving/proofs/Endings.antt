@@ -10,7 +10,7 @@ use borrow.Author.Tests.{leb-true, leb-false, le-leb, lt-leb}
 use Rattle.answers.specs.declared.Answer.TheVariants.{Done, UnknownSet, NoRoom, BrokenRecord, ChipLost}
 use Rattle.answers.specs.Numbers.{is_done}
 use Rattle.answers.proofs.Numbers.{done_is}
-use Rattle.record.specs.declared.reading.Reading.{Reading}
+use Rattle.record.specs.Calls.{Reading}
 use Rattle.record.specs.Form.{loses_chip}
 use Rattle.record.specs.Calls.{refused_at, read_as, WriteLeaves, refused_with}
 use Rattle.record.proofs.Laws.{done_broken}
@@ -23,7 +23,7 @@ use Rattle.moving.proofs.Routes.{answered, unknown_read, read_route, read_is, in
 abbrev pub written : ℕ → WriteLeaves → MoveLeaves
 written taken leaves =
     let w = leaves.outcome in
-    cond (is_done w.answer) (move_leaves (moved_as taken w.written) leaves.out) (move_leaves (refused_move w.answer 0 0) leaves.out)
+    cond (is_done w.answer) (move_leaves (moved_as taken w.written) leaves.out) (move_leaves (refused_move w.answer w.line w.column) leaves.out)
 
 module _ (route : Route) (number : ℕ) (counts : Counts route number) (text out : List ℕ) where
   -- what is read

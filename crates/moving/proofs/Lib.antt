@@ -8,6 +8,7 @@ pub mod Turns
 pub mod Places
 pub mod OneRecord
 pub mod AllRecords
+pub mod Numbered
 pub mod Published
 pub mod Laws
 pub mod Known

@@ -12,7 +12,7 @@ use Rattle.answers.specs.declared.Answer.TheVariants.{Done, UnknownSet, NoRoom, 
 use Rattle.answers.specs.Numbers.{number_of, is_done}
 use Rattle.record.specs.declared.form.Form.TheVariants.{One, Two}
 use Rattle.record.specs.declared.form.Record.{Record}
-use Rattle.record.specs.declared.reading.Reading.{Reading}
+use Rattle.record.specs.Calls.{Reading}
 use Rattle.record.specs.Form.{loses_chip}
 use Rattle.record.specs.Calls.{read_as, read_call}
 use Rattle.moving.specs.declared.route.Route.{Route}

@@ -5,23 +5,27 @@ use mathlib.Core.List.{List, [], ◌++◌}
 use Prim.Native.Nat.{ℕ, zero, suc, ◌+◌, ◌≤◌, ◌<◌}
 use native.Mathlib.Omega.{arith}
 use lib.Dec.{eqb, leb}
+use Rattle.std.proofs.Common.{Err}
 use lib.ListN.{length, drop}
 use borrow.Author.Tests.{leb-true, le-leb, lt-leb, ne_eqb}
 use Rattle.answers.specs.declared.Answer.{Answer}
 use Rattle.answers.specs.declared.Answer.TheVariants.{UnknownSet, NoRoom}
 use Rattle.answers.specs.Numbers.{number_of, is_done}
 use Rattle.moving.specs.declared.route.Route.{Route}
-use Rattle.moving.specs.Moves.{is_known, Whole, whole, stopped, moved_all, text_in, is_whole, all_leaves, refused_all, summary, all_by, move_all_call}
+use Rattle.moving.specs.declared.all.UnmovedAll.{UnmovedAll}
+use Rattle.moving.specs.declared.all.UnmovedAll.TheVariants as unmoved_all
+use Rattle.moving.specs.Moves.{is_known, Whole, whole, stopped, moved_all, text_in, is_whole, all_leaves, refused_all, moving_all_of, summary, all_by, move_all_call}
 use Rattle.moving.proofs.Steps.{onward, next, loses, steps, grows}
 
--- what is refused is refused by another answer than 0 and 6
-pub record Refuses (answer : Answer) : Type 0 where
+-- what is refused is refused by another answer than 0 and 6, and by a number from 1 on, unless it is the set that is unknown
+pub record Refuses (answer : Answer) (number : ℕ) : Type 0 where
   pub some : 1 ≤ number_of answer
   pub other : number_of answer ≡ 6 → ⊥
+  pub counted : (answer ≡ UnknownSet → ⊥) → 1 ≤ number
 
 abbrev pub Stops : Whole → Type 0
 Stops (whole count moved) = Unit {0}
-Stops (stopped answer number line column) = Refuses answer
+Stops (stopped answer number line column) = Refuses answer number
 
 -- in so many steps
 stops_in : (route : Route) (n count : ℕ) (before text : List ℕ) → Stops (steps route n count before text)
@@ -33,8 +37,8 @@ stops_in route (suc n) count before text =
   where
     go : (a b c : Bool) (line column : ℕ) (rest : Whole) → Stops rest → Stops (cond a (whole count before) (onward b c count line column rest))
     go true b c line column rest e = tt
-    go false false c line column rest e = record { some = omega arith; other = λ z. omega arith }
-    go false true true line column rest e = record { some = omega arith; other = λ z. omega arith }
+    go false false c line column rest e = record { some = omega arith; other = λ z. omega arith; counted = λ n. omega arith }
+    go false true true line column rest e = record { some = omega arith; other = λ z. omega arith; counted = λ n. omega arith }
     go false true false line column rest e = e
 
 -- and so in all
@@ -44,7 +48,7 @@ all_stops route text = go (is_known route)
   where
     go : (b : Bool) → Stops (cond b (steps route (length text) 0 [] text) (stopped UnknownSet 0 0 0))
     go true = stops_in route (length text) 0 [] text
-    go false = record { some = omega arith; other = λ z. omega arith }
+    go false = record { some = omega arith; other = λ z. omega arith; counted = λ n. absurd (n refl) }
 
 -- a text whose records can all be moved has a known route
 pub whole_route : (route : Route) (text : List ℕ) → is_whole (moved_all route text) ≡ true → is_known route ≡ true
@@ -54,6 +58,14 @@ whole_route route text = go (is_known route) refl
     go : (b : Bool) → is_known route ≡ b → is_whole (cond b (steps route (length text) 0 [] text) (stopped UnknownSet 0 0 0)) ≡ true → is_known route ≡ true
     go true k w = k
     go false k w = absurd (false≢true w)
+
+-- a refusal is not done
+pub refuses : (why : UnmovedAll) → is_done (moving_all_of (Err why)).answer ≡ false
+unfolding refused_all
+refuses unmoved_all.UnknownSet = refl
+refuses (unmoved_all.Broken number line column) = refl
+refuses (unmoved_all.ChipLost number) = refl
+refuses unmoved_all.NoRoom = refl
 
 -- so moving all is done exactly where none is refused
 pub all_whole : (w : Whole) → Stops w → is_done (summary w).answer ≡ is_whole w

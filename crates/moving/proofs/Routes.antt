@@ -14,7 +14,7 @@ use Rattle.answers.specs.Numbers.{number_of}
 use Rattle.record.specs.declared.form.Form.{Form}
 use Rattle.record.specs.declared.form.Form.TheVariants.{One, Two}
 use Rattle.record.specs.declared.form.Record.{Record}
-use Rattle.record.specs.declared.reading.Reading.{Reading}
+use Rattle.record.specs.Calls.{Reading}
 use Rattle.record.specs.Form.{broken, loses_chip}
 use Rattle.record.specs.Text.{text_of}
 use Rattle.record.specs.Calls.{refused_at, read_as, read_call}

@@ -13,7 +13,7 @@ use Rattle.answers.specs.declared.Answer.TheVariants.{BrokenRecord}
 use Rattle.answers.specs.Numbers.{number_of, is_done}
 use Rattle.answers.proofs.Numbers.{done_is}
 use Rattle.record.specs.declared.form.Record.{Record}
-use Rattle.record.specs.declared.reading.Reading.{Reading}
+use Rattle.record.specs.Calls.{Reading}
 use Rattle.record.specs.Calls.{refused_at, read_as}
 use Rattle.moving.specs.declared.route.Route.{Route}
 use Rattle.moving.specs.Moves.{is_known, read_by, text_by, Whole, whole, stopped, text_in, is_whole, refused_all, summary}

@@ -11,7 +11,7 @@ use borrow.Author.Tests.{eq-eqb, ne_eqb, eqb-false}
 use Rattle.answers.specs.declared.Answer.TheVariants.{Done, BrokenRecord, ChipLost}
 use Rattle.answers.specs.Numbers.{is_done}
 use Rattle.answers.proofs.Numbers.{done_is}
-use Rattle.record.specs.declared.reading.Reading.{Reading}
+use Rattle.record.specs.Calls.{Reading}
 use Rattle.record.specs.Form.{loses_chip}
 use Rattle.moving.specs.declared.route.Route.{Route}
 use Rattle.moving.specs.Moves.{is_known, read_by, form_by, text_by, Whole, whole, stopped, moved_in, moved_all}

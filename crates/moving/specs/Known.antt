@@ -4,7 +4,7 @@ use Rattle.answers.specs.declared.Answer.TheVariants.{Done, UnknownSet, NoRoom, 
 use Rattle.permutation.specs.Strings.{zeros}
 use Rattle.digits.specs.Ascii.{ascii}
 use Rattle.record.specs.Known.{seven_lines, nine_lines}
-use Rattle.moving.specs.declared.all.MovingAll.{MovingAll}
+use Rattle.moving.specs.Moves.{MovingAll}
 use Rattle.moving.specs.declared.route.Route.TheVariants.{Forward, Back, Import, Export}
 use Rattle.moving.specs.Moves.{move_leaves, refused_move, moved_as, move_call, all_leaves, refused_all, move_all_call}
 

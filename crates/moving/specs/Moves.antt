@@ -1,5 +1,5 @@
 -- What moving a record, and all records of a text, from one kind of text to another answers.
-use Rattle.std.specs.Prelude.{Bool, true, false, cond, not, List, [], ◌∷◌, ◌++◌, ℕ, zero, suc, ◌+◌, eqb, leb, length, drop}
+use Rattle.std.specs.Prelude.{Bool, true, false, cond, not, List, [], ◌∷◌, ◌++◌, ℕ, zero, suc, ◌+◌, ◌≤◌, eqb, leb, length, drop, Result, Ok, Err}
 use Rattle.answers.specs.declared.Answer.{Answer}
 use Rattle.answers.specs.declared.Answer.TheVariants.{Done, UnknownSet, NoRoom, BrokenRecord, ChipLost}
 use Rattle.answers.specs.Numbers.{is_done}
@@ -8,7 +8,7 @@ use Rattle.ascon.specs.Sets.{is_set}
 use Rattle.record.specs.declared.form.Form.{Form}
 use Rattle.record.specs.declared.form.Form.TheVariants.{One, Two}
 use Rattle.record.specs.declared.form.Record.{Record}
-use Rattle.record.specs.declared.reading.Reading.{Reading}
+use Rattle.record.specs.Calls.{Reading}
 use Rattle.record.specs.Form.{loses_chip}
 use Rattle.record.specs.Text.{text_of}
 use Rattle.record.specs.Calls.{read_call, WriteLeaves, write_as}
@@ -16,8 +16,12 @@ use Rattle.entry.specs.Form.{entry_text}
 use Rattle.entry.specs.Calls.{read_entry}
 use Rattle.moving.specs.declared.route.Route.{Route}
 use Rattle.moving.specs.declared.route.Route.TheVariants.{Forward, Back, Import, Export}
-use Rattle.moving.specs.declared.one.Moving.{Moving}
-use Rattle.moving.specs.declared.all.MovingAll.{MovingAll}
+use Rattle.moving.specs.declared.one.Moved.{Moved}
+use Rattle.moving.specs.declared.one.Unmoved.{Unmoved}
+use Rattle.moving.specs.declared.one.Unmoved.TheVariants as unmoved
+use Rattle.moving.specs.declared.all.MovedAll.{MovedAll}
+use Rattle.moving.specs.declared.all.UnmovedAll.{UnmovedAll}
+use Rattle.moving.specs.declared.all.UnmovedAll.TheVariants as unmoved_all
 
 -- ---- routes
 
@@ -59,6 +63,14 @@ write_by route number r out = write_as (form_by route) r (text_by route number r
 
 -- ---- one record
 
+-- what moving a record answers: the answer; the line and column at which the text is wrong; and how many bytes were taken and written
+pub record Moving : Type 0 where
+  pub answer : Answer
+  pub line : ℕ
+  pub column : ℕ
+  pub taken : ℕ
+  pub written : ℕ
+
 -- 1, 10, 11, 6
 abbrev pub move_faults : Route → ℕ → Reading → ℕ → List (Choice Answer)
 move_faults route number reading room =
@@ -83,6 +95,14 @@ refused_move answer line column = record { answer = answer; line = line; column 
 -- a record that was moved
 unfoldable pub moved_as : ℕ → ℕ → Moving
 moved_as taken written = record { answer = Done; line = 0; column = 0; taken = taken; written = written }
+
+-- the answer of a moving that gives how many bytes it took and wrote, or why it moved nothing
+abbrev pub moving_of : Result Moved Unmoved → Moving
+moving_of (Ok moved) = moved_as moved.taken moved.written
+moving_of (Err unmoved.UnknownSet) = refused_move UnknownSet 0 0
+moving_of (Err (unmoved.Broken line column)) = refused_move BrokenRecord line column
+moving_of (Err unmoved.ChipLost) = refused_move ChipLost 0 0
+moving_of (Err unmoved.NoRoom) = refused_move NoRoom 0 0
 
 -- the record of this number that a text begins with is read, and written as the route has it; 10 has the line and column of the reading, which any other answer has
 -- not; a refusal changes nothing
@@ -130,6 +150,15 @@ abbrev pub is_whole : Whole → Bool
 is_whole (whole count moved) = true
 is_whole (stopped answer number line column) = false
 
+-- what moving all records of a text answers: the answer; how many records were moved, or the number of the one that is refused, and 0 where no single one is; the line
+-- and column at which that is wrong; and how many bytes were written
+pub record MovingAll : Type 0 where
+  pub answer : Answer
+  pub records : ℕ
+  pub line : ℕ
+  pub column : ℕ
+  pub written : ℕ
+
 -- an answer, and what the place of the text then holds
 pub record AllLeaves : Type 0 where
   pub outcome : MovingAll
@@ -142,9 +171,36 @@ all_leaves outcome out = record { outcome = outcome; out = out }
 unfoldable pub refused_all : Answer → ℕ → ℕ → ℕ → MovingAll
 refused_all answer number line column = record { answer = answer; records = number; line = line; column = column; written = 0 }
 
+-- so many records that were moved, and have so many bytes
+abbrev pub moved_all_as : ℕ → ℕ → MovingAll
+moved_all_as records written = record { answer = Done; records = records; line = 0; column = 0; written = written }
+
+-- the answer of a moving of all records that gives how many there are and how many bytes it wrote, or why it moved none
+abbrev pub moving_all_of : Result MovedAll UnmovedAll → MovingAll
+moving_all_of (Ok moved) = moved_all_as moved.records moved.written
+moving_all_of (Err unmoved_all.UnknownSet) = refused_all UnknownSet 0 0 0
+moving_all_of (Err (unmoved_all.Broken number line column)) = refused_all BrokenRecord number line column
+moving_all_of (Err (unmoved_all.ChipLost number)) = refused_all ChipLost number 0 0
+moving_all_of (Err unmoved_all.NoRoom) = refused_all NoRoom 0 0 0
+
+-- a record that is refused has a number and, where it is wrong, a line from 1 on
+abbrev pub Numbered : Result MovedAll UnmovedAll → Type 0
+Numbered (Ok moved) = Unit {0}
+Numbered (Err unmoved_all.UnknownSet) = Unit {0}
+Numbered (Err (unmoved_all.Broken number line column)) = (1 ≤ number) × (1 ≤ line)
+Numbered (Err (unmoved_all.ChipLost number)) = 1 ≤ number
+Numbered (Err unmoved_all.NoRoom) = Unit {0}
+
+-- why a text's records are not moved, where the record of a number is the first that is refused
+abbrev pub of_record : ℕ → Unmoved → UnmovedAll
+of_record number unmoved.UnknownSet = unmoved_all.UnknownSet
+of_record number (unmoved.Broken line column) = unmoved_all.Broken number line column
+of_record number unmoved.ChipLost = unmoved_all.ChipLost number
+of_record number unmoved.NoRoom = unmoved_all.NoRoom
+
 -- how many records were moved, and how many bytes they have; or the refusal of the first that is refused
 abbrev pub summary : Whole → MovingAll
-summary (whole count moved) = record { answer = Done; records = count; line = 0; column = 0; written = length moved }
+summary (whole count moved) = moved_all_as count (length moved)
 summary (stopped answer number line column) = refused_all answer number line column
 
 -- with so much room: the first refused record's answer, then 6

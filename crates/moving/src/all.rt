@@ -1,63 +1,88 @@
 // Moving all records of a text: they are all looked at before the first is written.
-ghost use Rattle.std.specs.Prelude.{◌≡◌, ◌≤◌, true, ◌++◌, length, drop};
-ghost use Rattle.moving.specs.Moves.{summary, moved_all, text_in, is_whole, all_leaves, refused_all, move_all_call};
+ghost use Rattle.std.specs.Prelude.{◌≡◌, ◌≤◌, true, ◌++◌, Err, length, drop};
+ghost use Rattle.moving.specs.Moves.{moving_all_of, of_record, summary, moved_all, text_in, is_whole, all_leaves, move_all_call};
 
+use crate::one;
+use crate::one::Unmoved;
 use crate::route::Route;
-use crate::{one, route};
 use answers::Answer;
 
-// What moving all records of a text answers: the answer; how many records were moved, or the number of the one that is refused, and 0 where no single one is; the line
-// and column at which that is wrong; and how many bytes were written.
+// How many records of a text were moved, and how many bytes were written.
 #[derive(Clone, Copy)]
-pub struct MovingAll {
-    pub answer: Answer,
+pub struct MovedAll {
     pub records: u64,
-    pub line: usize,
-    pub column: usize,
     pub written: usize,
 }
 
-// A refusal: nothing is written.
-fn refusal(answer: Answer, records: u64, line: usize, column: usize) -> MovingAll
-    ensures { result ≡ refused_all answer records line column }
+// Why the records of a text are not moved: the route's set is unknown; the record of this number is wrong, at a line and column; its chip would be lost; or there is
+// not room for all.
+#[derive(Clone, Copy)]
+pub enum UnmovedAll {
+    UnknownSet,
+    Broken {
+        record: u64,
+        line: usize,
+        column: usize,
+    },
+    ChipLost {
+        record: u64,
+    },
+    NoRoom,
+}
+
+// The answer that stands for a refusal.
+impl From<UnmovedAll> for Answer {
+    ghost from_gives = { λ refused answer. answer ≡ (moving_all_of (Err refused)).answer };
+
+    #[tactic(auto, unfolding(crate::specs::Moves::refused_all))]
+    fn from(refused: UnmovedAll) -> Answer {
+        match refused {
+            UnmovedAll::UnknownSet => Answer::UnknownSet,
+            UnmovedAll::Broken { .. } => Answer::BrokenRecord,
+            UnmovedAll::ChipLost { .. } => Answer::ChipLost,
+            UnmovedAll::NoRoom => Answer::NoRoom,
+        }
+    }
+}
+
+// Why the records of a text are not moved, where the record of this number is the first that is refused.
+fn of_record(record: u64, refused: Unmoved) -> UnmovedAll
+    ensures { result ≡ of_record «record» refused }
 {
-    MovingAll {
-        answer,
-        records,
-        line,
-        column,
-        written: 0,
+    match refused {
+        Unmoved::UnknownSet => UnmovedAll::UnknownSet,
+        Unmoved::Broken { line, column } => UnmovedAll::Broken {
+            record,
+            line,
+            column,
+        },
+        Unmoved::ChipLost => UnmovedAll::ChipLost { record },
+        Unmoved::NoRoom => UnmovedAll::NoRoom,
     }
 }
 
 // What moving all records of a text comes to, and how many bytes they then have.
-fn measure(route: Route, text: &[u8]) -> MovingAll
-    ensures { result ≡ summary (moved_all route text.now) }
+fn measure(route: Route, text: &[u8]) -> Result<MovedAll, UnmovedAll>
+    ensures { moving_all_of result ≡ summary (moved_all route text.now) }
 {
-    if !route::is_known(route) {
-        return refusal(Answer::UnknownSet, 0, 0, 0);
+    if !route.is_known() {
+        return Err(UnmovedAll::UnknownSet);
     }
     let mut scratch = [0; 1706];
     let mut at = 0;
     let mut records = 0;
-    let mut size = 0;
+    let mut written = 0;
     while at < text.len() {
         records += 1;
-        let moving = one::move_record(route, records, &text[at..], &mut scratch);
-        let answer = moving.answer;
-        if !answers::is_done(answer) {
-            return refusal(answer, records, moving.line, moving.column);
+        match one::move_record(route, records, &text[at..], &mut scratch) {
+            Ok(moved) => {
+                at += moved.taken;
+                written += moved.written;
+            }
+            Err(refused) => return Err(of_record(records, refused)),
         }
-        at += moving.taken;
-        size += moving.written;
     }
-    MovingAll {
-        answer: Answer::Done,
-        records,
-        line: 0,
-        column: 0,
-        written: size,
-    }
+    Ok(MovedAll { records, written })
 }
 
 // Writes all records of a text, which can be moved and have room, one straight after another.
@@ -71,24 +96,20 @@ fn put_all(route: Route, text: &[u8], out: &mut [u8])
     let mut number = 0;
     while at < text.len() {
         number += 1;
-        let moving = one::move_record(route, number, &text[at..], &mut out[end..]);
-        at += moving.taken;
-        end += moving.written;
+        let moved = one::move_record(route, number, &text[at..], &mut out[end..]).unwrap();
+        at += moved.taken;
+        end += moved.written;
     }
 }
 
 // Moves all records of a text, and writes them at the beginning of a place; where one is refused, or there is no room for all, nothing is written.
-pub fn move_all(route: Route, text: &[u8], out: &mut [u8]) -> MovingAll
-    ensures { all_leaves result out.new ≡ move_all_call route text.now out.old }
+pub fn move_all(route: Route, text: &[u8], out: &mut [u8]) -> Result<MovedAll, UnmovedAll>
+    ensures { all_leaves (moving_all_of result) out.new ≡ move_all_call route text.now out.old }
 {
-    let moved = measure(route, text);
-    let answer = moved.answer;
-    if !answers::is_done(answer) {
-        return moved;
-    }
+    let moved = measure(route, text)?;
     if out.len() < moved.written {
-        return refusal(Answer::NoRoom, 0, 0, 0);
+        return Err(UnmovedAll::NoRoom);
     }
     put_all(route, text, out);
-    moved
+    Ok(moved)
 }

@@ -6,6 +6,6 @@ mod all;
 mod one;
 mod route;
 
-pub use all::{MovingAll, move_all};
-pub use one::{Moving, move_record};
+pub use all::{MovedAll, UnmovedAll, move_all};
+pub use one::{Moved, Unmoved, move_record};
 pub use route::Route;

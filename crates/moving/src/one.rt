@@ -1,54 +1,67 @@
 // Moving the record that a text begins with.
-ghost use Rattle.std.specs.Prelude.{◌≡◌};
-ghost use Rattle.moving.specs.Moves.{move_leaves, refused_move, move_call};
+ghost use Rattle.std.specs.Prelude.{◌≡◌, Err};
+ghost use Rattle.record.specs.Calls.{writing_of};
+ghost use Rattle.entry.specs.Calls.{reading_of};
+ghost use Rattle.moving.specs.Moves.{moving_of, move_leaves, refused_move, move_call};
 
-use crate::route;
 use crate::route::Route;
-use answers::Answer;
+use entry::Unread;
+use record::Unwritten;
 
-// What moving a record answers: the answer; the line and column at which the text is wrong; and how many bytes were taken and written.
+// How many bytes of a text were taken, and how many were written.
 #[derive(Clone, Copy)]
-pub struct Moving {
-    pub answer: Answer,
-    pub line: usize,
-    pub column: usize,
+pub struct Moved {
     pub taken: usize,
     pub written: usize,
 }
 
-// A refusal: nothing is taken, and nothing is written.
-fn refusal(answer: Answer, line: usize, column: usize) -> Moving
-    ensures { result ≡ refused_move answer line column }
-{
-    Moving {
-        answer,
-        line,
-        column,
-        taken: 0,
-        written: 0,
+// Why a record is not moved: the route's set is unknown; the text is wrong, at a line and column; the record's chip would be lost; or there is no room for it.
+#[derive(Clone, Copy)]
+pub enum Unmoved {
+    UnknownSet,
+    Broken { line: usize, column: usize },
+    ChipLost,
+    NoRoom,
+}
+
+// A text that is not read.
+impl From<Unread> for Unmoved {
+    ghost from_gives = { λ unread unmoved. (let reading = reading_of (Err unread) in moving_of (Err unmoved) ≡ refused_move reading.answer reading.line reading.column) };
+
+    #[tactic(auto, unfolding(record::specs::Calls::refused_at))]
+    fn from(unread: Unread) -> Unmoved {
+        match unread {
+            Unread::UnknownSet => Unmoved::UnknownSet,
+            Unread::Broken(wrong) => Unmoved::Broken {
+                line: wrong.line,
+                column: wrong.column,
+            },
+        }
+    }
+}
+
+// A record that is not written: it has no column.
+impl From<Unwritten> for Unmoved {
+    ghost from_gives = { λ unwritten unmoved. (let writing = writing_of (Err unwritten) in moving_of (Err unmoved) ≡ refused_move writing.answer writing.line writing.column) };
+
+    #[tactic(auto, unfolding(record::specs::Calls::refused_with))]
+    fn from(unwritten: Unwritten) -> Unmoved {
+        match unwritten {
+            Unwritten::Broken { line } => Unmoved::Broken { line, column: 0 },
+            Unwritten::ChipLost => Unmoved::ChipLost,
+            Unwritten::NoRoom => Unmoved::NoRoom,
+        }
     }
 }
 
 // Moves the record that a text begins with, which has this number in it, and writes it at the beginning of a place.
-pub fn move_record(route: Route, number: u64, text: &[u8], out: &mut [u8]) -> Moving
-    ensures { move_leaves result out.new ≡ move_call route number text.now out.old }
+pub fn move_record(route: Route, number: u64, text: &[u8], out: &mut [u8]) -> Result<Moved, Unmoved>
+    ensures { move_leaves (moving_of result) out.new ≡ move_call route number text.now out.old }
 {
-    let reading = route::read(route, number, text);
-    let answer = reading.answer;
-    if !answers::is_done(answer) {
-        return refusal(answer, reading.line, reading.column);
-    }
-    let content = reading.content;
-    let writing = route::write(route, number, content, out);
-    let answer = writing.answer;
-    if !answers::is_done(answer) {
-        return refusal(answer, 0, 0);
-    }
-    Moving {
-        answer: Answer::Done,
-        line: 0,
-        column: 0,
-        taken: reading.taken,
-        written: writing.written,
-    }
+    let read = route.read(number, text)?;
+    let written = route.write(number, read.content, out)?;
+    Ok(Moved {
+        taken: read.taken,
+        written,
+    })
 }

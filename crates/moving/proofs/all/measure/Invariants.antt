@@ -11,15 +11,15 @@ use Rattle.moving.proofs.Steps.{Left}
 use Rattle.moving.proofs.all.measure.Given as goal
 
 -- what holds before a record is measured
-pub record Measured (route : Route) (text scratch : List ℕ) (at records size : ℕ) : Type 0 where
+pub record Measured (route : Route) (text scratch : List ℕ) (at records written : ℕ) : Type 0 where
   pub before : List ℕ
   pub places : length scratch ≡ 1_706
-  pub sum : size ≡ length before
+  pub sum : written ≡ length before
   pub known : is_known route ≡ true
   pub left : Left route text at records before
 
 abbrev pub invariant-loop-at : goal.invariant-loop-at
-invariant-loop-at l = Measured l.route l.text l.scratch l.at l.records l.size
+invariant-loop-at l = Measured l.route l.text l.scratch l.at l.records l.written
 
 abbrev pub decreases-loop-at : goal.decreases-loop-at
 decreases-loop-at l = length l.text - l.at

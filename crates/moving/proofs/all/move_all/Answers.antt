@@ -4,49 +4,53 @@ use mathlib.Core.Bool.{true}
 use mathlib.Core.List.{List}
 use Prim.Native.Nat.{ℕ}
 use native.Mathlib.Omega.{arith}
+use Rattle.std.proofs.Common.{Ok, Err}
+use Rattle.std.proofs.lemmas.Result.{err_from_is_err_and}
 use lib.ListN.{length}
 use Rattle.answers.specs.Numbers.{is_done}
 use Rattle.moving.specs.declared.route.Route.{Route}
-use Rattle.moving.specs.declared.all.MovingAll.{MovingAll}
-use Rattle.moving.specs.Moves.{moved_all, text_in, is_whole, all_leaves, summary, move_all_call}
-use Rattle.moving.proofs.Places.{all_stops, all_whole, all_refused, all_short, whole_length, all_put}
+use Rattle.moving.specs.declared.all.MovedAll.{MovedAll}
+use Rattle.moving.specs.declared.all.UnmovedAll.{UnmovedAll}
+use Rattle.moving.specs.Moves.{MovingAll, moving_all_of, moved_all, text_in, is_whole, all_by, all_leaves, summary, move_all_call}
+use Rattle.moving.proofs.Places.{refuses, all_stops, all_whole, all_refused, all_short, whole_length, all_put}
 use Rattle.moving.proofs.all.move_all.Goals as goal
 
--- what is measured says whether a record is refused
-told : (route : Route) (text : List ℕ) (m : MovingAll) → m ≡ summary (moved_all route text) → is_whole (moved_all route text) ≡ is_done m.answer
-told route text m e = sym (ap (λ (m : MovingAll). is_done m.answer) e ∙ all_whole (moved_all route text) (all_stops route text))
+-- what is measured, where a record is refused
+refused : (route : Route) (text out : List ℕ) (why : UnmovedAll) → moving_all_of (Err why) ≡ summary (moved_all route text)
+    → all_leaves (moving_all_of (Err why)) out ≡ all_by (moved_all route text) out
+refused route text out why e = ap (λ (m : MovingAll). all_leaves m out) e ∙ all_refused (moved_all route text) out (sym (all_whole (moved_all route text) (all_stops route text)) ∙ sym (ap (λ (m : MovingAll). is_done m.answer) e) ∙ refuses why)
 
--- where none is, it says how many bytes are written
-none_refused : (route : Route) (text : List ℕ) (m : MovingAll) → m ≡ summary (moved_all route text) → is_done m.answer ≡ true
+-- and where none is: how many bytes are written
+none_refused : (route : Route) (text : List ℕ) (m : MovedAll) → moving_all_of (Ok m) ≡ summary (moved_all route text)
     → (is_whole (moved_all route text) ≡ true) × (m.written ≡ length (text_in (moved_all route text)))
-none_refused route text m e d =
-    let all = told route text m e ∙ d in
+none_refused route text m e =
+    let all = sym (ap (λ (m : MovingAll). is_done m.answer) e ∙ all_whole (moved_all route text) (all_stops route text)) in
     (all, ap (λ (m : MovingAll). m.written) e ∙ whole_length (moved_all route text) all)
 
-pub returns-then-not-is_done : goal.returns-then-not-is_done
+pub returns-in_err-moved : goal.returns-in_err-moved
 unfolding move_all_call
-returns-then-not-is_done c =
+returns-in_err-moved c =
     let a = c.args in
-    ap (λ (m : MovingAll). all_leaves m a.out.now) c.measure-moved.ensures
-    ∙ all_refused (moved_all a.route a.text.now) a.out.now (told _ _ _ c.measure-moved.ensures ∙ sym c.is_done.ensures ∙ c.if-not-is_done.true)
+    let p = err_from_is_err_and c.from_residual.result c.from_residual.ensures.1 in
+    rw (p.1, p.2) (refused a.route a.text.now a.out.now _ c.in_err-moved.ensures)
 
 pub returns-then-out-moved : goal.returns-then-out-moved
 unfolding move_all_call
 returns-then-out-moved c =
     let a = c.args in
-    let none = none_refused _ _ _ c.measure-moved.ensures (sym c.is_done.ensures ∙ c.if-not-is_done.false) in
-    ap (λ (m : MovingAll). all_leaves m a.out.now) c.refusal.ensures ∙ all_short (moved_all a.route a.text.now) a.out.now none.0 (omega (arith, c.if-out-moved.true, none.1))
+    let none = none_refused a.route a.text.now _ c.in_ok-moved.ensures in
+    all_short (moved_all a.route a.text.now) a.out.now none.0 (omega (arith, c.if-out-moved.true, none.1))
 
 pub put_all-requires : goal.put_all-requires
 put_all-requires c =
-    let none = none_refused _ _ _ c.measure-moved.ensures (sym c.is_done.ensures ∙ c.if-not-is_done.false) in
+    let none = none_refused c.args.route c.args.text.now _ c.in_ok-moved.ensures in
     record { text_value = none.0; text_in_bounds = omega (arith, c.if-out-moved.false, none.1) }
 
 pub returns : goal.returns
 unfolding move_all_call
 returns c =
     let a = c.args in
-    let none = none_refused _ _ _ c.measure-moved.ensures (sym c.is_done.ensures ∙ c.if-not-is_done.false) in
-    ap (λ (m : MovingAll). all_leaves m c.put_all.new.out) c.measure-moved.ensures
+    let none = none_refused a.route a.text.now _ c.in_ok-moved.ensures in
+    ap (λ (m : MovingAll). all_leaves m c.put_all.new.out) c.in_ok-moved.ensures
     ∙ ap (all_leaves (summary (moved_all a.route a.text.now))) c.put_all.ensures
     ∙ all_put (moved_all a.route a.text.now) a.out.now none.0 (omega (arith, c.if-out-moved.false, none.1))
