@@ -2,6 +2,7 @@
 // Under another nonce both walks end with 9, and what the second one handed out was never verified. The file `stdout` holds the second program's answers.
 #![tactic(auto)]
 
+use answers::Answer;
 use stream::{Direction, Outcome, Stream};
 
 // The number of standard output.
@@ -10,10 +11,8 @@ const STDOUT_FILENO: i32 = 1;
 // The limit of the streams, which is the length of the order.
 const LIMIT: u64 = 1048576;
 
-// The pieces of the first walk, of 65,536 bytes each, and those of the second, of 1,000 bytes, the last of them of 576.
-const CHECKED: usize = 16;
-
-const OPENED: usize = 1049;
+// The length of the pieces of the second walk, of which the last has 576.
+const PIECE: usize = 1000;
 
 // The key, and the nonce that the order was sealed under.
 const KEY: [u8; 16] = [0, 1, 2, 3, 4, 5, 6, 7, 8, 9, 10, 11, 12, 13, 14, 15];
@@ -31,135 +30,87 @@ struct Walk {
     handed: u64,
 }
 
-// Writes a name and a number.
+// Writes a name and a number. Kept on `io`, which rests on `write` alone (docs/ANSWERS.md): std's `print!` would trust two more declarations of the C library.
 fn say(name: &[u8], n: u64) {
     io::write_all(STDOUT_FILENO, name);
     io::print_decimal(STDOUT_FILENO, n);
 }
 
-// The number of an answer.
-fn number_of(o: Outcome) -> u64 {
-    let answer = o.answer;
-    answers::number(answer)
+// Bytes mixed in, one after the other: the mixture turned left by 7 bits, and combined with each.
+fn mixed(before: u64, bytes: &[u8]) -> u64 {
+    bytes.iter().fold(
+        before,
+        |mixture, byte| mixture.rotate_left(7) ^ u64::from(*byte),
+    )
 }
 
-// The first n bytes of a string, or none.
-fn first_of(s: &[u8], n: usize) -> &[u8] {
-    if n <= s.len() {
-        return &s[0..n];
+impl Walk {
+    // A walk at its start, behind the order's data.
+    fn begun(direction: Direction, set: u64, key: &[u8], nonce: &[u8]) -> Walk {
+        let o = Stream::start(direction, set, LIMIT, key, nonce);
+        let start = Walk {
+            stream: o.next,
+            rounds: o.rounds,
+            done: 0,
+            handed: 0,
+        };
+        start.after(start.stream.ad(b"valve 12"))
     }
-    &s[..0]
-}
 
-// A byte mixed in: the mixture turned left by 7 bits, and combined with it.
-fn mixed(mixture: u64, byte: u8) -> u64 {
-    (mixture << 7 | mixture >> 57) ^ (byte as u64)
-}
-
-// Bytes mixed in, one after the other.
-fn mixed_bytes(before: u64, bytes: &[u8]) -> u64 {
-    let mut mixture = before;
-    let mut i = 0;
-    while i < bytes.len() {
-        mixture = mixed(mixture, bytes[i]);
-        i += 1;
+    // The walk after a call.
+    fn after(self, o: Outcome) -> Walk {
+        Walk {
+            stream: o.next,
+            rounds: self.rounds.wrapping_add(o.rounds),
+            done: self.done.wrapping_add(u64::from(o.answer == Answer::Done)),
+            ..self
+        }
     }
-    mixture
-}
 
-// A number where something holds, or 0.
-fn counted(right: bool, n: u64) -> u64 {
-    if right { n } else { 0 }
-}
-
-// The walk after a call, with what has been handed out by then.
-fn after(walk: Walk, o: Outcome, handed: u64) -> Walk {
-    let stream = o.next;
-    Walk {
-        stream,
-        rounds: std::num::wrapping_add_u64(walk.rounds, o.rounds),
-        done: std::num::wrapping_add_u64(walk.done, counted(number_of(o) == 0, 1)),
-        handed,
+    // A piece of the first walk, which is checked.
+    fn checked(self, piece: &[u8]) -> Walk {
+        self.after(self.stream.check(piece))
     }
-}
 
-// A walk at its start, behind the order's data.
-fn begun(direction: Direction, set: u64, key: &[u8], nonce: &[u8]) -> Walk {
-    let o = Stream::start(direction, set, LIMIT, key, nonce);
-    let stream = o.next;
-    let start = Walk {
-        stream,
-        rounds: o.rounds,
-        done: 0,
-        handed: 0,
-    };
-    after(start, start.stream.ad(b"valve 12"), 0)
-}
-
-// The first walk: each piece is checked.
-fn checked(start: Walk, flash: &[u8]) -> Walk {
-    let mut walk = start;
-    let mut k = 0;
-    while k < CHECKED {
-        walk = after(walk, walk.stream.check(first_of(flash, 65536)), 0);
-        k += 1;
+    // A piece of the second walk, with room for no other: what it hands out is unverified until the finish.
+    fn opened(self, piece: &[u8]) -> Walk {
+        let mut room = [0; PIECE];
+        let walk = self.after(self.stream.open(piece, &mut room));
+        let handed = mixed(self.handed, &room[..piece.len().min(PIECE)]);
+        Walk { handed, ..walk }
     }
-    walk
-}
 
-// A piece of the second walk, with room for no other: what it hands out is unverified until the finish.
-fn opened_piece(walk: Walk, piece: &[u8]) -> Walk {
-    let mut room = [0u8; 1000];
-    let o = walk.stream.open(piece, &mut room);
-    let handed = mixed_bytes(walk.handed, first_of(&room, piece.len()));
-    after(walk, o, handed)
-}
-
-// The length of the second walk's k-th piece.
-fn length_of(k: usize) -> usize {
-    if k < 1048 { 1000 } else { 576 }
-}
-
-// The second walk: each piece is opened.
-fn opened(start: Walk, flash: &[u8]) -> Walk {
-    let mut walk = start;
-    let mut k = 0;
-    while k < OPENED {
-        walk = opened_piece(walk, first_of(flash, length_of(k)));
-        k += 1;
+    // Writes how the walk ended: the answer of its finish, the calls that were done before it, and all the rounds.
+    fn say_end(self, name: &[u8], end: Outcome) {
+        say(name, answers::number(end.answer));
+        say(b" calls=", self.done);
+        say(b" rounds=", self.rounds.wrapping_add(end.rounds));
     }
-    walk
-}
-
-// Writes how a walk ended: the answer of its finish, the calls that were done before it, and all the rounds.
-fn say_end(name: &[u8], walk: Walk, end: Outcome) {
-    say(name, number_of(end));
-    say(b" calls=", walk.done);
-    say(
-        b" rounds=",
-        std::num::wrapping_add_u64(walk.rounds, end.rounds),
-    );
 }
 
 // Both walks, one after the other.
-fn walk_twice(set: u64, key: &[u8], nonce: &[u8], flash: &[u8], tag: &[u8]) {
-    let first = checked(begun(Direction::Checking, set, key, nonce), flash);
+fn walk_twice(set: u64, key: &[u8], nonce: &[u8], flash: &[u8; 65536], tag: &[u8]) {
+    let start = Walk::begun(Direction::Checking, set, key, nonce);
+    let first = (0..16).fold(start, |walk, _| walk.checked(flash));
     say(b"set=", set);
-    say_end(b" checked=", first, first.stream.finish_checking(tag));
-    let second = opened(begun(Direction::Opening, set, key, nonce), flash);
-    say_end(b" opened=", second, second.stream.finish_opening(tag));
+    first.say_end(b" checked=", first.stream.finish_checking(tag));
+    let start = Walk::begun(Direction::Opening, set, key, nonce);
+    let second = (0..1048)
+        .fold(start, |walk, _| walk.opened(&flash[..PIECE]))
+        .opened(&flash[..576]);
+    second.say_end(b" opened=", second.stream.finish_opening(tag));
     io::write_all(STDOUT_FILENO, b" handed=");
     io::print_hex(STDOUT_FILENO, second.handed, 16);
     io::write_all(STDOUT_FILENO, b"\n");
 }
 
 // The walks under the right nonce, and under one that begins with another byte.
-fn try_set(set: u64, flash: &[u8], tag: &[u8]) {
-    let n = tag.len();
-    walk_twice(set, first_of(&KEY, n), first_of(&NONCE, n), flash, tag);
+fn try_set(set: u64, flash: &[u8; 65536], tag: &[u8]) {
+    let n = tag.len().min(KEY.len());
     let mut other = NONCE;
     other[0] = 99;
-    walk_twice(set, first_of(&KEY, n), first_of(&other, n), flash, tag);
+    walk_twice(set, &KEY[..n], &NONCE[..n], flash, tag);
+    walk_twice(set, &KEY[..n], &other[..n], flash, tag);
 }
 
 // An order whose ciphertext is one byte again and again, with its tag in each set.

@@ -1,9 +1,0 @@
--- `walks::mixed_bytes` is safe and ends: the measure is the number of bytes left.
-use Rattle.std.proofs.Common.{◌-◌, ◌≤◌, length}
-use Rattle.walks.proofs.mixed_bytes.Given as goal
-
-abbrev pub invariant-loop-i : goal.invariant-loop-i
-invariant-loop-i l = l.i ≤ length l.bytes
-
-abbrev pub decreases-loop-i : goal.decreases-loop-i
-decreases-loop-i l = length l.bytes - l.i
