@@ -54,7 +54,7 @@ digit_spells case c v = go (letter_a case) (letters_behind case) (within 0x30 0x
         let b = within_true ten (ten + 5) c f in
         let k : c - ten + 10 ≡ v = cc in
         (omega arith, rw (le-ltb v 10 (omega arith)) (omega arith))
-    go ten h false false e f g = let z : ◌≡◌ {A = ℕ} 0 1 = cc in absurd (omega arith)
+    go ten h false false e f g = absurd cc
 
 -- the digit of a value is read as this value
 pub spelled_digit : (case : Case) (v : ℕ) → v < 16 → digit_in case (hex_digit_in case v) ≡ Some v

@@ -51,8 +51,8 @@ plain_value (Bytes least most case) says ds f s = rw s.5 (plain_hex case (hex_in
 -- behind the first line feed of a right line there is nothing
 last_feed : (x a b : List ℕ) → plain x ≡ true → x ++ 0x0a ∷ [] ≡ a ++ 0x0a ∷ b → b ≡ []
 last_feed [] [] b e f = cc
-last_feed [] (q ∷ []) b e f = let z : ◌≡◌ {A = ℕ} 0 1 = cc in absurd (omega arith)
-last_feed [] (q ∷ r ∷ a) b e f = let z : ◌≡◌ {A = ℕ} 0 1 = cc in absurd (omega arith)
+last_feed [] (q ∷ []) b e f = absurd cc
+last_feed [] (q ∷ r ∷ a) b e f = absurd cc
 last_feed (p ∷ x) [] b e f =
     let same : p ≡ 0x0a = cc in
     absurd (false≢true (rw (eq-eqb p 0x0a same) at e))

@@ -135,7 +135,7 @@ module _ (kind : Kind) (ok : ℕ → ℕ → Type 0) (tail : ℕ → ℕ → Lis
 
   steps : (p k n : ℕ) (b : Bool) (c : ℕ) → ok k n → Leaves good left (standing p k n b) c (step_of kind (standing p k n b) c)
   unfolding step_of
-  steps p k n true c o = λ rest says w. let e : c ∷ rest ≡ [] = w.0 in let z : ◌≡◌ {A = ℕ} 0 1 = cc in omega arith
+  steps p k n true c o = λ rest says w. let e : c ∷ rest ≡ [] = w.0 in cc
   steps p k n false c o = go (ltb p kind.name.size) refl
     where
       behind : (b : Bool) → eqb c 0x0a ≡ b → kind.name.size ≤ p
@@ -158,16 +158,16 @@ module _ (kind : Kind) (ok : ℕ → ℕ → Type 0) (tail : ℕ → ℕ → Lis
 
   -- a line feed is still to come
   not_over : (x ds : List ℕ) → [] ≡ x ++ (ds ++ 0x0a ∷ []) → ⊥
-  not_over [] [] e = let z : ◌≡◌ {A = ℕ} 0 1 = cc in omega arith
-  not_over [] (d ∷ ds) e = let z : ◌≡◌ {A = ℕ} 0 1 = cc in omega arith
-  not_over (a ∷ x) ds e = let z : ◌≡◌ {A = ℕ} 0 1 = cc in omega arith
+  not_over [] [] e = cc
+  not_over [] (d ∷ ds) e = cc
+  not_over (a ∷ x) ds e = cc
 
   end : (p k n : ℕ) (b : Bool) (says : ℕ) → ((b ≡ true) × (says ≡ n)) ↔ left (standing p k n b) [] says
   end p k n true says = (λ e. (refl, e.1), λ w. (refl, w.1))
   end p k n false says = (λ e. absurd (false≢true e.0), λ w. absurd (not_over (drop p (name_of kind)) w.0 w.1))
 
   last : (p k n : ℕ) (b : Bool) (c : ℕ) (rest : List ℕ) (says : ℕ) → b ≡ true → left (standing p k n b) (c ∷ rest) says → ⊥
-  last p k n true c rest says e w = let f : c ∷ rest ≡ [] = w.0 in let z : ◌≡◌ {A = ℕ} 0 1 = cc in omega arith
+  last p k n true c rest says e w = let f : c ∷ rest ≡ [] = w.0 in cc
   last p k n false c rest says e w = false≢true e
 
   pub follows : Follows (step_of kind) good left

@@ -34,8 +34,8 @@ fixed_grammar own = record {
   end = λ k n says o. (λ e. (e.1, refl), λ t. (refl, t.0));
   stays = λ k n o. o;
   on = λ k n c o e. absurd (false≢true e);
-  off = λ k n c ds says o e t. let f : c ∷ ds ≡ [] = t.1 in let z : ◌≡◌ {A = ℕ} 0 1 = cc in omega arith;
-  no_feed = λ k n ds says t. let f : 0x0a ∷ ds ≡ [] = t.1 in let z : ◌≡◌ {A = ℕ} 0 1 = cc in omega arith;
+  off = λ k n c ds says o e t. let f : c ∷ ds ≡ [] = t.1 in cc;
+  no_feed = λ k n ds says t. let f : 0x0a ∷ ds ≡ [] = t.1 in cc;
   start = record {};
   spelled = λ ds says. (λ t. t, λ t. t);
 }

@@ -128,7 +128,7 @@ module _ (least most : ℕ) where
         enough false f = omega (arith, eqb-false c 0x30 f, (decimal_cons c ds t.2.decimal).0.0)
     off (suc k) n c ds says o e t =
         let b = decimal_cons c ds t.1.decimal in
-        let some : n ≡ 0 → ⊥ = λ z. (let f : c ∷ ds ≡ [] = t.0 z in let y : ◌≡◌ {A = ℕ} 0 1 = cc in omega arith) in
+        let some : n ≡ 0 → ⊥ = λ z. (let f : c ∷ ds ≡ [] = t.0 z in cc) in
         false≢true (sym e ∙ goes (suc k) n c (record {
           first = b.0.0;
           last = b.0.1;

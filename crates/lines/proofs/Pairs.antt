@@ -147,10 +147,10 @@ module _ (kind : Kind) (least most : ℕ) (case : Case) (fit : Fit kind) (hex : 
       where
         first_none : (d f : Option ℕ) → pair_of d f ≡ Err First → is_value d ≡ false
         first_none None f g = refl
-        first_none (Some v) (Some w) g = let z : ◌≡◌ {A = ℕ} 0 1 = cc in absurd (omega arith)
-        first_none (Some v) None g = let z : ◌≡◌ {A = ℕ} 0 1 = cc in absurd (omega arith)
+        first_none (Some v) (Some w) g = absurd cc
+        first_none (Some v) None g = absurd cc
 
         second_none : (d f : Option ℕ) → pair_of d f ≡ Err Second → (is_value d ≡ true) × (is_value f ≡ false)
         second_none (Some v) None g = (refl, refl)
-        second_none (Some v) (Some w) g = let z : ◌≡◌ {A = ℕ} 0 1 = cc in absurd (omega arith)
-        second_none None f g = let z : ◌≡◌ {A = ℕ} 0 1 = cc in absurd (omega arith)
+        second_none (Some v) (Some w) g = absurd cc
+        second_none None f g = absurd cc

@@ -14,10 +14,6 @@ use Rattle.lines.specs.Steps.{Found, a_line, no_line}
 use Rattle.lines.specs.Tables.{Outcome, whole, broken_at, go_on, lines_from}
 use Rattle.lines.proofs.Columns.{column_early}
 
--- a whole outcome is no broken one
-whole_broken : {E : Type 0} (end : ℕ) (last : E) (bad column : ℕ) (early : Bool) → whole end last ≡ broken_at bad column early → ⊥
-whole_broken end last bad column early e = let z : ◌≡◌ {A = ℕ} 0 1 = cc in omega arith
-
 module _ {E : Type 0} (read_at : ℕ → E → List ℕ → Found) (given : ℕ → E → ℕ → List ℕ → E) where
   -- ---- one line after another
 
@@ -62,13 +58,13 @@ module _ {E : Type 0} (read_at : ℕ → E → List ℕ → Found) (given : ℕ 
 
     -- a broken outcome was stopped at its line
     pub stopped_at : (n : ℕ) (text : List ℕ) (bad column : ℕ) (early : Bool) → up_to n text ≡ broken_at bad column early → Stop n text bad column early
-    stopped_at zero text bad column early e = absurd (whole_broken _ _ bad column early e)
+    stopped_at zero text bad column early e = absurd cc
     stopped_at (suc n) text bad column early e = go (up_to n text) refl (sym (lines_more n line 0 first text) ∙ e) (stopped_at n text)
       where
         at : (end : ℕ) (last : E) → up_to n text ≡ whole end last → (f : Found) → read_at (line + n) last (drop end text) ≡ f
             → go_on (line + n) (drop end text) f (λ size says. whole (end + size) (given (line + n) last says (take size (drop end text)))) ≡ broken_at bad column early
             → Stop (suc n) text bad column early
-        at end last r (Ok read) s f = absurd (whole_broken _ _ bad column early f)
+        at end last r (Ok read) s f = absurd cc
         at end last r (Err c) s f =
             let number : line + n ≡ bad = cc in
             let same : c.column ≡ column = cc in
@@ -136,11 +132,11 @@ module _ {E : Type 0} (read_at : ℕ → E → List ℕ → Found) (given : ℕ 
             let ends : from + l.size ≡ end = cc in
             let gives : given (line + n) earlier l.number (take l.size (drop from text)) ≡ last = cc in
             record { at = from; earlier = earlier; read = r; size = l.size; says = l.number; found = s; ends = sym ends; gives = sym gives }
-        at from earlier r (Err c) s f = absurd (whole_broken end last _ _ _ (sym f))
+        at from earlier r (Err c) s f = absurd cc
 
         go : (o : Outcome E) → up_to n text ≡ o → and_line (line + n) text o ≡ whole end last → More n end last text
         go (whole from earlier) r f = at from earlier r (read_at (line + n) earlier (drop from text)) refl f
-        go (broken_at b c p) r f = absurd (whole_broken end last b c p (sym f))
+        go (broken_at b c p) r f = absurd cc
 
     -- what is broken stays so
     pub stays_broken : (more n : ℕ) (text : List ℕ) (bad column : ℕ) (early : Bool) → up_to n text ≡ broken_at bad column early → up_to (more + n) text ≡ broken_at bad column early
