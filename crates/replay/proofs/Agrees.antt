@@ -13,7 +13,7 @@ use Rattle.answers.specs.declared.Answer.TheVariants.{Done, BrokenRecord}
 use Rattle.answers.specs.Numbers.{is_done}
 use Rattle.digits.proofs.Spelling.{and_both}
 use Rattle.chip_log.specs.declared.form.Entry.{Entry}
-use Rattle.chip_log.specs.declared.reading.Reading.{Reading}
+use Rattle.chip_log.specs.Calls.{Reading}
 use Rattle.chip_log.specs.Form.{data_kind, entry_text}
 use Rattle.chip_log.specs.Calls.{read_as, refused_at, read_entry}
 use Rattle.chip_log.specs.Laws.{InForm, BegunEntry, WrongEntry}

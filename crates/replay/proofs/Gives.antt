@@ -20,13 +20,14 @@ use Rattle.ascon.proofs.Sealing.{bytes_p}
 use Rattle.digits.proofs.Spelling.{and_both}
 use Rattle.chip_log.specs.declared.form.Call.{Call}
 use Rattle.chip_log.specs.declared.form.Call.TheVariants.{Start1, Start2, Ad, Text, Finish}
+use Rattle.chip_log.specs.declared.form.Entry.{Entry}
 use Rattle.chip_log.specs.Form.{data_kind}
 use Rattle.chip_log.specs.Laws.{InForm}
 use Rattle.permutation.specs.Strings.{Bytes, zeros, string_of_words}
 use Rattle.permutation.proofs.Strings.{bytes_none, bytes_cons, bytes_tail, bytes_append, bytes_take, bytes_drop, bytes_zeros, bytes_bytes}
 use Rattle.record.specs.declared.field.Field.{Field}
 use Rattle.record.specs.Form.{field_of, is_field, allows}
-use Rattle.record.proofs.Fields.{whole_field, held_field, held_most}
+use Rattle.record.proofs.Fields.{whole_field, held_field, held_most, field_most}
 use Rattle.record.proofs.Lines.{field_allowed}
 use Rattle.sets.proofs.Rows.{row_fits, row_sizes}
 use Rattle.sponge.specs.declared.Way.TheVariants.{Seal}
@@ -213,6 +214,10 @@ input_short : (call : Call) (input : List ℕ) → allows (data_kind call) 0 (fi
 input_short call input e =
     let f : is_field (field_of input) ≡ true = data_field call (field_of input) e in
     rw held_field at (held_most (field_of input) f)
+
+-- and so is the input of an entry in form
+pub input_inside : (e : Entry) → InForm e → e.input.size ≤ 256
+input_inside e h = field_most e.input (data_field e.call e.input h.input)
 
 -- the entry of what our stream gives is in form, and the key in the next state has sixteen bytes again
 pub entry_fits : (s : Stream) (a : Asked) → Sixteen s.key → are_bytes a.input ≡ true → allows (data_kind a.call) 0 (field_of a.input) ≡ true

@@ -1,10 +1,11 @@
 -- What a call of our stream wrote into a place of zeros, as a field.
 use mathlib.Core.Path.{◌≡◌, refl, sym, ap, ◌∙◌}
 use mathlib.Core.Bool.{Bool, true, false, cond, false≢true}
-use mathlib.Core.List.{List, [], ◌∷◌, ◌++◌}
-use Prim.Native.Nat.{ℕ, zero, suc, ◌-◌, ◌≤◌}
+use mathlib.Core.List.{List, [], ◌++◌}
+use Prim.Native.Nat.{ℕ, ◌-◌, ◌≤◌}
 use native.Mathlib.Omega.{arith}
-use lib.ListN.{length, take, drop, length-append, length-drop, length-replicate, take-append-drop}
+use Rattle.std.proofs.lemmas.List.{take-replicate}
+use lib.ListN.{length, drop, length-append, length-drop, length-replicate, take-append-drop}
 use Rattle.answers.specs.Numbers.{is_done}
 use Rattle.permutation.specs.Strings.{zeros}
 use Rattle.permutation.proofs.Strings.{drop_zeros}
@@ -28,12 +29,6 @@ use Rattle.replay.specs.Feeding.{written, in_places}
 pub record Fills (c : Called) (n : ℕ) : Type 0 where
   pub done : is_done c.outcome.answer ≡ true → length c.lent ≡ n
   pub refused : is_done c.outcome.answer ≡ false → c.lent ≡ zeros n
-
--- the first of some zeros are zeros
-pub take_zeros : (n m : ℕ) → n ≤ m → take n (zeros m) ≡ zeros n
-take_zeros zero m h = refl
-take_zeros (suc n) zero h = absurd (omega arith)
-take_zeros (suc n) (suc m) h = ap (λ (x : List ℕ). 0 ∷ x) (take_zeros n m (omega arith))
 
 -- the first n of 256 places that a call wrote
 abbrev placed : Called → ℕ → Given
@@ -75,7 +70,7 @@ written_places o lent c n h f e = ap (λ (k : Called). placed k n) e ∙ go (is_
         ∙ ap given (sym d)
     go false d =
         let bytes : c.lent ++ drop n (zeros 256) ≡ zeros 256 =
-        ap (λ (x : List ℕ). x ++ drop n (zeros 256)) (f.refused d ∙ sym (take_zeros n 256 h)) ∙ take-append-drop n (zeros 256) in
+        ap (λ (x : List ℕ). x ++ drop n (zeros 256)) (f.refused d ∙ sym (take-replicate n 256 0 h)) ∙ take-append-drop n (zeros 256) in
         let counted : cond (is_done c.outcome.answer) n 0 ≡ 0 = ap (λ (t : Bool). cond t n 0) d in
         (λ j. record {
           answer = c.outcome.answer;

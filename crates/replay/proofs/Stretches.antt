@@ -1,5 +1,5 @@
 -- Stretches of a log, entry by entry: what they take, where one is left open, and what more of the log changes.
-use mathlib.Core.Path.{◌≡◌, refl, sym, ap, ◌∙◌}
+use mathlib.Core.Path.{◌≡◌, refl, sym, ap, ◌∙◌, subst}
 use mathlib.Core.Bool.{Bool, true, false, cond, not, ◌&&◌, true≢false, false≢true}
 use mathlib.Core.List.{List, [], ◌∷◌, ◌++◌}
 use Prim.Native.Nat.{ℕ, zero, suc, ◌+◌, ◌≤◌, ◌<◌}
@@ -13,10 +13,10 @@ use Rattle.answers.specs.Numbers.{is_done, number_of}
 use Rattle.answers.proofs.Numbers.{done_is}
 use Rattle.judge.specs.Difference.{differ}
 use Rattle.chip_log.specs.declared.form.Entry.{Entry}
-use Rattle.chip_log.specs.declared.reading.Reading.{Reading}
+use Rattle.chip_log.specs.Calls.{Reading}
 use Rattle.chip_log.specs.Form.{entry_text}
 use Rattle.chip_log.specs.Calls.{read_as, refused_at, read_entry}
-use Rattle.chip_log.specs.Laws.{BegunEntry, most_bytes}
+use Rattle.chip_log.specs.Laws.{InForm, BegunEntry, most_bytes}
 use Rattle.chip_log.proofs.Laws.{reads_log}
 use Rattle.record.specs.Form.{held}
 use Rattle.stream.specs.declared.Stream.{Stream}
@@ -29,6 +29,13 @@ use Rattle.replay.specs.Replays.{compared, step_on, unread_of, step_of, is_agree
 use Rattle.replay.specs.Laws.{is_open}
 
 -- ---- one entry
+
+-- what was read is in form
+pub read_in_form : (text : List ℕ) (taken : ℕ) (e : Entry) → read_as taken e ≡ read_entry text → InForm e
+unfolding read_as
+read_in_form text taken e is =
+    let done : (read_entry text).answer ≡ Done = ap (λ (r : Reading). r.answer) (sym is) in
+    subst (λ (r : Reading). InForm r.content) (sym is) (reads_log.in_form text done)
 
 -- the step of a text that is no entry
 abbrev pub unread_step : Bool → Stream → List ℕ → Step
@@ -178,6 +185,10 @@ stretch_step over s text h =
     let l : length left ≤ length text = omega (arith, length-drop (step_of over s text).taken text) in
     sym (enough_steps over s text (suc (length text)) (omega arith))
     ∙ rw (ne_eqb (length text) 0 (λ e. omega arith), enough_steps over (step_of over s text).next left (length text) l)
+
+-- a stretch, and then another one
+abbrev pub onto : Stretch → Stretch → Stretch
+onto r q = record { entries = r.entries + q.entries; taken = r.taken + q.taken; stream = q.stream; verdict = q.verdict }
 
 -- a replay takes no more than its text, and counts no more entries than bytes
 pub stretch_inside : (over : Bool) (s : Stream) (text : List ℕ) → let r = stretch_of over s text in (r.entries ≤ r.taken) × (r.taken ≤ length text)

@@ -16,11 +16,7 @@ use Rattle.replay.specs.declared.window.Verdict.{Verdict}
 use Rattle.replay.specs.declared.window.Verdict.TheVariants.{Open}
 use Rattle.replay.specs.Replays.{step_of, is_agreed, stopped, further, stretch_of, told, replay_of}
 use Rattle.replay.specs.Laws.{is_open, SoFar, begun, replayed, onward, over_windows, concluded, joined}
-use Rattle.replay.proofs.Stretches.{agreed_read, step_inside, by_entries, stretch_step, step_same, step_told}
-
--- a stretch, and then another one
-abbrev onto : Stretch → Stretch → Stretch
-onto r q = record { entries = r.entries + q.entries; taken = r.taken + q.taken; stream = q.stream; verdict = q.verdict }
+use Rattle.replay.proofs.Stretches.{onto, agreed_read, step_inside, by_entries, stretch_step, step_same, step_told}
 
 -- a verdict that is told ends a stretch; what was left open goes on with what is left
 abbrev goes_on : Stretch → Stretch → Stretch

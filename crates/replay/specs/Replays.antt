@@ -4,7 +4,7 @@ use Rattle.answers.specs.Numbers.{number_of, is_done}
 use Rattle.answers.specs.Order.{Choice, ◌when◌, first}
 use Rattle.judge.specs.Difference.{differ}
 use Rattle.chip_log.specs.declared.form.Entry.{Entry}
-use Rattle.chip_log.specs.declared.reading.Reading.{Reading}
+use Rattle.chip_log.specs.Calls.{Reading}
 use Rattle.chip_log.specs.Calls.{read_entry}
 use Rattle.record.specs.Form.{held}
 use Rattle.stream.specs.declared.Stream.{Stream}

@@ -1,12 +1,14 @@
 // A log's bytes and the place in them, kept together, and thin functions over them. Those that read take the two apart and leave the work to a function on a slice and a number.
+// They are functions and not methods of `Log`, since rows of `every_call` (letter/specs) name them so.
 ghost use Rattle.std.specs.Prelude.{◌≡◌, drop};
-ghost use Rattle.chip_log.specs.Calls.{read_entry};
+ghost use Rattle.chip_log.specs.Calls.{reading_of, read_entry};
 ghost use Rattle.replay.specs.Cursor.{log_at};
 ghost use Rattle.replay.specs.Replays.{stretch_of};
 
 use crate::window;
 use crate::window::Stretch;
-use chip_log::Reading;
+use chip_log::Entry;
+use record::{Read, Unread};
 use stream::Stream;
 
 // The bytes of a log, and the place in them where its next entry begins.
@@ -27,21 +29,18 @@ pub fn open<'a>(bytes: &'a [u8]) -> Log<'a>
 pub fn moved<'a>(log: Log<'a>, place: usize) -> Log<'a>
     ensures { result ≡ log_at log.entry.bytes place }
 {
-    Log {
-        bytes: log.bytes,
-        place,
-    }
+    Log { place, ..log }
 }
 
 // Reads the entry at the log's place.
-pub fn entry<'a>(log: Log<'a>) -> Reading
-    ensures { result ≡ read_entry (drop log.entry.place log.entry.bytes.now) }
+pub fn entry<'a>(log: Log<'a>) -> Result<Read<Entry>, Unread>
+    ensures { reading_of result ≡ read_entry (drop log.entry.place log.entry.bytes.now) }
 {
     window::entry_at(log.bytes, log.place)
 }
 
 // Replays a log from its place on.
-pub(crate) fn stretch<'a>(log: Log<'a>, ended: bool, stream: Stream) -> Stretch
+fn stretch<'a>(log: Log<'a>, ended: bool, stream: Stream) -> Stretch
     ensures { result ≡ stretch_of ended stream (drop log.entry.place log.entry.bytes.now) }
 {
     window::stretch_at(log.bytes, log.place, ended, stream)

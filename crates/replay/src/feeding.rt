@@ -1,5 +1,5 @@
 // A call of the log, fed to our own stream.
-ghost use Rattle.std.specs.Prelude.{◌≡◌, cond, ◌≤◌, min, length};
+ghost use Rattle.std.specs.Prelude.{◌≡◌, cond, ◌≤◌, length};
 ghost use Rattle.answers.specs.Numbers.{is_done};
 ghost use Rattle.replay.specs.Feeding.{in_places, silent, started, sealed_piece, finished, fed};
 
@@ -17,61 +17,37 @@ pub struct Given {
     pub next: Stream,
 }
 
-// What a call gives whose output is the first `size` of 256 places.
+// What a call gives whose output, where it is done, is the first `size` of 256 places.
 fn with_out(outcome: Outcome, bytes: [u8; 256], size: usize) -> Given
-    ensures { result ≡ record { answer = outcome.answer; out = record { bytes = bytes; size = size }; rounds = outcome.rounds; next = outcome.next } }
+    ensures { result ≡ record { answer = outcome.answer; out = record { bytes = bytes; size = cond (is_done outcome.answer) size 0 }; rounds = outcome.rounds; next = outcome.next } }
 {
-    let answer = outcome.answer;
-    let next = outcome.next;
-    let out = Field { bytes, size };
+    let size = if answers::is_done(outcome.answer) {
+        size
+    } else {
+        0
+    };
     Given {
-        answer,
-        out,
+        answer: outcome.answer,
+        out: Field { bytes, size },
         rounds: outcome.rounds,
-        next,
+        next: outcome.next,
     }
 }
 
 // What a call gives that has no output.
+#[tactic(auto, unfolding(record::specs::Form::field_of))]
 fn without_out(outcome: Outcome) -> Given
     ensures { result ≡ in_places (silent outcome) }
 {
     with_out(outcome, [0; 256], 0)
 }
 
-// The lesser of two numbers.
-fn lesser(one: usize, other: usize) -> usize
-    ensures { result ≡ min one other }
-{
-    if one < other {
-        return one;
-    }
-    other
-}
-
 // A start in a set with the largest limit: key, then nonce.
 fn start(set: u64, input: &[u8]) -> Given
     ensures { result ≡ in_places (started set input.now) }
 {
-    let cut = lesser(sets::key_length(set), input.len());
-    without_out(Stream::start(
-        Direction::Sealing,
-        set,
-        sets::TEXT_LIMIT as u64,
-        &input[..cut],
-        &input[cut..],
-    ))
-}
-
-// How many bytes a call gives, where it is done.
-fn size_given(outcome: Outcome, size: usize) -> usize
-    ensures { result ≡ cond (is_done outcome.answer) size 0 }
-{
-    let answer = outcome.answer;
-    if answers::is_done(answer) {
-        return size;
-    }
-    0
+    let (key, nonce) = input.split_at(sets::key_length(set).min(input.len()));
+    without_out(Stream::start(Direction::Sealing, set, sets::TEXT_LIMIT as u64, key, nonce))
 }
 
 // A piece of the text, with as much room as it has bytes.
@@ -82,7 +58,7 @@ fn seal(stream: Stream, input: &[u8]) -> Given
     let mut out = [0; 256];
     let size = input.len();
     let outcome = stream.seal(input, &mut out[..size]);
-    with_out(outcome, out, size_given(outcome, size))
+    with_out(outcome, out, size)
 }
 
 // The finish, with room for the tag.
@@ -92,7 +68,7 @@ fn finish(stream: Stream) -> Given
     let mut tag = [0; 256];
     let size = sets::key_length(stream.set);
     let outcome = stream.finish_sealing(&mut tag[..size]);
-    with_out(outcome, tag, size_given(outcome, size))
+    with_out(outcome, tag, size)
 }
 
 // Feeds a call and what it is handed to a stream.

@@ -18,16 +18,13 @@ pub fn replay(log: &[u8]) -> Conclusion
     ensures { result ≡ replay_of log.now }
 {
     let stretch = cursor::replay_window(log, true, Stream::ended());
-    let verdict = stretch.verdict;
-    let entries = stretch.entries as u64;
-    if window::is_agreed(verdict) {
-        return Conclusion {
-            entry: entries,
-            verdict,
-        };
-    }
+    let agreed = stretch.entries as u64;
     Conclusion {
-        entry: entries + 1,
-        verdict,
+        entry: if window::is_agreed(stretch.verdict) {
+            agreed
+        } else {
+            agreed + 1
+        },
+        verdict: stretch.verdict,
     }
 }

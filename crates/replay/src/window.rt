@@ -1,17 +1,18 @@
 // A stretch of a log, entry by entry.
 ghost use Rattle.std.specs.Prelude.{◌≡◌, drop};
-ghost use Rattle.chip_log.specs.Calls.{read_entry};
+ghost use Rattle.chip_log.specs.Calls.{reading_of, refused_at, read_entry};
 ghost use Rattle.chip_log.specs.Laws.{InForm};
 ghost use Rattle.replay.specs.Feeding.{as_given};
 ghost use Rattle.replay.specs.Replays.{is_agreed, compared, step_on, unread_of, at_end, step_of, stretch_of};
 
 use crate::feeding;
 use crate::feeding::Given;
-use chip_log::{Entry, Reading};
+use chip_log::Entry;
+use record::{Read, Unread};
 use stream::Stream;
 
 // What is told of an entry, or of a log.
-#[derive(Clone, Copy)]
+#[derive(Clone, Copy, PartialEq, Eq)]
 pub enum Verdict {
     // The chip gave what our stream gives.
     Agrees,
@@ -48,93 +49,81 @@ pub struct Step {
 pub(crate) fn is_agreed(verdict: Verdict) -> bool
     ensures { result ≡ is_agreed verdict }
 {
-    match verdict {
-        Verdict::Agrees => true,
-        Verdict::Answer => false,
-        Verdict::Out => false,
-        Verdict::Rounds => false,
-        Verdict::Unread { line: _, column: _ } => false,
-        Verdict::Open => false,
-    }
+    verdict == Verdict::Agrees
+}
+
+// What stands in a log from a place on; nothing, where the place lies past its end.
+fn left(bytes: &[u8], place: usize) -> &[u8]
+    ensures { result.now ≡ drop place bytes.now }
+{
+    bytes.get(place..).unwrap_or(b"")
 }
 
 // Reads the entry at a place of a log.
-pub(crate) fn entry_at(bytes: &[u8], place: usize) -> Reading
-    ensures { result ≡ read_entry (drop place bytes.now) }
+pub(crate) fn entry_at(bytes: &[u8], place: usize) -> Result<Read<Entry>, Unread>
+    ensures { reading_of result ≡ read_entry (drop place bytes.now) }
 {
-    if bytes.len() < place {
-        return chip_log::read(b"");
-    }
-    chip_log::read(&bytes[place..])
+    chip_log::read(left(bytes, place))
 }
 
 // The verdict on an entry, by what our stream gives.
+#[tactic(auto, unfolding(crate::specs::Replays::compared))]
 fn compare(given: Given, entry: Entry) -> Verdict
     ensures { result ≡ compared (as_given given) entry }
 {
-    let answer = given.answer;
-    if entry.answer != answers::number(answer) {
-        return Verdict::Answer;
+    if entry.answer != answers::number(given.answer) {
+        Verdict::Answer
+    } else if judge::fields_differ(given.out, entry.out) {
+        Verdict::Out
+    } else if entry.rounds != given.rounds {
+        Verdict::Rounds
+    } else {
+        Verdict::Agrees
     }
-    let wanted = given.out;
-    let found = entry.out;
-    if judge::fields_differ(wanted, found) {
-        return Verdict::Out;
-    }
-    if entry.rounds != given.rounds {
-        return Verdict::Rounds;
-    }
-    Verdict::Agrees
 }
 
 // Feeds an entry in form to a stream, and compares what it gives.
+#[tactic(auto, using(crate::proofs::Gives::input_inside))]
 fn step_on(stream: Stream, entry: Entry, taken: usize) -> Step
     requires { InForm entry }
     ensures { result ≡ step_on stream entry taken }
 {
-    let call = entry.call;
     let input = entry.input;
-    let bytes = input.bytes;
-    let size = input.size;
-    let given = feeding::feed(stream, call, &bytes[..size]);
-    let next = given.next;
-    let verdict = compare(given, entry);
+    let given = feeding::feed(stream, entry.call, &input.bytes[..input.size]);
     Step {
-        verdict,
+        verdict: compare(given, entry),
         taken,
-        next,
+        next: given.next,
     }
 }
 
 // The verdict on a text that is no entry: it is unread, or open where it ended too early and more of the log may come.
-fn unread(reading: Reading, ended: bool) -> Verdict
-    ensures { result ≡ unread_of ended reading }
+#[tactic(auto, unfolding(chip_log::specs::Calls::refused_at))]
+fn unread(wrong: Unread, ended: bool) -> Verdict
+    ensures { result ≡ unread_of ended (refused_at wrong.line wrong.column wrong.early) }
 {
-    if !ended {
-        if reading.early {
-            return Verdict::Open;
+    if !ended && wrong.early {
+        Verdict::Open
+    } else {
+        Verdict::Unread {
+            line: wrong.line,
+            column: wrong.column,
         }
-    }
-    Verdict::Unread {
-        line: reading.line,
-        column: reading.column,
     }
 }
 
 // The entry at a place of a log, from a stream's state.
+#[tactic(auto, unfolding(crate::specs::Replays::step_by, chip_log::specs::Calls::read_as, chip_log::specs::Calls::refused_at))]
 fn step_at(bytes: &[u8], place: usize, ended: bool, stream: Stream) -> Step
     ensures { result ≡ step_of ended stream (drop place bytes.now) }
 {
-    let reading = entry_at(bytes, place);
-    let answer = reading.answer;
-    let content = reading.content;
-    if answers::is_done(answer) {
-        return step_on(stream, content, reading.taken);
-    }
-    Step {
-        verdict: unread(reading, ended),
-        taken: 0,
-        next: stream,
+    match entry_at(bytes, place) {
+        Ok(read) => step_on(stream, read.content, read.taken),
+        Err(wrong) => Step {
+            verdict: unread(wrong, ended),
+            taken: 0,
+            next: stream,
+        },
     }
 }
 
@@ -143,37 +132,35 @@ fn at_end(ended: bool) -> Verdict
     ensures { result ≡ at_end ended }
 {
     if ended {
-        return Verdict::Agrees;
+        Verdict::Agrees
+    } else {
+        Verdict::Open
     }
-    Verdict::Open
 }
 
 // Replays a log from a place on, from a stream's state.
 pub(crate) fn stretch_at(bytes: &[u8], place: usize, ended: bool, stream: Stream) -> Stretch
     ensures { result ≡ stretch_of ended stream (drop place bytes.now) }
 {
-    let mut entries = 0;
-    let mut at = place;
-    let mut state = stream;
-    while at < bytes.len() {
-        let step = step_at(bytes, at, ended, state);
-        let verdict = step.verdict;
-        if !is_agreed(verdict) {
+    let log = left(bytes, place);
+    let mut stretch = Stretch {
+        entries: 0,
+        taken: 0,
+        stream,
+        verdict: at_end(ended),
+    };
+    // No `for`: how far a turn goes only the entry that it reads can tell.
+    while stretch.taken < log.len() {
+        let step = step_at(log, stretch.taken, ended, stretch.stream);
+        if !is_agreed(step.verdict) {
             return Stretch {
-                entries,
-                taken: at - place,
-                stream: state,
-                verdict,
+                verdict: step.verdict,
+                ..stretch
             };
         }
-        entries += 1;
-        at += step.taken;
-        state = step.next;
+        stretch.entries += 1;
+        stretch.taken += step.taken;
+        stretch.stream = step.next;
     }
-    Stretch {
-        entries,
-        taken: at - place,
-        stream: state,
-        verdict: at_end(ended),
-    }
+    stretch
 }

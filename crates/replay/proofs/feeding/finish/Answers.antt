@@ -7,8 +7,9 @@ use Rattle.sets.proofs.Rows.{row_sizes}
 use Rattle.permutation.specs.Strings.{zeros}
 use Rattle.stream.specs.declared.Direction.TheVariants.{Sealing}
 use Rattle.stream.specs.Calls.{finish_call}
+use Rattle.std.proofs.lemmas.List.{take-replicate}
 use Rattle.replay.specs.Feeding.{written, finished, in_places}
-use Rattle.replay.proofs.Places.{Fills, take_zeros, written_places, finish_fills}
+use Rattle.replay.proofs.Places.{Fills, written_places, finish_fills}
 use Rattle.replay.proofs.feeding.finish.Goals as goal
 
 pub slice_bounds-tag-end : goal.slice_bounds-tag-end
@@ -24,9 +25,8 @@ returns c =
     let key = c.key_length-size.ensures in
     let n = c.key_length-size.result in
     let few : c.key_length-size.result ≤ 256 = omega (arith, key, (row_sizes state.set).key) in
-    let sized = rw c.size_given.ensures at c.with_out.ensures in
-    sized
+    c.with_out.ensures
     ∙ written_places c.finish_sealing-outcome.result _ _ n few
     (subst (λ (k : ℕ). Fills (finish_call Sealing state (zeros k)) k) (sym key) (finish_fills state c.well_formed.0.1.1.1.1.1.1.0.1.0.1))
-    (c.finish_sealing-outcome.ensures ∙ ap (finish_call Sealing state) (take_zeros n 256 few))
+    (c.finish_sealing-outcome.ensures ∙ ap (finish_call Sealing state) (take-replicate n 256 0 few))
     ∙ ap (λ (k : ℕ). in_places (written (finish_call Sealing state (zeros k)))) key

@@ -4,8 +4,9 @@ use Prim.Native.Nat.{◌≤◌}
 use lib.ListN.{length}
 use Rattle.stream.specs.declared.Direction.TheVariants.{Sealing}
 use Rattle.stream.specs.Calls.{text_call}
+use Rattle.std.proofs.lemmas.List.{take-replicate}
 use Rattle.replay.specs.Feeding.{sealed_piece}
-use Rattle.replay.proofs.Places.{take_zeros, written_places, text_fills}
+use Rattle.replay.proofs.Places.{written_places, text_fills}
 use Rattle.replay.proofs.feeding.seal.Goals as goal
 
 pub returns : goal.returns
@@ -13,6 +14,5 @@ unfolding sealed_piece
 returns c =
     let x = c.args.input.now in
     let few : length x ≤ 256 = c.requires in
-    let sized = rw c.size_given.ensures at c.with_out.ensures in
-    sized
-    ∙ written_places c.seal-outcome.result _ _ (length x) few (text_fills c.args.stream x) (c.seal-outcome.ensures ∙ ap (text_call Sealing c.args.stream x) (take_zeros (length x) 256 few))
+    c.with_out.ensures
+    ∙ written_places c.seal-outcome.result _ _ (length x) few (text_fills c.args.stream x) (c.seal-outcome.ensures ∙ ap (text_call Sealing c.args.stream x) (take-replicate (length x) 256 0 few))

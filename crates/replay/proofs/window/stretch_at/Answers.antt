@@ -1,78 +1,76 @@
-use mathlib.Core.Path.{◌≡◌, sym, ap, ◌∙◌}
-use mathlib.Core.Bool.{Bool, true, false}
-use mathlib.Core.List.{List, []}
-use Prim.Native.Nat.{ℕ, suc, ◌+◌, ◌-◌, ◌≤◌, ◌<◌}
-use native.Mathlib.Nat.{add-zero}
-use native.Mathlib.Omega.{arith}
-use lib.ListN.{length, drop, length-drop, drop_of_length-le}
-use lib.Seq.{drop-drop}
+use Rattle.std.proofs.Common.{arith, ◌≡◌, sym, ap, ◌∙◌, Bool, true, false, List, [], ℕ, suc, ◌+◌, ◌≤◌, ◌<◌, length, drop, add-zero}
+use Rattle.std.proofs.Math.ListN.{drop_of_length-le}
+use Rattle.std.proofs.Math.Seq.{drop-drop}
+use Rattle.std.proofs.lemmas.List.{length-drop}
 use Rattle.stream.specs.declared.Stream.{Stream}
 use Rattle.replay.specs.declared.window.Step.{Step}
 use Rattle.replay.specs.declared.window.Stretch.{Stretch}
-use Rattle.replay.specs.Replays.{step_of, is_agreed, further, stretch_of}
-use Rattle.replay.proofs.Stretches.{step_inside, stretch_step}
-use Rattle.replay.proofs.window.stretch_at.Invariants.{behind, Left}
+use Rattle.replay.specs.declared.window.Verdict.{Verdict}
+use Rattle.replay.specs.Replays.{step_of, is_agreed, at_end, stopped, further, stretch_of}
+use Rattle.replay.proofs.Stretches.{onto, step_inside, stretch_step}
+use Rattle.replay.proofs.window.stretch_at.Invariants.{Left}
 use Rattle.replay.proofs.window.stretch_at.Goals as goal
 
+-- a stretch with nothing behind it
+onto_none : (r : Stretch) (verdict : Verdict) → onto r (stopped r.stream verdict) ≡ record { entries = r.entries; taken = r.taken; stream = r.stream; verdict = verdict }
+onto_none r verdict = λ j. record { entries = add-zero r.entries j; taken = add-zero r.taken j; stream = r.stream; verdict = verdict }
+
 -- an entry that does not agree stops here
-stops : {text : List ℕ} {place : ℕ} {over : Bool} {s₀ : Stream} {entries at : ℕ} {s : Stream} {step : Step} → Left text place over s₀ entries at s → at < length text → step ≡ step_of over s (drop at text)
-    → is_agreed step.verdict ≡ false → record { entries = entries; taken = at - place; stream = s; verdict = step.verdict } ≡ stretch_of over s₀ (drop place text)
-stops {text} {place} {over} {entries = entries} {at} {s} {step} l h is e =
-    let here = rw (← is, e) at (stretch_step over s (drop at text) (omega (arith, length-drop at text))) in
-    (λ j. record { entries = sym (add-zero entries) j; taken = sym (add-zero (at - place)) j; stream = s; verdict = step.verdict })
-    ∙ ap (behind entries (at - place)) (sym here)
-    ∙ l.rest
+stops : {log : List ℕ} {over : Bool} {s : Stream} {r : Stretch} {step : Step} → Left log over s r → r.taken < length log → step ≡ step_of over r.stream (drop r.taken log)
+    → is_agreed step.verdict ≡ false → record { entries = r.entries; taken = r.taken; stream = r.stream; verdict = step.verdict } ≡ stretch_of over s log
+stops {log} {over} {r = r} {step} l h is e =
+    let here = rw (← is, e) at (stretch_step over r.stream (drop r.taken log) (omega (arith, length-drop r.taken log))) in
+    sym (onto_none r step.verdict) ∙ ap (onto r) (sym here) ∙ l.rest
 
 -- one that agrees lies in the log
-lies : {text : List ℕ} {place : ℕ} {over : Bool} {s₀ : Stream} {entries at : ℕ} {s : Stream} {step : Step} → Left text place over s₀ entries at s → at < length text → step ≡ step_of over s (drop at text)
-    → is_agreed step.verdict ≡ true → (1 ≤ step.taken) × (at + step.taken ≤ length text)
-lies {text} {over = over} {at = at} {s} l h is e =
-    let inside = rw (← is) at (step_inside over s (drop at text) (rw is at e)) in
-    (inside.0, omega (arith, inside.1, length-drop at text))
+lies : {log : List ℕ} {over : Bool} {s : Stream} {r : Stretch} {step : Step} → Left log over s r → r.taken < length log → step ≡ step_of over r.stream (drop r.taken log)
+    → is_agreed step.verdict ≡ true → (1 ≤ step.taken) × (r.taken + step.taken ≤ length log)
+lies {log} {over} {r = r} l h is e =
+    let inside = rw (← is) at (step_inside over r.stream (drop r.taken log) (rw is at e)) in
+    (inside.0, omega (arith, inside.1, length-drop r.taken log))
 
 -- and goes on behind itself
-goes : {text : List ℕ} {place : ℕ} {over : Bool} {s₀ : Stream} {entries at : ℕ} {s : Stream} {step : Step} → Left text place over s₀ entries at s → at < length text → step ≡ step_of over s (drop at text)
-    → is_agreed step.verdict ≡ true → Left text place over s₀ (entries + 1) (at + step.taken) step.next
-goes {text} {place} {over} {entries = entries} {at} {s} {step} l h is e =
-    let left : Stretch = stretch_of over step.next (drop (at + step.taken) text) in
-    let count : entries + 1 + left.entries ≡ entries + suc left.entries = omega arith in
-    let sum : at + step.taken - place + left.taken ≡ at - place + (step.taken + left.taken) = omega (arith, l.from) in
+goes : {log : List ℕ} {over : Bool} {s : Stream} {r : Stretch} {step : Step} → Left log over s r → r.taken < length log → step ≡ step_of over r.stream (drop r.taken log)
+    → is_agreed step.verdict ≡ true → Left log over s (record { entries = r.entries + 1; taken = r.taken + step.taken; stream = step.next; verdict = r.verdict })
+goes {log} {over} {r = r} {step} l h is e =
+    let left : Stretch = stretch_of over step.next (drop (r.taken + step.taken) log) in
+    let count : r.entries + 1 + left.entries ≡ r.entries + suc left.entries = omega arith in
+    let sum : r.taken + step.taken + left.taken ≡ r.taken + (step.taken + left.taken) = omega arith in
     let here =
-    rw (← is, e) at (stretch_step over s (drop at text) (omega (arith, length-drop at text)))
-    ∙ ap (λ (y : List ℕ). further step.taken (stretch_of over step.next y)) (drop-drop step.taken at text) in
+    rw (← is, e) at (stretch_step over r.stream (drop r.taken log) (omega (arith, length-drop r.taken log)))
+    ∙ ap (λ (y : List ℕ). further step.taken (stretch_of over step.next y)) (drop-drop step.taken r.taken log) in
     record {
-      from = omega (arith, l.from);
-      few = omega (arith, l.few, l.from, (lies l h is e).0);
-      rest =
-          (λ j. record { entries = count j; taken = sum j; stream = left.stream; verdict = left.verdict })
-          ∙ ap (behind entries (at - place)) (sym here)
-          ∙ l.rest;
+      few = omega (arith, l.few, (lies l h is e).0);
+      inside = (lies l h is e).1;
+      verdict = l.verdict;
+      rest = (λ j. record { entries = count j; taken = sum j; stream = left.stream; verdict = left.verdict }) ∙ ap (onto r) (sym here) ∙ l.rest;
     }
 
+-- where no byte is left, the stretch is whole
+ends : {log : List ℕ} {over : Bool} {s : Stream} {r : Stretch} → Left log over s r → length log ≤ r.taken → r ≡ stretch_of over s log
+unfolding stretch_of
+ends {log} {over} {r = r} l h =
+    let none : drop r.taken log ≡ [] = drop_of_length-le log {i = r.taken} h in
+    (λ j. record { entries = r.entries; taken = r.taken; stream = r.stream; verdict = l.verdict j })
+    ∙ sym (onto_none r (at_end over))
+    ∙ ap (λ (x : List ℕ). onto r (stretch_of over r.stream x)) (sym none)
+    ∙ l.rest
+
 pub returns-then-not-is_agreed : goal.returns-then-not-is_agreed
-returns-then-not-is_agreed c = stops c.loop-at.invariant c.loop-at-test.true c.step_at-step.ensures (sym c.is_agreed.ensures ∙ c.if-not-is_agreed.true)
+returns-then-not-is_agreed c =
+    rw (← c.left-log.ensures) (stops c.loop-stretch.invariant c.loop-stretch-test.true c.step_at-step.ensures (sym c.is_agreed.ensures ∙ c.if-not-is_agreed.true))
 
-pub overflow_add-at : goal.overflow_add-at
-overflow_add-at c =
-    record { fits = omega (arith, (lies c.loop-at.invariant c.loop-at-test.true c.step_at-step.ensures (sym c.is_agreed.ensures ∙ c.if-not-is_agreed.false)).1) }
+pub overflow_add-stretch-in-loop-stretch : goal.overflow_add-stretch-in-loop-stretch
+overflow_add-stretch-in-loop-stretch c =
+    record { fits = omega (arith, (lies c.loop-stretch.invariant c.loop-stretch-test.true c.step_at-step.ensures (sym c.is_agreed.ensures ∙ c.if-not-is_agreed.false)).1) }
 
-pub loop-at-smaller : goal.loop-at-smaller
-loop-at-smaller c =
-    let h = lies c.loop-at.invariant c.loop-at-test.true c.step_at-step.ensures (sym c.is_agreed.ensures ∙ c.if-not-is_agreed.false) in omega (arith, h.0, h.1)
+pub loop-stretch-smaller : goal.loop-stretch-smaller
+loop-stretch-smaller c =
+    let h = lies c.loop-stretch.invariant c.loop-stretch-test.true c.step_at-step.ensures (sym c.is_agreed.ensures ∙ c.if-not-is_agreed.false) in
+    omega (arith, h.0, h.1)
 
-pub loop-at-preserved : goal.loop-at-preserved
-loop-at-preserved c = goes c.loop-at.invariant c.loop-at-test.true c.step_at-step.ensures (sym c.is_agreed.ensures ∙ c.if-not-is_agreed.false)
+pub loop-stretch-preserved : goal.loop-stretch-preserved
+loop-stretch-preserved c = goes c.loop-stretch.invariant c.loop-stretch-test.true c.step_at-step.ensures (sym c.is_agreed.ensures ∙ c.if-not-is_agreed.false)
 
 pub returns : goal.returns
-unfolding stretch_of
-returns c =
-    let a = c.args in
-    let none : drop c.loop-at.at a.bytes.now ≡ [] = drop_of_length-le a.bytes.now {i = c.loop-at.at} (omega (arith, c.loop-at-test.false)) in
-    (λ j. record {
-      entries = sym (add-zero c.loop-at.entries) j;
-      taken = sym (add-zero (c.loop-at.at - a.place)) j;
-      stream = c.loop-at.state;
-      verdict = c.at_end.ensures j;
-    })
-    ∙ ap (λ (x : List ℕ). behind c.loop-at.entries (c.loop-at.at - a.place) (stretch_of a.ended c.loop-at.state x)) (sym none)
-    ∙ c.loop-at.invariant.rest
+returns c = rw (← c.left-log.ensures) (ends c.loop-stretch.invariant c.loop-stretch-test.false)
