@@ -14,14 +14,6 @@ use Rattle.report.specs.Reports.{word, part, record_line, verdict_line, field_li
 pub numeral_most : (n : ℕ) → n < 2 ^ 64 → length (numeral n) ≤ 20
 numeral_most n h = omega (arith, length_numeral n, places_least n 19 (omega arith))
 
--- a word has at most 7 bytes
-pub word_most : (verdict : Verdict) → length (word verdict) ≤ 7
-word_most Equal = omega arith
-word_most Rounds = omega arith
-word_most Cipher = omega arith
-word_most Tag = omega arith
-word_most (Unread line column) = omega arith
-
 -- a report has 24 bytes, its number's, its word's and its field's
 pub length_report : (number : ℕ) (verdict : Verdict) → length (report_text number verdict) ≡ 24 + length (numeral number) + (length (word verdict) + length (part verdict))
 unfolding report_text record_line verdict_line field_line

@@ -13,6 +13,7 @@ pub enum Verdict {
     Cipher,
     Tag,
     // The first broken line of a record out of form, and the column at which it is wrong; 0 where the record was handed over as a struct.
+    // The column stays a number: the definition `verdict_on` and the theorems on `Unread line column` have it so.
     Unread { line: usize, column: usize },
 }
 
@@ -49,16 +50,18 @@ fn put_part(verdict: Verdict, out: &mut [u8]) -> usize
 pub fn report(number: u64, verdict: Verdict, out: &mut [u8]) -> Result<usize, NoRoom>
     ensures { report_leaves (reported_of result) out.new ≡ report_call number verdict out.old }
 {
-    let mut numeral = [0; 20];
-    let size = digits::put_number(number, &mut numeral);
-    let mut part = [0; 20];
-    let part_size = put_part(verdict, &mut part);
+    let mut place = [0; 20];
+    let size = digits::put_number(number, &mut place);
+    let numeral = &place[..size];
+    let mut place = [0; 20];
+    let size = put_part(verdict, &mut place);
+    let part = &place[..size];
     let word = word(verdict);
     let names = b"record=\nverdict=\nfield=\n";
-    if out.len() < names.len() + size + word.len() + part_size {
+    if out.len() < names.len() + numeral.len() + word.len() + part.len() {
         return Err(NoRoom);
     }
-    let one = digits::put_line(b"record=", &numeral[..size], out);
+    let one = digits::put_line(b"record=", numeral, out);
     let two = one + digits::put_line(b"verdict=", word, &mut out[one..]);
-    Ok(two + digits::put_line(b"field=", &part[..part_size], &mut out[two..]))
+    Ok(two + digits::put_line(b"field=", part, &mut out[two..]))
 }

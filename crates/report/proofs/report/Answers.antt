@@ -13,7 +13,7 @@ use Rattle.digits.specs.Room.{line_of, laid, put}
 use Rattle.digits.proofs.Room.{behind, put_inside, put_count, put_after}
 use Rattle.report.specs.declared.Verdict.{Verdict}
 use Rattle.report.specs.Reports.{word, part, record_line, verdict_line, field_line, report_text, report_leaves, report_call}
-use Rattle.report.proofs.Lengths.{numeral_most, word_most, length_report}
+use Rattle.report.proofs.Lengths.{numeral_most, length_report}
 use Rattle.report.proofs.report.Goals as goal
 
 -- a text that had room stands at the beginning of its place
@@ -54,31 +54,26 @@ three number verdict out after last names end third h f put-two put-three =
 record Ready (number : ℕ) (verdict : Verdict) (digits said names : List ℕ) (size part_size : ℕ) : Type 0 where
   numbered : take size digits ≡ numeral number
   named : take part_size names ≡ part verdict
-  measured : 24 + size + length said + part_size ≡ length (report_text number verdict)
+  measured : 24 + length (take size digits) + length said + length (take part_size names) ≡ length (report_text number verdict)
 
 ready : (place other : List ℕ) {number size part_size : ℕ} {verdict : Verdict} {digits said names : List ℕ} → laid size digits ≡ put (numeral number) place → length (numeral number) ≤ length place
     → said ≡ word verdict → laid part_size names ≡ put (part verdict) other → length (part verdict) ≤ length other → Ready number verdict digits said names size part_size
 ready place other {number} {size} {part_size} {verdict} {digits} {said} {names} n most w f few =
     let first = taken (numeral number) place digits size n most in
     let last = taken (part verdict) other names part_size f few in
-    record { numbered = first.1; named = last.1; measured = omega (arith, length_report number verdict, first.0, ap length w, last.0) }
+    record { numbered = first.1; named = last.1; measured = omega (arith, length_report number verdict, ap length first.1, ap length w, ap length last.1) }
 
-pub overflow_add-size : goal.overflow_add-size
-overflow_add-size c =
-    let number = taken _ _ _ _ c.put_number-size.ensures (numeral_most c.args.number c.ranges.number.fits) in
-    record { fits = omega (arith, number.0, numeral_most c.args.number c.ranges.number.fits) }
+pub slice_bounds-place-end : goal.slice_bounds-place-end
+slice_bounds-place-end c = (put_inside _ _ _ _ c.put_number-size.ensures).0
 
 pub slice_bounds-numeral-end : goal.slice_bounds-numeral-end
-slice_bounds-numeral-end c = (put_inside _ _ _ _ c.put_number-size.ensures).0
+slice_bounds-numeral-end c = sym (length-take-le _ _ (put_inside _ _ _ _ c.put_number-size.ensures).0)
 
-pub slice_bounds-put_line-end-2 : goal.slice_bounds-put_line-end-2
-slice_bounds-put_line-end-2 c = sym (length-take-le _ _ (put_inside _ _ _ _ c.put_number-size.ensures).0)
+pub slice_bounds-place-end-2 : goal.slice_bounds-place-end-2
+slice_bounds-place-end-2 c = (put_inside _ _ _ _ c.put_part-size.ensures.value).0
 
 pub slice_bounds-part-end : goal.slice_bounds-part-end
-slice_bounds-part-end c = (put_inside _ _ _ _ c.put_part-part_size.ensures.value).0
-
-pub slice_bounds-put_line-end-6 : goal.slice_bounds-put_line-end-6
-slice_bounds-put_line-end-6 c = sym (length-take-le _ _ (put_inside _ _ _ _ c.put_part-part_size.ensures.value).0)
+slice_bounds-part-end c = sym (length-take-le _ _ (put_inside _ _ _ _ c.put_part-size.ensures.value).0)
 
 pub slice_bounds-put_line-count : goal.slice_bounds-put_line-count
 slice_bounds-put_line-count c = (put_inside _ _ _ _ c.put_line-one.ensures).0
@@ -86,58 +81,45 @@ slice_bounds-put_line-count c = (put_inside _ _ _ _ c.put_line-one.ensures).0
 pub slice_bounds-put_line-start : goal.slice_bounds-put_line-start
 slice_bounds-put_line-start c = (put_inside _ _ _ _ c.put_line-one.ensures).0
 
-pub overflow_add-size-2 : goal.overflow_add-size-2
-overflow_add-size-2 c =
-    let most = numeral_most c.args.number c.ranges.number.fits in
-    let number = taken _ _ _ _ c.put_number-size.ensures most in
-    record { fits = omega (arith, number.0, most, ap length c.word-word.ensures, word_most c.args.verdict) }
-
-pub overflow_add-size-3 : goal.overflow_add-size-3
-overflow_add-size-3 c =
-    let most = numeral_most c.args.number c.ranges.number.fits in
-    let number = taken _ _ _ _ c.put_number-size.ensures most in
-    let last = taken _ _ _ _ c.put_part-part_size.ensures.value c.put_part-part_size.ensures.upper_bound in
-    record { fits = omega (arith, number.0, most, ap length c.word-word.ensures, word_most c.args.verdict, last.0, c.put_part-part_size.ensures.upper_bound) }
-
-pub returns-then-out-size : goal.returns-then-out-size
+pub returns-then-out-numeral : goal.returns-then-out-numeral
 unfolding report_call
-returns-then-out-size c =
+returns-then-out-numeral c =
     let a = c.args in
-    let part = c.put_part-part_size.ensures in
+    let part = c.put_part-size.ensures in
     let r = ready _ _ c.put_number-size.ensures (numeral_most a.number c.ranges.number.fits) c.word-word.ensures part.value part.upper_bound in
-    rw (lt-leb (length (report_text a.number a.verdict)) (length a.out.now) (omega (arith, r.measured, c.if-out-size.true)))
+    rw (lt-leb (length (report_text a.number a.verdict)) (length a.out.now) (omega (arith, r.measured, c.if-out-numeral.true)))
 
 pub overflow_add-two : goal.overflow_add-two
 overflow_add-two c =
     let a = c.args in
-    let part = c.put_part-part_size.ensures in
+    let part = c.put_part-size.ensures in
     let r = ready _ _ c.put_number-size.ensures (numeral_most a.number c.ranges.number.fits) c.word-word.ensures part.value part.upper_bound in
-    let begun = two a.number a.verdict a.out.now _ _ _ _ _ _ (omega (arith, r.measured, c.if-out-size.false)) r.numbered c.word-word.ensures c.put_line-one.ensures c.put_line.ensures in
+    let begun = two a.number a.verdict a.out.now _ _ _ _ _ _ (omega (arith, r.measured, c.if-out-numeral.false)) r.numbered c.word-word.ensures c.put_line-one.ensures c.put_line.ensures in
     let h = put_inside _ _ _ _ begun in
     record { fits = omega (arith, h.0, h.1, c.well_formed.1.1.0.0) }
 
 pub slice_bounds-put_line-count-2 : goal.slice_bounds-put_line-count-2
 slice_bounds-put_line-count-2 c =
     let a = c.args in
-    let part = c.put_part-part_size.ensures in
+    let part = c.put_part-size.ensures in
     let r = ready _ _ c.put_number-size.ensures (numeral_most a.number c.ranges.number.fits) c.word-word.ensures part.value part.upper_bound in
-    let begun = two a.number a.verdict a.out.now _ _ _ _ _ _ (omega (arith, r.measured, c.if-out-size.false)) r.numbered c.word-word.ensures c.put_line-one.ensures c.put_line.ensures in
+    let begun = two a.number a.verdict a.out.now _ _ _ _ _ _ (omega (arith, r.measured, c.if-out-numeral.false)) r.numbered c.word-word.ensures c.put_line-one.ensures c.put_line.ensures in
     (put_inside _ _ _ _ begun).0
 
 pub slice_bounds-put_line-start-2 : goal.slice_bounds-put_line-start-2
 slice_bounds-put_line-start-2 c =
     let a = c.args in
-    let part = c.put_part-part_size.ensures in
+    let part = c.put_part-size.ensures in
     let r = ready _ _ c.put_number-size.ensures (numeral_most a.number c.ranges.number.fits) c.word-word.ensures part.value part.upper_bound in
-    let begun = two a.number a.verdict a.out.now _ _ _ _ _ _ (omega (arith, r.measured, c.if-out-size.false)) r.numbered c.word-word.ensures c.put_line-one.ensures c.put_line.ensures in
+    let begun = two a.number a.verdict a.out.now _ _ _ _ _ _ (omega (arith, r.measured, c.if-out-numeral.false)) r.numbered c.word-word.ensures c.put_line-one.ensures c.put_line.ensures in
     (put_inside _ _ _ _ begun).0
 
 pub overflow_add-result : goal.overflow_add-result
 overflow_add-result c =
     let a = c.args in
-    let part = c.put_part-part_size.ensures in
+    let part = c.put_part-size.ensures in
     let r = ready _ _ c.put_number-size.ensures (numeral_most a.number c.ranges.number.fits) c.word-word.ensures part.value part.upper_bound in
-    let fits : length (report_text a.number a.verdict) ≤ length a.out.now = omega (arith, r.measured, c.if-out-size.false) in
+    let fits : length (report_text a.number a.verdict) ≤ length a.out.now = omega (arith, r.measured, c.if-out-numeral.false) in
     let begun = two a.number a.verdict a.out.now _ _ _ _ _ _ fits r.numbered c.word-word.ensures c.put_line-one.ensures c.put_line.ensures in
     let h = put_inside _ _ _ _ (three a.number a.verdict a.out.now _ _ _ _ _ fits r.named begun c.put_line-2.ensures) in
     record { fits = omega (arith, h.0, h.1, c.well_formed.1.1.0.0) }
@@ -146,9 +128,9 @@ pub returns : goal.returns
 unfolding report_call
 returns c =
     let a = c.args in
-    let part = c.put_part-part_size.ensures in
+    let part = c.put_part-size.ensures in
     let r = ready _ _ c.put_number-size.ensures (numeral_most a.number c.ranges.number.fits) c.word-word.ensures part.value part.upper_bound in
-    let fits : length (report_text a.number a.verdict) ≤ length a.out.now = omega (arith, r.measured, c.if-out-size.false) in
+    let fits : length (report_text a.number a.verdict) ≤ length a.out.now = omega (arith, r.measured, c.if-out-numeral.false) in
     let begun = two a.number a.verdict a.out.now _ _ _ _ _ _ fits r.numbered c.word-word.ensures c.put_line-one.ensures c.put_line.ensures in
     let whole = put_count _ _ _ _ (three a.number a.verdict a.out.now _ _ _ _ _ fits r.named begun c.put_line-2.ensures) fits in
     rw (le-leb (length (report_text a.number a.verdict)) (length a.out.now) fits)
