@@ -2,6 +2,7 @@
 #![tactic(auto)]
 
 // How many records were judged equal, how many differ, and how many could not be read; the line and column where the unread one broke, 0 and 0 while there is none.
+// No Option: the theorem `WholeReports.counts` and the definition `none` have line and column as numbers.
 #[derive(Clone, Copy)]
 pub struct Tally {
     pub equal: u64,
