@@ -12,13 +12,12 @@ use permutation::Run;
 pub fn kvistmaur_permute(rounds: u64, words: &mut [u64; 5]) -> u64
     ensures { called result words.new ≡ permute_call rounds words.old }
 {
-    let run = match rounds {
-        12 => Run::Twelve,
-        8 => Run::FirstEight,
-        6 => Run::FirstSix,
+    match rounds {
+        12 => permutation::permute_words(words, Run::Twelve),
+        8 => permutation::permute_words(words, Run::FirstEight),
+        6 => permutation::permute_words(words, Run::FirstSix),
         _ => return 0,
-    };
-    permutation::permute_words(words, run);
+    }
     rounds
 }
 
