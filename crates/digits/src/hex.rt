@@ -70,7 +70,7 @@ fn row_behind(row: u8) -> u64
     NO_DIGITS
 }
 
-// A character's entry in the list, shifted out of its row: by `to_le_bytes` the row is stored first, and reading a digit takes 1.2 times as long.
+// A character's entry in the list, shifted out of its row: by `to_le_bytes`, tried in plain Rust, the row is stored first, and reading digits takes 1.2 times as long.
 fn entry_of(character: u8) -> u8
     ensures { result ≡ entry_of character }
 {
