@@ -27,7 +27,7 @@ use Rattle.chip_log.specs.declared.form.Entry.{Entry}
 use Rattle.chip_log.specs.Form.{word_of, data_kind, name, value_kind, kind_at, rank_of, call_kind, line_text, blank}
 use Rattle.chip_log.specs.Calls.{call_of, field_in, given}
 use Rattle.chip_log.specs.Laws.{InForm}
-use Rattle.chip_log.proofs.Table.{right_at, EntryRows, call_first, data_bytes, name_is, fit_kind, call_is}
+use Rattle.chip_log.proofs.Table.{right_at, EntryRows, call_first, data_bytes, data_field, name_is, fit_kind, call_is}
 
 -- ---- a line
 
@@ -55,7 +55,7 @@ data_spells : (call : Call) (f : Field) → Whole f → allows (data_kind call) 
 data_spells call f w k =
     let d = data_bytes call in
     let allowed : allows (Bytes d.least d.most Lower) 0 f ≡ true = rw d.is at k in
-    ((and_both (is_field f) _ allowed).0, rw d.is (field_spells Lower f d.least d.most w allowed))
+    (data_field call f k, rw d.is (field_spells Lower f d.least d.most w allowed))
 
 -- the field of a line's digits is the field that was spelled
 field_back : (call : Call) (line : ℕ) (f : Field) → is_field f ≡ true → Whole f → Spells (value_kind call line) 0 (hex_in Lower (held f))

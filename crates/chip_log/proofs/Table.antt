@@ -13,6 +13,7 @@ use Rattle.sets.proofs.Rows.{row_sizes}
 use Rattle.digits.specs.declared.hex.Case.TheVariants.{Lower}
 use Rattle.digits.specs.Ascii.{ascii}
 use Rattle.digits.specs.Room.{line_of}
+use Rattle.digits.proofs.Spelling.{and_both}
 use Rattle.lines.specs.declared.kinds.Value.TheVariants.{Fixed, Number, Bytes}
 use Rattle.lines.specs.Steps.{Found}
 use Rattle.lines.specs.Right.{name_of, Right, Lines}
@@ -22,6 +23,8 @@ use Rattle.lines.proofs.Rows.{Rows}
 use Rattle.lines.proofs.Laws.{reads_lines, some_line}
 use Rattle.lines.proofs.Names.{named_is, named_fit}
 use Rattle.lines.proofs.FoundLaws.{Telling, kind_telling, either_telling, one_found}
+use Rattle.record.specs.declared.field.Field.{Field}
+use Rattle.record.specs.Form.{is_field, allows}
 use Rattle.chip_log.specs.declared.form.Call.{Call}
 use Rattle.chip_log.specs.declared.form.Call.TheVariants.{Start1, Start2, Ad, Text, Finish}
 use Rattle.chip_log.specs.declared.form.Entry.{Entry}
@@ -121,6 +124,13 @@ data_bytes Start2 = record { least = 2 * (row_of 2).key; most = 2 * (row_of 2).k
 data_bytes Ad = record { least = 0; most = 256; is = refl; ordered = omega arith; few = omega arith }
 data_bytes Text = record { least = 0; most = 256; is = refl; ordered = omega arith; few = omega arith }
 data_bytes Finish = record { least = 0; most = 0; is = refl; ordered = omega arith; few = omega arith }
+
+-- what a call may be handed is a field in form
+pub data_field : (call : Call) (f : Field) → allows (data_kind call) 0 f ≡ true → is_field f ≡ true
+data_field call f e =
+    let d = data_bytes call in
+    let allowed : allows (Bytes d.least d.most Lower) 0 f ≡ true = rw d.is at e in
+    (and_both (is_field f) _ allowed).0
 
 -- what a line may hold fits
 value_fits : (call : Call) (line : ℕ) → fits (value_kind call line) ≡ true

@@ -19,7 +19,8 @@ pub enum Call {
     Finish = 5,
 }
 
-// An entry: the call and what it was handed; the answer, the output and the rounds that the chip gave.
+// An entry: the call and what it was handed; the answer, the output and the rounds that the chip gave. Its answer is no `Answer`, since a log may have any number of at
+// most seven digits there (`InForm`).
 #[derive(Clone, Copy)]
 pub struct Entry {
     pub call: Call,
@@ -29,27 +30,84 @@ pub struct Entry {
     pub rounds: u64,
 }
 
-// The first line of a call's entries, without its line feed: a fixed word.
-fn call_name(call: Call) -> Name
-    ensures { result ≡ named (ascii "call=" ++ word_of call) }
+// What may stand on the second line of a start in a set: its key and its nonce.
+#[tactic(auto, using(sets::proofs::Rows::row_sizes))]
+fn start_data(set: u64) -> Value
+    ensures { result ≡ start_data set }
 {
-    match call {
-        Call::Start1 => lines::named(b"call=start1"),
-        Call::Start2 => lines::named(b"call=start2"),
-        Call::Ad => lines::named(b"call=ad"),
-        Call::Text => lines::named(b"call=text"),
-        Call::Finish => lines::named(b"call=finish"),
+    let size = 2 * (sets::key_length(set) as u16);
+    Value::Bytes(size, size, Case::Lower)
+}
+
+// The name of a line behind the first, with which it begins. Lines go by their numbers and no enum, since a refusal tells the number and `lines_from` counts them.
+fn name_of(line: usize) -> Name
+    ensures { result ≡ named (name line) }
+{
+    match line {
+        2 => lines::named(b"data="),
+        3 => lines::named(b"answer="),
+        4 => lines::named(b"out="),
+        _ => lines::named(b"rounds="),
     }
 }
 
-// The kind of a call's first line.
-#[tactic(auto, unfolding(crate::specs::Form::call_kind))]
-fn call_kind(call: Call) -> Kind
-    ensures { result ≡ call_kind call }
-{
-    Kind {
-        name: call_name(call),
-        value: Value::Fixed(call as u64),
+impl Call {
+    // The first line of its entries, without its line feed: a fixed word.
+    fn first_name(self) -> Name
+        ensures { result ≡ named (ascii "call=" ++ word_of self) }
+    {
+        match self {
+            Call::Start1 => lines::named(b"call=start1"),
+            Call::Start2 => lines::named(b"call=start2"),
+            Call::Ad => lines::named(b"call=ad"),
+            Call::Text => lines::named(b"call=text"),
+            Call::Finish => lines::named(b"call=finish"),
+        }
+    }
+
+    // The kind of that line.
+    #[tactic(auto, unfolding(crate::specs::Form::call_kind))]
+    fn first_kind(self) -> Kind
+        ensures { result ≡ call_kind self }
+    {
+        Kind {
+            name: self.first_name(),
+            value: Value::Fixed(self as u64),
+        }
+    }
+
+    // What may stand on its second line: key and nonce of the set; at most 256 bytes; nothing.
+    fn data_kind(self) -> Value
+        ensures { result ≡ data_kind self }
+    {
+        match self {
+            Call::Start1 => start_data(1),
+            Call::Start2 => start_data(2),
+            Call::Ad | Call::Text => Value::Bytes(0, 256, Case::Lower),
+            Call::Finish => Value::Bytes(0, 0, Case::Lower),
+        }
+    }
+
+    // What may stand behind the name of a line.
+    fn value_of(self, line: usize) -> Value
+        ensures { result ≡ value_kind self line }
+    {
+        match line {
+            2 => self.data_kind(),
+            4 => Value::Bytes(0, 256, Case::Lower),
+            _ => Value::Number(0, 9999999),
+        }
+    }
+
+    // The kind of a line behind the first.
+    #[tactic(auto, unfolding(crate::specs::Form::kind_at))]
+    pub(crate) fn kind_at(self, line: usize) -> Kind
+        ensures { result ≡ kind_at self line }
+    {
+        Kind {
+            name: name_of(line),
+            value: self.value_of(line),
+        }
     }
 }
 
@@ -72,66 +130,11 @@ impl From<u64> for Call {
 fn read_call(text: &[u8]) -> Result<Line, Stopped>
     ensures { result ≡ read_call text.now }
 {
-    let mut found = lines::read(call_kind(Call::Start1), text);
+    let mut found = lines::read(Call::Start1.first_kind(), text);
     for call in [Call::Start2, Call::Ad, Call::Text, Call::Finish] {
-        found = lines::either(found, lines::read(call_kind(call), text));
+        found = lines::either(found, lines::read(call.first_kind(), text));
     }
     found
-}
-
-// What may stand on the second line of a start in a set: its key and its nonce.
-#[tactic(auto, using(sets::proofs::Rows::row_sizes))]
-fn start_data(set: u64) -> Value
-    ensures { result ≡ start_data set }
-{
-    let size = 2 * (sets::key_length(set) as u16);
-    Value::Bytes(size, size, Case::Lower)
-}
-
-// What may stand on the second line, by the call: key and nonce of the set; at most 256 bytes; nothing.
-fn data_kind(call: Call) -> Value
-    ensures { result ≡ data_kind call }
-{
-    match call {
-        Call::Start1 => start_data(1),
-        Call::Start2 => start_data(2),
-        Call::Ad | Call::Text => Value::Bytes(0, 256, Case::Lower),
-        Call::Finish => Value::Bytes(0, 0, Case::Lower),
-    }
-}
-
-// The name of a line behind the first, with which it begins.
-fn name_of(line: usize) -> Name
-    ensures { result ≡ named (name line) }
-{
-    match line {
-        2 => lines::named(b"data="),
-        3 => lines::named(b"answer="),
-        4 => lines::named(b"out="),
-        _ => lines::named(b"rounds="),
-    }
-}
-
-// What may stand behind its name.
-fn value_of(call: Call, line: usize) -> Value
-    ensures { result ≡ value_kind call line }
-{
-    match line {
-        2 => data_kind(call),
-        4 => Value::Bytes(0, 256, Case::Lower),
-        _ => Value::Number(0, 9999999),
-    }
-}
-
-// The kind of a line behind the first, in an entry of this call.
-#[tactic(auto, unfolding(crate::specs::Form::kind_at))]
-pub(crate) fn kind_at(call: Call, line: usize) -> Kind
-    ensures { result ≡ kind_at call line }
-{
-    Kind {
-        name: name_of(line),
-        value: value_of(call, line),
-    }
 }
 
 // Reads a line of an entry, where the first line, if there was one, told this call.
@@ -142,6 +145,6 @@ pub(crate) fn read_line(call: Call, line: usize, text: &[u8]) -> Result<Line, St
     if line == 1 {
         read_call(text)
     } else {
-        lines::read(kind_at(call, line), text)
+        lines::read(call.kind_at(line), text)
     }
 }

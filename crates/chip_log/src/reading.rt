@@ -9,21 +9,6 @@ use digits::Case;
 use lines::{Kind, Line, Stopped};
 use record::{Field, Read, Unread};
 
-// The entry of a start with nothing in it.
-#[tactic(auto, unfolding(crate::specs::Form::blank))]
-fn no_entry() -> Entry
-    ensures { result ≡ blank }
-{
-    let none = record::read_field(Case::Lower, b"");
-    Entry {
-        call: Call::Start1,
-        input: none,
-        answer: 0,
-        out: none,
-        rounds: 0,
-    }
-}
-
 // The field of the digits between the name and the line feed of a line.
 #[tactic(auto, unfolding(crate::specs::Calls::field_in))]
 fn field_in(kind: Kind, line: &[u8]) -> Field
@@ -37,33 +22,50 @@ fn field_in(kind: Kind, line: &[u8]) -> Field
     }
 }
 
-// An entry with what a line says.
-#[tactic(auto, unfolding(crate::specs::Calls::given))]
-fn with_line(line: usize, entry: Entry, says: u64, text: &[u8]) -> Entry
-    ensures { result ≡ given line entry says text.now }
-{
-    match line {
-        1 => Entry {
-            call: Call::from(says),
-            ..entry
-        },
-        2 => Entry {
-            input: field_in(form::kind_at(entry.call, 2), text),
-            ..entry
-        },
-        3 => Entry {
-            answer: says,
-            ..entry
-        },
-        4 => Entry {
-            out: field_in(form::kind_at(entry.call, 4), text),
-            ..entry
-        },
-        5 => Entry {
-            rounds: says,
-            ..entry
-        },
-        _ => entry,
+impl Entry {
+    // The entry of a start with nothing in it.
+    #[tactic(auto, unfolding(crate::specs::Form::blank))]
+    fn blank() -> Entry
+        ensures { result ≡ blank }
+    {
+        let none = record::read_field(Case::Lower, b"");
+        Entry {
+            call: Call::Start1,
+            input: none,
+            answer: 0,
+            out: none,
+            rounds: 0,
+        }
+    }
+
+    // The entry with what a line says.
+    #[tactic(auto, unfolding(crate::specs::Calls::given))]
+    fn with_line(self, line: usize, says: u64, text: &[u8]) -> Entry
+        ensures { result ≡ given line self says text.now }
+    {
+        match line {
+            1 => Entry {
+                call: Call::from(says),
+                ..self
+            },
+            2 => Entry {
+                input: field_in(self.call.kind_at(2), text),
+                ..self
+            },
+            3 => Entry {
+                answer: says,
+                ..self
+            },
+            4 => Entry {
+                out: field_in(self.call.kind_at(4), text),
+                ..self
+            },
+            5 => Entry {
+                rounds: says,
+                ..self
+            },
+            _ => self,
+        }
     }
 }
 
@@ -71,13 +73,13 @@ fn with_line(line: usize, entry: Entry, says: u64, text: &[u8]) -> Entry
 pub fn read(text: &[u8]) -> Result<Read<Entry>, Unread>
     ensures { reading_of result ≡ read_entry text.now }
 {
-    let mut content = no_entry();
+    let mut content = Entry::blank();
     let mut taken = 0;
     for line in 1..=5 {
         let rest = &text[taken..];
         match form::read_line(content.call, line, rest) {
             Ok(Line { size, number }) => {
-                content = with_line(line, content, number, &rest[..size]);
+                content = content.with_line(line, number, &rest[..size]);
                 taken += size;
             }
             Err(Stopped { column }) => {

@@ -17,6 +17,7 @@ use Rattle.chip_log.specs.Calls.{Reading}
 use Rattle.chip_log.specs.Form.{data_kind, entry_text}
 use Rattle.chip_log.specs.Calls.{read_as, refused_at, read_entry}
 use Rattle.chip_log.specs.Laws.{InForm, BegunEntry, WrongEntry}
+use Rattle.chip_log.proofs.Table.{data_field}
 use Rattle.chip_log.proofs.Laws.{reads_log}
 use Rattle.record.specs.Form.{field_of, held, is_field, allows}
 use Rattle.record.proofs.Fields.{bytes_take, held_field, field_held}
@@ -32,7 +33,7 @@ use Rattle.replay.specs.Feeding.{Gives, fed}
 use Rattle.replay.specs.Replays.{compared, step_on, step_of, is_agreed, stopped, further, stretch_of, told, replay_of, step_by}
 use Rattle.replay.specs.Laws.{Asked, answer_to, entry_of, log_from, after, AllAllowed, Ours, Compares, IsWrong, FirstWrong, is_difference}
 use Rattle.replay.proofs.Compared.{Says, compared_says, says_compared}
-use Rattle.replay.proofs.Gives.{ended_key, data_field, entry_fits}
+use Rattle.replay.proofs.Gives.{ended_key, entry_fits}
 use Rattle.replay.proofs.Stretches.{by_reading, step_read, agreed_read, read_inside, by_entries, stretch_step, step_inside, step_same}
 
 -- ---- what a replay tells

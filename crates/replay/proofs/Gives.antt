@@ -23,9 +23,9 @@ use Rattle.chip_log.specs.declared.form.Call.TheVariants.{Start1, Start2, Ad, Te
 use Rattle.chip_log.specs.declared.form.Entry.{Entry}
 use Rattle.chip_log.specs.Form.{data_kind}
 use Rattle.chip_log.specs.Laws.{InForm}
+use Rattle.chip_log.proofs.Table.{data_field}
 use Rattle.permutation.specs.Strings.{Bytes, zeros, string_of_words}
 use Rattle.permutation.proofs.Strings.{bytes_none, bytes_cons, bytes_tail, bytes_append, bytes_take, bytes_drop, bytes_zeros, bytes_bytes}
-use Rattle.record.specs.declared.field.Field.{Field}
 use Rattle.record.specs.Form.{field_of, is_field, allows}
 use Rattle.record.proofs.Fields.{whole_field, held_field, held_most, field_most}
 use Rattle.record.proofs.Lines.{field_allowed}
@@ -201,15 +201,7 @@ fed_fit s Finish input key e short = finish_fit s key
 
 -- ---- the entry that says so
 
--- the data of a call is a field in form
-pub data_field : (call : Call) (f : Field) → allows (data_kind call) 0 f ≡ true → is_field f ≡ true
-data_field Start1 f e = (and_both (is_field f) _ e).0
-data_field Start2 f e = (and_both (is_field f) _ e).0
-data_field Ad f e = (and_both (is_field f) _ e).0
-data_field Text f e = (and_both (is_field f) _ e).0
-data_field Finish f e = (and_both (is_field f) _ e).0
-
--- so it is of at most 256 bytes
+-- what a call may be handed has at most 256 bytes
 input_short : (call : Call) (input : List ℕ) → allows (data_kind call) 0 (field_of input) ≡ true → length input ≤ 256
 input_short call input e =
     let f : is_field (field_of input) ≡ true = data_field call (field_of input) e in

@@ -17,29 +17,31 @@ pub struct Given {
     pub next: Stream,
 }
 
-// What a call gives whose output, where it is done, is the first `size` of 256 places.
-fn with_out(outcome: Outcome, bytes: [u8; 256], size: usize) -> Given
-    ensures { result ≡ record { answer = outcome.answer; out = record { bytes = bytes; size = cond (is_done outcome.answer) size 0 }; rounds = outcome.rounds; next = outcome.next } }
-{
-    let size = if answers::is_done(outcome.answer) {
-        size
-    } else {
-        0
-    };
-    Given {
-        answer: outcome.answer,
-        out: Field { bytes, size },
-        rounds: outcome.rounds,
-        next: outcome.next,
+impl Given {
+    // What a call gives whose output, where it is done, is the first `size` of 256 places.
+    fn with_out(outcome: Outcome, bytes: [u8; 256], size: usize) -> Given
+        ensures { result ≡ record { answer = outcome.answer; out = record { bytes = bytes; size = cond (is_done outcome.answer) size 0 }; rounds = outcome.rounds; next = outcome.next } }
+    {
+        let size = if answers::is_done(outcome.answer) {
+            size
+        } else {
+            0
+        };
+        Given {
+            answer: outcome.answer,
+            out: Field { bytes, size },
+            rounds: outcome.rounds,
+            next: outcome.next,
+        }
     }
-}
 
-// What a call gives that has no output.
-#[tactic(auto, unfolding(record::specs::Form::field_of))]
-fn without_out(outcome: Outcome) -> Given
-    ensures { result ≡ in_places (silent outcome) }
-{
-    with_out(outcome, [0; 256], 0)
+    // What a call gives that has no output.
+    #[tactic(auto, unfolding(record::specs::Form::field_of))]
+    fn without_out(outcome: Outcome) -> Given
+        ensures { result ≡ in_places (silent outcome) }
+    {
+        Given::with_out(outcome, [0; 256], 0)
+    }
 }
 
 // A start in a set with the largest limit: key, then nonce.
@@ -47,7 +49,7 @@ fn start(set: u64, input: &[u8]) -> Given
     ensures { result ≡ in_places (started set input.now) }
 {
     let (key, nonce) = input.split_at(sets::key_length(set).min(input.len()));
-    without_out(Stream::start(Direction::Sealing, set, sets::TEXT_LIMIT as u64, key, nonce))
+    Given::without_out(Stream::start(Direction::Sealing, set, sets::TEXT_LIMIT as u64, key, nonce))
 }
 
 // A piece of the text, with as much room as it has bytes.
@@ -58,7 +60,7 @@ fn seal(stream: Stream, input: &[u8]) -> Given
     let mut out = [0; 256];
     let size = input.len();
     let outcome = stream.seal(input, &mut out[..size]);
-    with_out(outcome, out, size)
+    Given::with_out(outcome, out, size)
 }
 
 // The finish, with room for the tag.
@@ -68,7 +70,7 @@ fn finish(stream: Stream) -> Given
     let mut tag = [0; 256];
     let size = sets::key_length(stream.set);
     let outcome = stream.finish_sealing(&mut tag[..size]);
-    with_out(outcome, tag, size)
+    Given::with_out(outcome, tag, size)
 }
 
 // Feeds a call and what it is handed to a stream.
@@ -79,7 +81,7 @@ pub(crate) fn feed(stream: Stream, call: Call, input: &[u8]) -> Given
     match call {
         Call::Start1 => start(1, input),
         Call::Start2 => start(2, input),
-        Call::Ad => without_out(stream.ad(input)),
+        Call::Ad => Given::without_out(stream.ad(input)),
         Call::Text => seal(stream, input),
         Call::Finish => finish(stream),
     }

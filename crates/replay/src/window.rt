@@ -11,7 +11,7 @@ use chip_log::Entry;
 use record::{Read, Unread};
 use stream::Stream;
 
-// What is told of an entry, or of a log.
+// What is told of an entry, or of a log. Its six cases stay one enum: `IsWrong` and `FirstWrong` (specs/Laws.antt) go by them.
 #[derive(Clone, Copy, PartialEq, Eq)]
 pub enum Verdict {
     // The chip gave what our stream gives.
@@ -26,6 +26,15 @@ pub enum Verdict {
     Unread { line: usize, column: usize },
     // Nothing is told yet: more of the log is wanted.
     Open,
+}
+
+impl Verdict {
+    // Whether it is agreement.
+    pub(crate) fn is_agreed(self) -> bool
+        ensures { result ≡ is_agreed self }
+    {
+        self == Verdict::Agrees
+    }
 }
 
 // How far a stretch of a log was replayed: how many entries agreed, how many bytes they have, the stream's state behind them, and the verdict on what follows them.
@@ -43,13 +52,6 @@ pub struct Step {
     pub verdict: Verdict,
     pub taken: usize,
     pub next: Stream,
-}
-
-// Whether a verdict is agreement.
-pub(crate) fn is_agreed(verdict: Verdict) -> bool
-    ensures { result ≡ is_agreed verdict }
-{
-    verdict == Verdict::Agrees
 }
 
 // What stands in a log from a place on; nothing, where the place lies past its end.
@@ -152,7 +154,7 @@ pub(crate) fn stretch_at(bytes: &[u8], place: usize, ended: bool, stream: Stream
     // No `for`: how far a turn goes only the entry that it reads can tell.
     while stretch.taken < log.len() {
         let step = step_at(log, stretch.taken, ended, stretch.stream);
-        if !is_agreed(step.verdict) {
+        if !step.verdict.is_agreed() {
             return Stretch {
                 verdict: step.verdict,
                 ..stretch

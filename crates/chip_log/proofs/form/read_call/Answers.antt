@@ -16,10 +16,10 @@ next_of found calls other i text h = rw (add-one, drop-cons calls i other)
 
 pub loop-call-init : goal.loop-call-init
 unfolding read_call
-loop-call-init c = rw (c.read-found.ensures, c.call_kind.ensures)
+loop-call-init c = rw (c.read-found.ensures, c.first_kind.ensures)
 
 pub loop-call-preserved : goal.loop-call-preserved
-loop-call-preserved c = rw (c.either-found.ensures, c.read.ensures, c.call_kind-in-loop-call.ensures, next_of _ _ _ _ _ c.loop-call-test.true) c.loop-call.invariant
+loop-call-preserved c = rw (c.either-found.ensures, c.read.ensures, c.first_kind-in-loop-call.ensures, next_of _ _ _ _ _ c.loop-call-test.true) c.loop-call.invariant
 
 pub returns : goal.returns
 returns c =
