@@ -6,7 +6,8 @@ use crate::cursor;
 use crate::window::Verdict;
 use stream::Stream;
 
-// What is told of a log: its verdict, and the entry that decides, counted from 1; where all agree, how many there are. Number and verdict stay side by side, as the theorems `Replays.agrees` and `.first` have them.
+// What is told of a log: its verdict, and the entry that decides, counted from 1; where all agree, how many there are.
+// Number and verdict stay side by side, as the theorems `Replays.agrees` and `.first` have them.
 #[derive(Clone, Copy)]
 pub struct Conclusion {
     pub entry: u64,
