@@ -11,7 +11,7 @@ use Rattle.answers.specs.declared.Answer.{Answer}
 use Rattle.answers.specs.declared.Answer.TheVariants.{Done}
 use Rattle.answers.specs.Numbers.{number_of, is_done}
 use Rattle.ascon.specs.Sets.{table, is_set}
-use Rattle.letter.specs.Calls.{Answered, NoSet, Refused, Through}
+use Rattle.letter.specs.Calls.{Answered, Tells, NoSet, Refused, Through}
 
 -- some lifetimes
 abbrev pub lifetimes : (n : ℕ) → Lfts n
@@ -24,6 +24,14 @@ pub answered : {L A R O : Type 0} {statement : Type 1 → Type 2} {asked : L →
     → Answered statement asked allowed seen call
 answered met unasked given =
     record { answers = met; unasked = unasked; given = given; once = λ κ κ' a r r' e e' p q. given κ a r e p ∙ sym (given κ' a r' e' q) }
+
+-- what is seen of a result is what the contract says of it
+pub seen_as : {R O C : Type 0} {view : R → O} {o : O} {c : C} (g : O → C) → ((r : R) × ((view r ≡ o) × (g (view r) ≡ c))) → g o ≡ c
+seen_as g (r, (s, p)) = ap g (sym s) ∙ p
+
+-- what can be turned back into the result tells it
+pub told : {R O : Type 0} {view : R → O} (back : O → R) → ((r : R) → back (view r) ≡ r) → Tells view
+told back undone = λ r r' e. sym (undone r) ∙ (ap back e ∙ undone r')
 
 -- an answer is listed, and a refusal with it keeps what was there
 pub record Says (answer listed : Answer) (Kept : Type 0) : Type 0 where

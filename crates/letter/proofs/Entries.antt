@@ -1,40 +1,68 @@
 -- The entries of published test files: what is said of their calls holds.
 use mathlib.Core.Path.{◌≡◌, refl, ap}
-use mathlib.Core.Bool.{Bool, true, false}
+use mathlib.Core.Bool.{Bool, true, false, cond}
 use mathlib.Core.List.{List}
 use mathlib.Core.Logic.{◌⊎◌, inl, inr, ⊎_elim}
 use Prim.Native.Nat.{ℕ, ◌≤◌}
+use Rattle.std.specs.Prelude.{Result, Ok, Err}
+use lib.Dec.{eqb}
 use Rattle.answers.specs.declared.Answer.TheVariants.{BrokenRecord}
+use Rattle.answers.specs.Numbers.{number_of, is_done}
 use Rattle.ascon.specs.Sets.{is_set}
 use Rattle.record.specs.declared.form.Form.TheVariants.{One}
 use Rattle.record.specs.declared.form.Record.{Record}
-use Rattle.record.specs.declared.reading.Reading.{Reading}
-use Rattle.record.specs.Calls.{refused_at, read_as}
+use Rattle.record.specs.declared.outcome.Read.{Read}
+use Rattle.entry.specs.declared.reading.Unread.{Unread}
+use Rattle.entry.specs.declared.reading.Unread.TheVariants as unread
+use Rattle.lines.specs.Tables.{Outcome, whole, broken_at}
+use Rattle.record.specs.Calls.{Reading, write_leaves, refused_at, read_as}
 use Rattle.entry.specs.Form.{largest_number, entry_text}
-use Rattle.entry.specs.Calls.{read_entry, write_entry}
+use Rattle.entry.specs.Calls.{rounded, lines_of, unknown, reading_of, read_entry, write_entry}
+use Rattle.entry.specs.Calls as calls
 use Rattle.entry.proofs.Laws.{entries}
 use Rattle.entry.proofs as entry-crate
 use Rattle.moving.specs.declared.route.Route.TheVariants.{Import}
 use Rattle.moving.proofs.Routes as routes
 use Rattle.letter.specs.Calls.{lent, lent_mut}
 use Rattle.letter.specs.Records.{HandsBackNothing}
-use Rattle.letter.specs.Entries.{IsRead, Model, ours, Keeps, EveryCall, Listed, Unchanged, Reported}
-use Rattle.letter.proofs.Calls.{answered, lifetimes}
-use Rattle.letter.proofs.Records.{kept, Writes, write_said}
+use Rattle.letter.specs.Entries.{IsRead, Model, ours, Keeps, EveryCall, Told, Listed, Unchanged, Reported}
+use Rattle.letter.proofs.Calls as letter
+use Rattle.letter.proofs.Calls.{answered, lifetimes, seen_as}
+use Rattle.letter.proofs.Records.{kept, write_shown, Writes, write_said}
 
 -- ---- the calls
+
+-- what a reading answers is seen of a result
+shown : (set number : ℕ) (text : List ℕ) → (r : Result (Read Record) Unread) × (reading_of r ≡ read_entry set number text)
+unfolding read_entry
+shown set number text = go (is_set set)
+  where
+    lines : (o : Outcome Record) → (r : Result (Read Record) Unread) × (reading_of r ≡ calls.answered o)
+    lines (whole taken r) = (Ok (record { content = rounded r; taken = taken }), refl)
+    lines (broken_at line column early) = (Err (unread.Broken (record { line = line; column = column; early = early })), refl)
+
+    go : (known : Bool) → (r : Result (Read Record) Unread) × (reading_of r ≡ cond known (calls.answered (lines_of set number 7 text)) unknown)
+    go true = lines (lines_of set number 7 text)
+    go false = (Err unread.UnknownSet, refl)
 
 -- calls that keep the contracts are ours
 pub is_ours : (m : Model) → Keeps m → m ≡ ours
 is_ours m k =
     λ j. record {
-      read = λ set number text. k.read set number (lent text) (lifetimes 1) j;
-      write = λ number entry out. k.write number entry (lent_mut out) (lifetimes 1) j;
+      read = λ set number text. seen_as (λ x. x) (k.read set number (lent text) (lifetimes 1)) j;
+      write = λ number entry out. seen_as (λ w. write_leaves w (m.write number entry out).out) (k.write number entry (lent_mut out) (lifetimes 1)) j;
     }
 
 -- and ours keep them
 pub keeps : Keeps ours
-keeps = record { read = λ set number text κ. refl; write = λ number entry out κ. refl }
+unfolding write_entry
+keeps =
+    record {
+      read = λ set number text κ. let s = shown set number text.now in (s.0, (s.1, s.1));
+      write = λ number entry out κ.
+          let s = write_shown One entry (entry_text number entry) out.now in
+          (s.0, (s.1, ap (λ w. write_leaves w (write_entry number entry out.now).out) s.1));
+    }
 
 -- each is answered
 pub every_call : EveryCall
@@ -43,6 +71,21 @@ every_call =
       entry_read = answered (λ M. entry-crate.read.Met.met) (λ κ a. tt) (λ κ a r e p. p);
       entry_write = answered (λ M. entry-crate.write.Met.met) (λ κ a. tt) (λ κ a r e p. p);
     }
+
+-- what is seen tells the result
+pub told : Told
+unfolding refused_at read_as
+told = record { reading = letter.told back undone }
+  where
+    back : Reading → Result (Read Record) Unread
+    back q =
+        cond (is_done q.answer) (Ok (record { content = q.content; taken = q.taken }))
+        (cond (eqb (number_of q.answer) 1) (Err unread.UnknownSet) (Err (unread.Broken (record { line = q.line; column = q.column; early = q.early }))))
+
+    undone : (r : Result (Read Record) Unread) → back (reading_of r) ≡ r
+    undone (Ok read) = refl
+    undone (Err unread.UnknownSet) = refl
+    undone (Err (unread.Broken wrong)) = refl
 
 -- ---- what they answer, and what they leave
 

@@ -16,7 +16,9 @@ use Rattle.record.specs.Form.{held}
 use Rattle.record.specs.Calls.{read_any}
 use Rattle.report.specs.declared.Verdict.{Verdict}
 use Rattle.report.specs.declared.Verdict.TheVariants.{Equal}
-use Rattle.report.specs.Reports.{report_text, ReportLeaves, report_leaves, report_faults, report_call}
+use Rattle.std.specs.Prelude.{Result, Ok, Err}
+use Rattle.report.specs.declared.NoRoom.{NoRoom as Refusal}
+use Rattle.report.specs.Reports.{Reported as Reporting, reported_of, report_text, ReportLeaves, report_leaves, report_faults, report_call}
 use Rattle.judge.specs.declared.stepping.Step.{Step}
 use Rattle.judge.specs.declared.stepping.Step.TheVariants.{Judged, Stopped, Wait, End, Short}
 use Rattle.judge.specs.Verdicts.{differences, verdict_on}
@@ -26,10 +28,24 @@ use Rattle.judge.proofs.Laws.{judges}
 use Rattle.report.proofs as report
 use Rattle.judge.proofs as judge
 use Rattle.letter.specs.Calls.{lent, lent_mut}
-use Rattle.letter.specs.Judging.{Model, ours, Keeps, EveryCall, Listed, Unchanged, Reported}
-use Rattle.letter.proofs.Calls.{answered, lifetimes, Says, done_says, says}
+use Rattle.letter.specs.Judging.{Model, ours, Keeps, EveryCall, Told, Listed, Unchanged, Reported}
+use Rattle.letter.proofs.Calls as calls
+use Rattle.letter.proofs.Calls.{answered, lifetimes, seen_as, Says, done_says, says}
 
 -- ---- the calls
+
+-- what reporting answers is seen of a result
+report_shown : (number : ℕ) (verdict : Verdict) (out : List ℕ) → (r : Result ℕ Refusal) × (reported_of r ≡ (report_call number verdict out).outcome)
+unfolding report_call
+report_shown number verdict out = go (leb (length (report_text number verdict)) (length out))
+  where
+    go : (room : Bool) → let answer = first Done (NoRoom when not room ∷ []) in
+        (r : Result ℕ Refusal)
+        × (reported_of r
+        ≡ (cond (is_done answer) (report_leaves (record { answer = Done; written = length (report_text number verdict) }) (report_text number verdict ++ drop (length (report_text number verdict)) out))
+        (report_leaves (record { answer = answer; written = 0 }) out)).outcome)
+    go true = (Ok (length (report_text number verdict)), refl)
+    go false = (Err (record {}), refl)
 
 -- calls that keep the contracts are ours
 pub is_ours : (m : Model) → Keeps m → m ≡ ours
@@ -38,7 +54,7 @@ is_ours m k =
       difference = λ wanted found. k.difference (lent wanted) (lent found) (lifetimes 2) j;
       differ = λ wanted found. k.differ wanted found tt j;
       judge = λ entry. k.judge entry tt j;
-      report = λ number verdict out. k.report number verdict (lent_mut out) (lifetimes 1) j;
+      report = λ number verdict out. seen_as (λ w. report_leaves w (m.report number verdict out).out) (k.report number verdict (lent_mut out) (lifetimes 1)) j;
       step = λ window over number out. k.step (lent window) over number (lent_mut out) (lifetimes 2) j;
     }
 
@@ -49,7 +65,7 @@ keeps =
       difference = λ wanted found κ. refl;
       differ = λ wanted found κ. refl;
       judge = λ entry κ. refl;
-      report = λ number verdict out κ. refl;
+      report = λ number verdict out κ. let s = report_shown number verdict out.now in (s.0, (s.1, ap (λ w. report_leaves w (report_call number verdict out.now).out) s.1));
       step = λ window over number out κ. refl;
     }
 
@@ -66,6 +82,10 @@ every_call =
       judge_judge = answered (λ M. judge.judge.Met.met) (λ κ a. tt) (λ κ a r e p. p);
       judge_judge_window = answered (λ M. judge.judge_window.Met.met) (λ κ a. tt) (λ κ a r e p. p);
     }
+
+-- what is seen tells the result
+pub told : Told
+told = record { report = calls.told (λ (q : Reporting). cond (is_done q.answer) (Ok q.written) (Err (record {}))) (elim [ Ok size ↦ refl | Err refusal ↦ refl ]) }
 
 -- ---- what they answer, and what is left without a report
 

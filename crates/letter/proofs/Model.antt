@@ -1,6 +1,6 @@
 -- A model that keeps the contracts is ours, and what is said of each family holds of it.
 use mathlib.Core.Path.{◌≡◌, sym, subst}
-use Rattle.letter.specs.Model.{Model, ours, Keeps, EveryCall, Listed, Unchanged, Mismatch, Reported}
+use Rattle.letter.specs.Model.{Model, ours, Keeps, EveryCall, Told, Listed, Unchanged, Mismatch, Reported}
 use Rattle.letter.proofs.Engine as engine
 use Rattle.letter.proofs.Messages as messages
 use Rattle.letter.proofs.Streams as streams
@@ -40,6 +40,10 @@ keeps = record { messages = messages.keeps; streams = streams.keeps; areas = are
 -- every public call is answered
 pub every_call : EveryCall
 every_call = record { engine = engine.every_call; messages = messages.every_call; streams = streams.every_call; areas = areas.every_call; records = records.every_call; entries = entries.every_call; moving = moving.every_call; judging = judging.every_call; replays = replays.every_call }
+
+-- what is seen of a result tells it
+pub told : Told
+told = record { records = records.told; entries = entries.told; moving = moving.told; judging = judging.told; replays = replays.told }
 
 -- each answer is listed
 pub listed : Listed ours

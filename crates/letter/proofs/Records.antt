@@ -8,43 +8,45 @@ use native.Mathlib.Omega.{arith}
 use lib.ListN.{length, drop}
 use lib.Dec.{eqb, leb}
 use borrow.Author.Tests.{eqb-true}
+use Rattle.std.specs.Prelude.{Result, Ok, Err}
 use Rattle.answers.specs.declared.Answer.{Answer}
 use Rattle.answers.specs.declared.Answer.TheVariants.{Done, NoRoom, BrokenRecord, ChipLost}
 use Rattle.answers.specs.Numbers.{number_of, is_done}
 use Rattle.answers.specs.Order.{first, ◌when◌}
 use Rattle.record.specs.declared.form.Form.{Form}
 use Rattle.record.specs.declared.form.Record.{Record}
-use Rattle.record.specs.declared.reading.Reading.{Reading}
+use Rattle.record.specs.declared.outcome.Read.{Read}
+use Rattle.record.specs.declared.outcome.Unread.{Unread}
+use Rattle.record.specs.declared.writing.Unwritten.{Unwritten}
+use Rattle.record.specs.declared.writing.Unwritten.TheVariants as unwritten
 use Rattle.record.specs.Form.{broken, loses_chip}
 use Rattle.record.specs.Text.{text_of}
-use Rattle.record.specs.Calls.{refused_at, read_as, read_call, form_of, inside_mark, read_any, WriteLeaves, write_leaves, refused_with, write_faults, write_as, write_call}
+use Rattle.record.specs.Calls.{Reading, Writing, reading_of, writing_of, refused_at, read_as, read_call, form_of, inside_mark, read_any, WriteLeaves, write_leaves, refused_with, write_faults, write_as, write_call}
 use Rattle.record.proofs.Laws.{reads_and_writes, taken_inside}
 use Rattle.record.proofs.Any.{reads_any}
 use Rattle.digits.proofs as digits
 use Rattle.lines.proofs as lines
 use Rattle.record.proofs as record-crate
 use Rattle.letter.specs.Calls.{lent, lent_mut}
-use Rattle.letter.specs.Records.{IsRead, HandsBackNothing, Model, ours, Keeps, EveryCall, Listed, Unchanged, Reported}
-use Rattle.letter.proofs.Calls.{answered, lifetimes, Says, done_says, says}
+use Rattle.letter.specs.Records.{IsRead, HandsBackNothing, Model, ours, Keeps, EveryCall, Told, Listed, Unchanged, Reported}
+use Rattle.letter.proofs.Calls as calls
+use Rattle.letter.proofs.Calls.{answered, lifetimes, seen_as, Says, done_says, says}
 
 -- ---- the calls
+
+-- a reading that is read, or refused, is seen of a result
+pub read_shown : (reading : Reading) → (reading ≡ read_as reading.taken reading.content) ⊎ (reading ≡ refused_at reading.line reading.column reading.early)
+    → (r : Result (Read Record) Unread) × (reading_of r ≡ reading)
+read_shown reading (inl e) = (Ok (record { content = reading.content; taken = reading.taken }), sym e)
+read_shown reading (inr e) = (Err (record { line = reading.line; column = reading.column; early = reading.early }), sym e)
 
 -- calls that keep the contracts are ours
 pub is_ours : (m : Model) → Keeps m → m ≡ ours
 is_ours m k =
     λ j. record {
-      read = λ form text. k.read form (lent text) (lifetimes 1) j;
-      read_any = λ text. k.read_any (lent text) (lifetimes 1) j;
-      write = λ form entry out. k.write form entry (lent_mut out) (lifetimes 1) j;
-    }
-
--- and ours keep them
-pub keeps : Keeps ours
-keeps =
-    record {
-      read = λ form text κ. refl;
-      read_any = λ text κ. refl;
-      write = λ form entry out κ. refl;
+      read = λ form text. seen_as (λ x. x) (k.read form (lent text) (lifetimes 1)) j;
+      read_any = λ text. seen_as (λ x. x) (k.read_any (lent text) (lifetimes 1)) j;
+      write = λ form entry out. seen_as (λ w. write_leaves w (m.write form entry out).out) (k.write form entry (lent_mut out) (lifetimes 1)) j;
     }
 
 -- each is answered
@@ -70,6 +72,28 @@ every_call =
       record_read_any = answered (λ M. record-crate.read_any.Met.met) (λ κ a. tt) (λ κ a r e p. p);
       record_write = answered (λ M. record-crate.write.Met.met) (λ κ a. tt) (λ κ a r e p. p);
     }
+
+-- what is seen tells the result
+pub told : Told
+unfolding read_as refused_at refused_with
+told =
+    record {
+      reading = calls.told
+          (λ (q : Reading). cond (is_done q.answer) (Ok (record { content = q.content; taken = q.taken })) (Err (record { line = q.line; column = q.column; early = q.early })))
+          (elim [ Ok read ↦ refl | Err wrong ↦ refl ]);
+      writing = calls.told
+          (λ (w : Writing). cond (is_done w.answer) (Ok w.written)
+          (cond (eqb (number_of w.answer) 10) (Err (unwritten.Broken w.line)) (cond (eqb (number_of w.answer) 11) (Err unwritten.ChipLost) (Err unwritten.NoRoom))))
+          undone;
+    }
+  where
+    undone : (r : Result ℕ Unwritten) → cond (is_done (writing_of r).answer) (Ok (writing_of r).written)
+        (cond (eqb (number_of (writing_of r).answer) 10) (Err (unwritten.Broken (writing_of r).line))
+        (cond (eqb (number_of (writing_of r).answer) 11) (Err unwritten.ChipLost) (Err unwritten.NoRoom))) ≡ r
+    undone (Ok size) = refl
+    undone (Err (unwritten.Broken line)) = refl
+    undone (Err unwritten.ChipLost) = refl
+    undone (Err unwritten.NoRoom) = refl
 
 -- ---- what they answer, and what a refusal leaves
 
@@ -132,6 +156,14 @@ module _ (form : Form) (r : Record) (text out : List ℕ) where
   said true true room = says _ _ (refl, refl)
   said false lost room = says _ _ (refl, refl)
 
+  -- it is seen of a result
+  shown : (t lost room : Bool) → eqb (broken form r) 0 ≡ t → (w : Result ℕ Unwritten) × (writing_of w ≡ (leaves t lost room).outcome)
+  unfolding done answer leaves refused_with
+  shown true false true e = (Ok (length text), refl)
+  shown true false false e = (Err unwritten.NoRoom, ap (refused_with NoRoom) (sym (eqb-true (broken form r) 0 e)))
+  shown true true room e = (Err unwritten.ChipLost, ap (refused_with ChipLost) (sym (eqb-true (broken form r) 0 e)))
+  shown false lost room e = (Err (unwritten.Broken (broken form r)), refl)
+
   -- its line and column
   at_line : (t lost room : Bool) → eqb (broken form r) 0 ≡ t → (leaves t lost room).outcome.line ≡ broken form r
   unfolding done answer leaves refused_with
@@ -176,6 +208,21 @@ write_said form r text out =
       line = at_line form r text out t lost room refl;
       column = at_column form r text out t lost room;
       stands = stands form r text out t lost room;
+    }
+
+-- what writing a record as a text answers is seen of a result
+pub write_shown : (form : Form) (r : Record) (text out : List ℕ) → (w : Result ℕ Unwritten) × (writing_of w ≡ (write_as form r text out).outcome)
+unfolding done answer leaves
+write_shown form r text out = shown form r text out (eqb (broken form r) 0) (loses_chip form r) (leb (length text) (length out)) refl
+
+-- our own calls keep the contracts
+pub keeps : Keeps ours
+unfolding write_call
+keeps =
+    record {
+      read = λ form text κ. let s = read_shown _ ((reads_and_writes form).answered text.now) in (s.0, (s.1, s.1));
+      read_any = λ text κ. let s = read_shown _ (reads_any.answered text.now) in (s.0, (s.1, s.1));
+      write = λ form entry out κ. let s = write_shown form entry (text_of form entry) out.now in (s.0, (s.1, ap (λ w. write_leaves w (write_call form entry out.now).out) s.1));
     }
 
 -- as its own text

@@ -1,14 +1,18 @@
 -- A chip's log, read and replayed: what is said of its calls holds.
-use mathlib.Core.Path.{◌≡◌, refl, ap, ◌∙◌}
-use mathlib.Core.Bool.{Bool}
+use mathlib.Core.Path.{◌≡◌, refl, sym, ap, ◌∙◌}
+use mathlib.Core.Bool.{Bool, cond}
 use mathlib.Core.List.{List, []}
 use mathlib.Core.Logic.{◌↔◌, ◌⊎◌, inl, inr, ⊎_elim}
 use Prim.Native.Nat.{ℕ}
 use native.Mathlib.Omega.{arith}
+use lib.ListN.{drop}
 use Rattle.answers.specs.declared.Answer.TheVariants.{BrokenRecord}
-use Rattle.answers.specs.Numbers.{number_of}
-use Rattle.chip_log.specs.declared.reading.Reading.{Reading}
-use Rattle.chip_log.specs.Calls.{read_as, refused_at, read_entry}
+use Rattle.answers.specs.Numbers.{number_of, is_done}
+use Rattle.std.specs.Prelude.{Result, Ok, Err}
+use Rattle.record.specs.declared.outcome.Read.{Read}
+use Rattle.record.specs.declared.outcome.Unread as broken
+use Rattle.chip_log.specs.declared.form.Entry.{Entry}
+use Rattle.chip_log.specs.Calls.{Reading, reading_of, read_as, refused_at, read_entry}
 use Rattle.chip_log.proofs.Laws.{reads_log}
 use Rattle.chip_log.proofs as chip_log
 use Rattle.stream.specs.declared.Stream.{Stream}
@@ -21,19 +25,27 @@ use Rattle.replay.proofs.Stretches.{read_inside, stretch_step}
 use Rattle.replay.proofs.Laws.{replays}
 use Rattle.replay.proofs as replay-crate
 use Rattle.letter.specs.Calls.{lent}
-use Rattle.letter.specs.Replays.{Model, ours, Keeps, EveryCall, IsRead, answer_of, line_of, column_of, Listed, HandsBackNothing, Unchanged}
-use Rattle.letter.proofs.Calls.{answered, lifetimes}
+use Rattle.letter.specs.Replays.{Model, ours, Keeps, EveryCall, Told, IsRead, answer_of, line_of, column_of, Listed, HandsBackNothing, Unchanged}
+use Rattle.letter.proofs.Calls as calls
+use Rattle.letter.proofs.Calls.{answered, lifetimes, seen_as}
 
 -- ---- the calls
+
+-- what a reading answers is seen of a result
+shown : (text : List ℕ) → (r : Result (Read Entry) broken.Unread) × (reading_of r ≡ read_entry text)
+shown text =
+    let reading = read_entry text in
+    ⊎_elim (λ e. (Ok (record { content = reading.content; taken = reading.taken }), sym e))
+    (λ e. (Err (record { line = reading.line; column = reading.column; early = reading.early }), sym e)) (reads_log.answered text)
 
 -- calls that keep the contracts are ours
 pub is_ours : (m : Model) → Keeps m → m ≡ ours
 is_ours m k =
     λ j. record {
-      read = λ text. k.read (lent text) (lifetimes 1) j;
+      read = λ text. seen_as (λ x. x) (k.read (lent text) (lifetimes 1)) j;
       opened = λ bytes. k.opened bytes (lifetimes 1) j;
       moved = λ log place. k.moved log place (lifetimes 1) j;
-      entry = λ log. k.entry log (lifetimes 1) j;
+      entry = λ log. seen_as (λ x. x) (k.entry log (lifetimes 1)) j;
       window = λ window over s. k.window (lent window) over s (lifetimes 1) j;
       replay = λ log. k.replay (lent log) (lifetimes 1) j;
     }
@@ -42,10 +54,10 @@ is_ours m k =
 pub keeps : Keeps ours
 keeps =
     record {
-      read = λ text κ. refl;
+      read = λ text κ. let s = shown text.now in (s.0, (s.1, s.1));
       opened = λ bytes κ. refl;
       moved = λ log place κ. refl;
-      entry = λ log κ. refl;
+      entry = λ log κ. let s = shown (drop log.place log.bytes.now) in (s.0, (s.1, s.1));
       window = λ window over s κ. refl;
       replay = λ log κ. refl;
     }
@@ -63,6 +75,16 @@ every_call =
       replay_entry_read = λ κs log r e. refl;
       replay_replay_window = answered (λ M. replay-crate.replay_window.Met.met) (λ κ a. tt) (λ κ a r e p. p);
       replay_replay = answered (λ M. replay-crate.replay.Met.met) (λ κ a. tt) (λ κ a r e p. p);
+    }
+
+-- what is seen tells the result
+pub told : Told
+unfolding read_as refused_at
+told =
+    record {
+      reading = calls.told
+          (λ (q : Reading). cond (is_done q.answer) (Ok (record { content = q.content; taken = q.taken })) (Err (record { line = q.line; column = q.column; early = q.early })))
+          (elim [ Ok read ↦ refl | Err wrong ↦ refl ]);
     }
 
 -- ---- what they answer, and what they leave

@@ -47,6 +47,14 @@ Leaves {L} allowed before r after = (κ : L) → allowed κ before r after
 abbrev pub Gives : {L A R : Type 0} → (L → A → R → A → Type 0) → A → R → Type 0
 Gives allowed a r = Leaves allowed a r a
 
+-- what a contract allows of results, of what they are seen as
+abbrev pub Seen : {L A R O : Type 0} → (R → O) → (L → A → R → A → Type 0) → L → A → O → A → Type 0
+Seen {R = R} view allowed κ before o after = (r : R) × ((view r ≡ o) × allowed κ before r after)
+
+-- what is seen of a result tells it: results that are seen alike are one
+abbrev pub Tells : {R O : Type 0} → (R → O) → Type 0
+Tells {R = R} view = (r r' : R) → view r ≡ view r' → r ≡ r'
+
 -- a contract does not allow a result, whatever comes back in the lent places
 abbrev pub Never : {L A R : Type 0} → (L → A → R → A → Type 0) → A → R → Type 0
 Never {L} {A} allowed before r = (κ : L) (after : A) → allowed κ before r after → ⊥

@@ -1,19 +1,19 @@
 -- The entries of published test files: all that is said of their calls.
+use contract.Lifetimes.{Lfts}
 use Rattle.std.specs.Prelude.{◌≡◌, true, false, List, ◌++◌, ◌↔◌, ◌⊎◌, ℕ, ◌≤◌, length, take, drop}
 use Rattle.answers.specs.declared.Answer.TheVariants.{Done, UnknownSet, BrokenRecord}
 use Rattle.answers.specs.Order.{first}
 use Rattle.ascon.specs.Sets.{is_set}
 use Rattle.record.specs.declared.form.Form.TheVariants.{One}
 use Rattle.record.specs.declared.form.Record.{Record}
-use Rattle.record.specs.declared.reading.Reading.{Reading}
 use Rattle.record.specs.Form.{broken}
-use Rattle.record.specs.Calls.{WriteLeaves, write_leaves, write_faults}
+use Rattle.record.specs.Calls.{Reading, Writing, writing_of, WriteLeaves, write_leaves, write_faults}
 use Rattle.entry.specs.Form.{largest_number, entry_text}
-use Rattle.entry.specs.Calls.{read_entry, write_entry}
+use Rattle.entry.specs.Calls.{reading_of, read_entry, write_entry}
 use Rattle.entry.specs.Laws as entry-laws
 use Rattle.entry.specs.Laws.{Begun, WrongAt}
 use Rattle.entry.proofs as entry-crate
-use Rattle.letter.specs.Calls.{Answered, Lent, LentMut, holding, Leaves, Gives, Refused}
+use Rattle.letter.specs.Calls.{Answered, Lent, LentMut, holding, Leaves, Gives, Seen, Tells, Refused}
 use Rattle.letter.specs.Records.{HandsBackNothing}
 
 -- ---- the calls
@@ -27,18 +27,29 @@ pub record Model : Type 0 where
 abbrev pub ours : Model
 ours = record { read = read_entry; write = write_entry }
 
+-- what a caller learns from the contracts of the code, of what a reading or a writing is seen as
+abbrev pub read_learnt : Lfts 1 → ℕ × (ℕ × (Lent × Unit {0})) → Reading → ℕ × (ℕ × (Lent × Unit {0})) → Type 0
+read_learnt = Seen reading_of entry-crate.read.Reads.Learnt
+
+abbrev pub write_learnt : Lfts 1 → ℕ × (Record × (LentMut × Unit {0})) → Writing → ℕ × (Record × (LentMut × Unit {0})) → Type 0
+write_learnt = Seen writing_of entry-crate.write.Reads.Learnt
+
 -- each gives what the contract of the code allows
 pub record Keeps (m : Model) : Type 0 where
-  pub read : (set number : ℕ) (text : Lent) → Gives entry-crate.read.Reads.Learnt (set, (number, (text, tt))) (m.read set number text.now)
+  pub read : (set number : ℕ) (text : Lent) → Gives read_learnt (set, (number, (text, tt))) (m.read set number text.now)
   pub write : (number : ℕ) (entry : Record) (out : LentMut) → let leaves = m.write number entry out.now in
-      Leaves entry-crate.write.Reads.Learnt (number, (entry, (out, tt))) leaves.outcome (number, (entry, (holding out leaves.out, tt)))
+      Leaves write_learnt (number, (entry, (out, tt))) leaves.outcome (number, (entry, (holding out leaves.out, tt)))
 
 -- each public call, and its one outcome
 pub record EveryCall : Type 2 where
   pub entry_read : Answered entry-crate.read.Statement.statement entry-crate.read.Reads.Asked entry-crate.read.Reads.Learnt
-      (λ r e. r) (λ (set, (number, (text, _))). read_entry set number text.now)
+      (λ r e. reading_of r) (λ (set, (number, (text, _))). read_entry set number text.now)
   pub entry_write : Answered entry-crate.write.Statement.statement entry-crate.write.Reads.Asked entry-crate.write.Reads.Learnt
-      (λ r (number, (entry, (out, _))). write_leaves r out.now) (λ (number, (entry, (out, _))). write_entry number entry out.now)
+      (λ r (number, (entry, (out, _))). write_leaves (writing_of r) out.now) (λ (number, (entry, (out, _))). write_entry number entry out.now)
+
+-- what is seen of a reading tells its result, as that of a writing does
+pub record Told : Type 0 where
+  pub reading : Tells reading_of
 
 -- ---- what they answer
 

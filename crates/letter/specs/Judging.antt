@@ -1,32 +1,30 @@
 -- The first difference of two texts, the verdict on a record, its report and the step of the bench: all that is said of their calls.
-use Rattle.std.specs.Prelude.{◌≡◌, Bool, false, List, ◌++◌, ◌↔◌, ◌⊎◌, ℕ, length, drop}
+use Rattle.std.specs.Prelude.{◌≡◌, Bool, false, List, ◌++◌, ◌↔◌, ◌⊎◌, ℕ, length, drop, Option, Some, None}
 use contract.Lifetimes.{Lfts}
 use Rattle.answers.specs.declared.Answer.TheVariants.{Done}
 use Rattle.answers.specs.Order.{first}
 use Rattle.record.specs.declared.field.Field.{Field}
 use Rattle.record.specs.declared.form.Record.{Record}
-use Rattle.record.specs.declared.reading.Reading.{Reading}
+use Rattle.record.specs.Calls.{Reading}
 use Rattle.record.specs.Form.{held}
 use Rattle.report.specs.declared.Verdict.{Verdict}
 use Rattle.report.specs.declared.Verdict.TheVariants.{Equal}
-use Rattle.report.specs.Reports.{report_text, ReportLeaves, report_leaves, report_faults, report_call}
+use Rattle.report.specs.Reports.{Reported as Reporting, reported_of, report_text, ReportLeaves, report_leaves, report_faults, report_call}
 use Rattle.judge.specs.declared.stepping.Step.TheVariants.{Judged, Wait, End, Short}
 use Rattle.judge.specs.declared.difference.Comparison.{Comparison}
-use Rattle.judge.specs.declared.difference.Difference.{Difference}
-use Rattle.judge.specs.declared.difference.Difference.TheVariants.{Same, At}
 use Rattle.judge.specs.Difference.{differ, difference_of, part_of, difference_part, comparison_of, comparison}
 use Rattle.judge.specs.Laws.{Agrees, DiffersFirstAt}
 use Rattle.judge.specs.Verdicts.{verdict_on, differences}
 use Rattle.judge.specs.Steps.{verdict_read, StepLeaves, step_leaves, step_choices, step_call}
 use Rattle.report.proofs as report-crate
 use Rattle.judge.proofs as judge-crate
-use Rattle.letter.specs.Calls.{Answered, Lent, LentMut, holding, Leaves, Gives, Refused}
+use Rattle.letter.specs.Calls.{Answered, Lent, LentMut, holding, Leaves, Gives, Seen, Tells, Refused}
 
 -- ---- the calls
 
 -- what each answers, and what it leaves in a lent place, on any input
 pub record Model : Type 0 where
-  pub difference : List ℕ → List ℕ → Difference
+  pub difference : List ℕ → List ℕ → Option ℕ
   pub differ : Field → Field → Bool
   pub judge : Record → Verdict
   pub report : ℕ → Verdict → List ℕ → ReportLeaves
@@ -36,13 +34,17 @@ pub record Model : Type 0 where
 abbrev pub ours : Model
 ours = record { difference = difference_of; differ = λ wanted found. differ (held wanted) (held found); judge = verdict_on; report = report_call; step = step_call }
 
+-- what a caller learns from the contract of `report`, of what a reporting is seen as
+abbrev pub report_learnt : Lfts 1 → ℕ × (Verdict × (LentMut × Unit {0})) → Reporting → ℕ × (Verdict × (LentMut × Unit {0})) → Type 0
+report_learnt = Seen reported_of report-crate.report.Reads.Learnt
+
 -- each gives what the contract of the code allows
 pub record Keeps (m : Model) : Type 0 where
   pub difference : (wanted found : Lent) → Gives judge-crate.first_difference.Reads.Learnt (wanted, (found, tt)) (m.difference wanted.now found.now)
   pub differ : (wanted found : Field) → Gives judge-crate.fields_differ.Reads.Learnt (wanted, (found, tt)) (m.differ wanted found)
   pub judge : (entry : Record) → Gives judge-crate.judge.Reads.Learnt (entry, tt) (m.judge entry)
   pub report : (number : ℕ) (verdict : Verdict) (out : LentMut) → let leaves = m.report number verdict out.now in
-      Leaves report-crate.report.Reads.Learnt (number, (verdict, (out, tt))) leaves.outcome (number, (verdict, (holding out leaves.out, tt)))
+      Leaves report_learnt (number, (verdict, (out, tt))) leaves.outcome (number, (verdict, (holding out leaves.out, tt)))
   pub step : (window : Lent) (over : Bool) (number : ℕ) (out : LentMut) → let leaves = m.step window.now over number out.now in
       Leaves judge-crate.judge_window.Reads.Learnt (window, (over, (number, (out, tt)))) leaves.step (window, (over, (number, (holding out leaves.out, tt))))
 
@@ -56,7 +58,7 @@ compare_learnt = judge-crate.compare.Reads.Learnt
 -- each public call, and its one outcome
 pub record EveryCall : Type 2 where
   pub report_report : Answered report-crate.report.Statement.statement report-crate.report.Reads.Asked report-crate.report.Reads.Learnt
-      (λ r (number, (verdict, (out, _))). report_leaves r out.now) (λ (number, (verdict, (out, _))). report_call number verdict out.now)
+      (λ r (number, (verdict, (out, _))). report_leaves (reported_of r) out.now) (λ (number, (verdict, (out, _))). report_call number verdict out.now)
   pub judge_first_difference : Answered judge-crate.first_difference.Statement.statement judge-crate.first_difference.Reads.Asked
       judge-crate.first_difference.Reads.Learnt (λ r e. r) (λ (wanted, (found, _)). difference_of wanted.now found.now)
   pub judge_difference_tail : Answered judge-crate.difference_tail.Statement.statement judge-crate.difference_tail.Reads.Asked judge-crate.difference_tail.Reads.Learnt
@@ -72,6 +74,10 @@ pub record EveryCall : Type 2 where
   pub judge_judge_window : Answered judge-crate.judge_window.Statement.statement judge-crate.judge_window.Reads.Asked judge-crate.judge_window.Reads.Learnt
       (λ r (window, (over, (number, (out, _)))). step_leaves r out.now) (λ (window, (over, (number, (out, _)))). step_call window.now over number out.now)
 
+-- what is seen of a reporting tells its result
+pub record Told : Type 0 where
+  pub report : Tells reported_of
+
 -- ---- what they answer
 
 -- each answer is the first whose condition holds, by what is read; `equal`, `same` and `at` are said without a list
@@ -79,9 +85,9 @@ pub record Listed (read : List ℕ → Reading) (m : Model) : Type 0 where
   pub judge : (r : Record) → m.judge r ≡ first Equal (differences r)
   -- equal exactly where the record is in form and rounds, cipher and tag are those of our own sealing
   pub equal : (r : Record) → (m.judge r ≡ Equal) ↔ Agrees r
-  -- two texts are the same exactly where they are one list, and it is `At` a place exactly where they differ first there
-  pub same : (wanted found : List ℕ) → (m.difference wanted found ≡ Same) ↔ (wanted ≡ found)
-  pub at : (wanted found : List ℕ) (place : ℕ) → (m.difference wanted found ≡ At place) ↔ DiffersFirstAt wanted found place
+  -- two texts have no first difference exactly where they are one list, and it is at a place exactly where they differ first there
+  pub same : (wanted found : List ℕ) → (m.difference wanted found ≡ None) ↔ (wanted ≡ found)
+  pub at : (wanted found : List ℕ) (place : ℕ) → (m.difference wanted found ≡ Some place) ↔ DiffersFirstAt wanted found place
   -- two fields do not differ exactly where they hold the same bytes, as many and each the same
   pub alike : (wanted found : Field) → (m.differ wanted found ≡ false) ↔ (held wanted ≡ held found)
   pub report : (number : ℕ) (verdict : Verdict) (out : List ℕ)

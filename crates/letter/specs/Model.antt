@@ -54,6 +54,14 @@ pub record EveryCall : Type 2 where
   pub judging : judging.EveryCall
   pub replays : replays.EveryCall
 
+-- where a call's outcome is a view of what the code gives, the view tells it
+pub record Told : Type 0 where
+  pub records : records.Told
+  pub entries : entries.Told
+  pub moving : moving.Told
+  pub judging : judging.Told
+  pub replays : replays.Told
+
 -- each answer is the listed one
 pub record Listed (m : Model) : Type 0 where
   pub messages : messages.Listed m.messages

@@ -1,13 +1,14 @@
 -- Moving records from one kind of text to another: all that is said of its calls.
+use contract.Lifetimes.{Lfts}
 use Rattle.std.specs.Prelude.{◌≡◌, List, ◌++◌, ℕ, length, drop}
 use Rattle.answers.specs.declared.Answer.TheVariants.{Done}
 use Rattle.answers.specs.Order.{first}
-use Rattle.record.specs.declared.reading.Reading.{Reading}
+use Rattle.record.specs.Calls.{Reading}
 use Rattle.moving.specs.declared.route.Route.{Route}
-use Rattle.moving.specs.Moves.{text_by, MoveLeaves, move_leaves, move_faults, move_call, moved_with, text_in, outcome_in, AllLeaves, all_leaves, move_all_call}
+use Rattle.moving.specs.Moves.{Moving, MovingAll, moving_of, moving_all_of, text_by, MoveLeaves, move_leaves, move_faults, move_call, moved_with, text_in, outcome_in, AllLeaves, all_leaves, move_all_call}
 use Rattle.moving.specs.Laws.{Counts}
 use Rattle.moving.proofs as moving-crate
-use Rattle.letter.specs.Calls.{Answered, Lent, LentMut, holding, Leaves, Refused}
+use Rattle.letter.specs.Calls.{Answered, Lent, LentMut, holding, Leaves, Seen, Tells, Refused}
 
 -- ---- the calls
 
@@ -20,19 +21,31 @@ pub record Model : Type 0 where
 abbrev pub ours : Model
 ours = record { one = move_call; all = move_all_call }
 
+-- what a caller learns from the contracts of the code, of what a moving is seen as
+abbrev pub one_learnt : Lfts 2 → Route × (ℕ × (Lent × (LentMut × Unit {0}))) → Moving → Route × (ℕ × (Lent × (LentMut × Unit {0}))) → Type 0
+one_learnt = Seen moving_of moving-crate.move_record.Reads.Learnt
+
+abbrev pub all_learnt : Lfts 2 → Route × (Lent × (LentMut × Unit {0})) → MovingAll → Route × (Lent × (LentMut × Unit {0})) → Type 0
+all_learnt = Seen moving_all_of moving-crate.move_all.Reads.Learnt
+
 -- each gives what the contract of the code allows
 pub record Keeps (m : Model) : Type 0 where
   pub one : (route : Route) (number : ℕ) (text : Lent) (out : LentMut) → let leaves = m.one route number text.now out.now in
-      Leaves moving-crate.move_record.Reads.Learnt (route, (number, (text, (out, tt)))) leaves.outcome (route, (number, (text, (holding out leaves.out, tt))))
+      Leaves one_learnt (route, (number, (text, (out, tt)))) leaves.outcome (route, (number, (text, (holding out leaves.out, tt))))
   pub all : (route : Route) (text : Lent) (out : LentMut) → let leaves = m.all route text.now out.now in
-      Leaves moving-crate.move_all.Reads.Learnt (route, (text, (out, tt))) leaves.outcome (route, (text, (holding out leaves.out, tt)))
+      Leaves all_learnt (route, (text, (out, tt))) leaves.outcome (route, (text, (holding out leaves.out, tt)))
 
 -- each public call, and its one outcome
 pub record EveryCall : Type 2 where
   pub moving_move_record : Answered moving-crate.move_record.Statement.statement moving-crate.move_record.Reads.Asked moving-crate.move_record.Reads.Learnt
-      (λ r (route, (number, (text, (out, _)))). move_leaves r out.now) (λ (route, (number, (text, (out, _)))). move_call route number text.now out.now)
+      (λ r (route, (number, (text, (out, _)))). move_leaves (moving_of r) out.now) (λ (route, (number, (text, (out, _)))). move_call route number text.now out.now)
   pub moving_move_all : Answered moving-crate.move_all.Statement.statement moving-crate.move_all.Reads.Asked moving-crate.move_all.Reads.Learnt
-      (λ r (route, (text, (out, _))). all_leaves r out.now) (λ (route, (text, (out, _))). move_all_call route text.now out.now)
+      (λ r (route, (text, (out, _))). all_leaves (moving_all_of r) out.now) (λ (route, (text, (out, _))). move_all_call route text.now out.now)
+
+-- what is seen of a moving tells its result
+pub record Told : Type 0 where
+  pub one : Tells moving_of
+  pub all : Tells moving_all_of
 
 -- ---- what they answer
 

@@ -1,4 +1,5 @@
 -- Records, their lines and digits: all that is said of their calls.
+use contract.Lifetimes.{Lfts}
 use Rattle.std.specs.Prelude.{◌≡◌, true, false, List, ◌++◌, ◌↔◌, ◌⊎◌, ℕ, ◌≤◌, length, drop, take}
 use Rattle.answers.specs.declared.Answer.TheVariants.{Done, BrokenRecord}
 use Rattle.answers.specs.Order.{first}
@@ -9,7 +10,7 @@ use Rattle.lines.specs.Right.{named}
 use Rattle.lines.specs.Steps.{begin, step_of, read_of, either_of}
 use Rattle.record.specs.declared.form.Form.{Form}
 use Rattle.record.specs.declared.form.Record.{Record}
-use Rattle.record.specs.declared.reading.Reading.{Reading}
+use Rattle.record.specs.Calls.{Reading, Writing, reading_of, writing_of, line_found}
 use Rattle.record.specs.Form.{broken, blank}
 use Rattle.record.specs.Calls.{fitted, read_call, form_of, read_any, write_leaves, write_call, WriteLeaves, write_faults}
 use Rattle.record.specs.Laws.{BegunWhole, BegunAny, WrongAt, Spellable}
@@ -17,7 +18,7 @@ use Rattle.record.specs.Text.{text_of}
 use Rattle.digits.proofs as digits
 use Rattle.lines.proofs as lines
 use Rattle.record.proofs as record-crate
-use Rattle.letter.specs.Calls.{Answered, Lent, LentMut, holding, Leaves, Gives, Refused}
+use Rattle.letter.specs.Calls.{Answered, Lent, LentMut, holding, Leaves, Gives, Seen, Tells, Refused}
 
 -- ---- the calls
 
@@ -31,12 +32,22 @@ pub record Model : Type 0 where
 abbrev pub ours : Model
 ours = record { read = read_call; read_any = read_any; write = write_call }
 
+-- what a caller learns from the contracts of the code, of what a reading or a writing is seen as
+abbrev pub read_learnt : Lfts 1 → Form × (Lent × Unit {0}) → Reading → Form × (Lent × Unit {0}) → Type 0
+read_learnt = Seen reading_of record-crate.read.Reads.Learnt
+
+abbrev pub read_any_learnt : Lfts 1 → Lent × Unit {0} → Reading → Lent × Unit {0} → Type 0
+read_any_learnt = Seen reading_of record-crate.read_any.Reads.Learnt
+
+abbrev pub write_learnt : Lfts 1 → Form × (Record × (LentMut × Unit {0})) → Writing → Form × (Record × (LentMut × Unit {0})) → Type 0
+write_learnt = Seen writing_of record-crate.write.Reads.Learnt
+
 -- each gives what the contract of the code allows
 pub record Keeps (m : Model) : Type 0 where
-  pub read : (form : Form) (text : Lent) → Gives record-crate.read.Reads.Learnt (form, (text, tt)) (m.read form text.now)
-  pub read_any : (text : Lent) → Gives record-crate.read_any.Reads.Learnt (text, tt) (m.read_any text.now)
+  pub read : (form : Form) (text : Lent) → Gives read_learnt (form, (text, tt)) (m.read form text.now)
+  pub read_any : (text : Lent) → Gives read_any_learnt (text, tt) (m.read_any text.now)
   pub write : (form : Form) (entry : Record) (out : LentMut) → let leaves = m.write form entry out.now in
-      Leaves record-crate.write.Reads.Learnt (form, (entry, (out, tt))) leaves.outcome (form, (entry, (holding out leaves.out, tt)))
+      Leaves write_learnt (form, (entry, (out, tt))) leaves.outcome (form, (entry, (holding out leaves.out, tt)))
 
 -- each public call, and its one outcome; those of digits and lines first
 pub record EveryCall : Type 2 where
@@ -66,13 +77,18 @@ pub record EveryCall : Type 2 where
   pub record_read_field : Answered record-crate.read_field.Statement.statement record-crate.read_field.Reads.Asked record-crate.read_field.Reads.Learnt
       (λ r e. r) (λ (case, (text, _)). fitted (from_hex_in case text.now))
   pub record_first_broken : Answered record-crate.first_broken.Statement.statement record-crate.first_broken.Reads.Asked record-crate.first_broken.Reads.Learnt
-      (λ r e. r) (λ (form, (entry, _)). broken form entry)
+      (λ r e. r) (λ (form, (entry, _)). line_found (broken form entry))
   pub record_read : Answered record-crate.read.Statement.statement record-crate.read.Reads.Asked record-crate.read.Reads.Learnt
-      (λ r e. r) (λ (form, (text, _)). read_call form text.now)
+      (λ r e. reading_of r) (λ (form, (text, _)). read_call form text.now)
   pub record_read_any : Answered record-crate.read_any.Statement.statement record-crate.read_any.Reads.Asked record-crate.read_any.Reads.Learnt
-      (λ r e. r) (λ (text, _). read_any text.now)
+      (λ r e. reading_of r) (λ (text, _). read_any text.now)
   pub record_write : Answered record-crate.write.Statement.statement record-crate.write.Reads.Asked record-crate.write.Reads.Learnt
-      (λ r (form, (entry, (out, _))). write_leaves r out.now) (λ (form, (entry, (out, _))). write_call form entry out.now)
+      (λ r (form, (entry, (out, _))). write_leaves (writing_of r) out.now) (λ (form, (entry, (out, _))). write_call form entry out.now)
+
+-- what is seen of a reading or a writing tells its result
+pub record Told : Type 0 where
+  pub reading : Tells reading_of
+  pub writing : Tells writing_of
 
 -- ---- what they answer
 

@@ -1,11 +1,13 @@
 -- A chip's log, read and replayed: all that is said of its calls.
-use Rattle.std.specs.Prelude.{◌≡◌, Bool, true, false, cond, List, [], ◌++◌, ◌↔◌, ◌⊎◌, ℕ, ◌≤◌, ◌<◌, length, take, drop}
+use Rattle.std.specs.Prelude.{◌≡◌, Bool, true, false, cond, List, [], ◌++◌, ◌↔◌, ◌⊎◌, ℕ, ◌≤◌, ◌<◌, length, take, drop, Result}
 use contract.Lifetimes.{Lfts}
 use Rattle.answers.specs.declared.Answer as answers
 use Rattle.answers.specs.declared.Answer.TheVariants.{Done, BrokenRecord}
-use Rattle.chip_log.specs.declared.reading.Reading.{Reading}
+use Rattle.record.specs.declared.outcome.Read.{Read}
+use Rattle.record.specs.declared.outcome.Unread as broken
+use Rattle.chip_log.specs.declared.form.Entry.{Entry}
 use Rattle.chip_log.specs.Form.{entry_text, blank}
-use Rattle.chip_log.specs.Calls.{read_entry}
+use Rattle.chip_log.specs.Calls.{Reading, reading_of, read_entry}
 use Rattle.chip_log.specs.Laws.{InForm, BegunEntry, WrongEntry, most_bytes}
 use Rattle.stream.specs.declared.Stream.{Stream}
 use Rattle.stream.specs.State.{ended}
@@ -19,7 +21,7 @@ use Rattle.replay.specs.Replays.{is_agreed, at_end, stopped, further, step_by, s
 use Rattle.replay.specs.Laws.{Ours, FirstWrong}
 use Rattle.chip_log.proofs as chip_log
 use Rattle.replay.proofs as replay-crate
-use Rattle.letter.specs.Calls.{Answered, Lent, Gives, Refused}
+use Rattle.letter.specs.Calls.{Answered, Lent, Gives, Seen, Tells, Refused}
 
 -- ---- the calls
 
@@ -60,35 +62,46 @@ moved_learnt = replay-crate.moved.Reads.Learnt
 abbrev pub entry_asked : Lfts 1 → Log × Unit {0} → Type 0
 entry_asked = replay-crate.entry.Reads.Asked
 
-abbrev pub entry_learnt : Lfts 1 → Log × Unit {0} → Reading → Log × Unit {0} → Type 0
+abbrev pub entry_learnt : Lfts 1 → Log × Unit {0} → Result (Read Entry) broken.Unread → Log × Unit {0} → Type 0
 entry_learnt = replay-crate.entry.Reads.Learnt
+
+-- and of what a reading is seen as
+abbrev pub entry_seen : Lfts 1 → Log × Unit {0} → Reading → Log × Unit {0} → Type 0
+entry_seen = Seen reading_of entry_learnt
+
+abbrev pub read_learnt : Lfts 1 → Lent × Unit {0} → Reading → Lent × Unit {0} → Type 0
+read_learnt = Seen reading_of chip_log.read.Reads.Learnt
 
 -- each gives what the contract of the code allows
 pub record Keeps (m : Model) : Type 0 where
-  pub read : (text : Lent) → Gives chip_log.read.Reads.Learnt (text, tt) (m.read text.now)
+  pub read : (text : Lent) → Gives read_learnt (text, tt) (m.read text.now)
   pub opened : (bytes : Lent) → Gives open_learnt (bytes, tt) (m.opened bytes)
   pub moved : (log : Log) (place : ℕ) → Gives moved_learnt (log, (place, tt)) (m.moved log place)
-  pub entry : (log : Log) → Gives entry_learnt (log, tt) (m.entry log)
+  pub entry : (log : Log) → Gives entry_seen (log, tt) (m.entry log)
   pub window : (window : Lent) (over : Bool) (s : Stream) → Gives replay-crate.replay_window.Reads.Learnt (window, (over, (s, tt))) (m.window window.now over s)
   pub replay : (log : Lent) → Gives replay-crate.replay.Reads.Learnt (log, tt) (m.replay log.now)
 
 -- each public call, and its one outcome
 pub record EveryCall : Type 2 where
   pub log_read : Answered chip_log.read.Statement.statement chip_log.read.Reads.Asked chip_log.read.Reads.Learnt
-      (λ r e. r) (λ (text, _). read_entry text.now)
+      (λ r e. reading_of r) (λ (text, _). read_entry text.now)
   pub replay_open : Answered replay-crate.«open».Statement.statement open_asked open_learnt (λ r e. r) (λ (bytes, _). log_at bytes 0)
   pub replay_moved : Answered replay-crate.moved.Statement.statement moved_asked moved_learnt (λ r e. r) (λ (log, (place, _)). log_at log.bytes place)
-  pub replay_entry : Answered replay-crate.entry.Statement.statement entry_asked entry_learnt (λ r e. r) (λ (log, _). read_entry (drop log.place log.bytes.now))
+  pub replay_entry : Answered replay-crate.entry.Statement.statement entry_asked entry_learnt (λ r e. reading_of r) (λ (log, _). read_entry (drop log.place log.bytes.now))
   -- what is read off these three contracts is their equations, no more and no less
   pub replay_open_read : (κs : Lfts 1) (bytes : Lent) (r : Log) (e : Lent × Unit {0}) → open_learnt κs (bytes, tt) r e ≡ (r ≡ log_at bytes 0)
   pub replay_moved_read : (κs : Lfts 1) (log : Log) (place : ℕ) (r : Log) (e : Log × (ℕ × Unit {0}))
       → moved_learnt κs (log, (place, tt)) r e ≡ (r ≡ log_at log.bytes place)
-  pub replay_entry_read : (κs : Lfts 1) (log : Log) (r : Reading) (e : Log × Unit {0})
-      → entry_learnt κs (log, tt) r e ≡ (r ≡ read_entry (drop log.place log.bytes.now))
+  pub replay_entry_read : (κs : Lfts 1) (log : Log) (r : Result (Read Entry) broken.Unread) (e : Log × Unit {0})
+      → entry_learnt κs (log, tt) r e ≡ (reading_of r ≡ read_entry (drop log.place log.bytes.now))
   pub replay_replay_window : Answered replay-crate.replay_window.Statement.statement replay-crate.replay_window.Reads.Asked replay-crate.replay_window.Reads.Learnt
       (λ r e. r) (λ (window, (over, (s, _))). stretch_of over s window.now)
   pub replay_replay : Answered replay-crate.replay.Statement.statement replay-crate.replay.Reads.Asked replay-crate.replay.Reads.Learnt
       (λ r e. r) (λ (log, _). replay_of log.now)
+
+-- what is seen of a reading tells its result
+pub record Told : Type 0 where
+  pub reading : Tells reading_of
 
 -- ---- what they answer
 

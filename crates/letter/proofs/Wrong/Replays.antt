@@ -14,9 +14,8 @@ use Rattle.lines.specs.Right.{named}
 use Rattle.lines.specs.Steps as steps
 use Rattle.lines.specs.Steps.{name_step, feed_step, value_step, read_of}
 use Rattle.record.specs.Form.{field_of}
-use Rattle.chip_log.specs.declared.reading.Reading.{Reading}
 use Rattle.chip_log.specs.Form.{kind_at, call_kind, blank}
-use Rattle.chip_log.specs.Calls.{read_call, read_line, field_in, given, refused_at, read_as, read_entry}
+use Rattle.chip_log.specs.Calls.{Reading, read_call, read_line, field_in, given, refused_at, read_as, read_entry}
 use Rattle.chip_log.specs.Laws.{WrongEntry}
 use Rattle.chip_log.proofs.Laws.{reads_log}
 use Rattle.sponge.specs.Sponge as sponge
@@ -33,7 +32,7 @@ use Rattle.replay.specs.Replays.{compared, step_on, stretch_of, replay_of, step_
 use Rattle.replay.proofs.Laws.{replays}
 use Rattle.letter.specs.Replays.{line_of}
 use Rattle.letter.specs.Wrong.Replays.{Wrong}
-use Rattle.letter.proofs.Calls.{off}
+use Rattle.letter.proofs.Calls.{off, seen_as}
 
 -- a text that is refused is wrong at a line and column
 place : (text : List ℕ) (r : Reading) → r.answer ≡ BrokenRecord → r ≡ read_entry text → WrongEntry text r.line r.column
@@ -44,26 +43,26 @@ place text r refused p =
 pub wrong : Wrong
 unfolding read_entry refused_at read_as read_call read_line field_in given kind_at call_kind blank read_of steps.step_of name_step feed_step value_step named field_of digit_in replay_of stretch_of step_by step_on compared started sealed_piece finished limited_start_test start_call ad_call text_call took_text finish_call text_words piece_test text_test finish_test filled_rounds closing_rounds is_sound is_sound_open is_sound_ended absorbed sponge.given ad_closed tag_of row_of table is_set rounds_of constants_of constants finalise separate initialise before_key p permute rounds round diffuse Σ₀ Σ₁ Σ₂ Σ₃ Σ₄ ◌⋙◌ substitute substituted column from_bits bit s_box add_constant string_of state_of bytes_of value_of
 wrong = record {
-  log_call = λ r other κ e p. other p;
-  log_finish = λ r other κ e p. other p;
-  log_start2 = λ r other κ e p. other p;
-  log_start1 = λ r other κ e p. other p;
-  log_most = λ line column early κ e p. let answer : BrokenRecord ≡ Done = ap (λ (x : Reading). x.answer) p in off (cc answer);
-  log_long = λ r other κ e p. other p;
-  log_upper = λ r other κ e p. other p;
-  log_zeros = λ r other κ e p. other p;
-  log_digits = λ r other κ e p. other p;
-  log_order = λ r other κ e p. other p;
-  log_cut = λ r other κ e p. other p;
-  log_behind = λ r other κ e p. other (ap (λ (x : Reading). x.taken) p);
-  log_line_nought = λ text r refused none κ e p. absurd (omega (arith, (place text r refused p).first));
-  log_column_nought = λ text r refused none κ e p. absurd (omega (arith, (place text r refused p).wrong.first));
+  log_call = λ r other κ e q. let p = seen_as (λ x. x) q in other p;
+  log_finish = λ r other κ e q. let p = seen_as (λ x. x) q in other p;
+  log_start2 = λ r other κ e q. let p = seen_as (λ x. x) q in other p;
+  log_start1 = λ r other κ e q. let p = seen_as (λ x. x) q in other p;
+  log_most = λ line column early κ e q. let p = seen_as (λ x. x) q in let answer : BrokenRecord ≡ Done = ap (λ (x : Reading). x.answer) p in off (cc answer);
+  log_long = λ r other κ e q. let p = seen_as (λ x. x) q in other p;
+  log_upper = λ r other κ e q. let p = seen_as (λ x. x) q in other p;
+  log_zeros = λ r other κ e q. let p = seen_as (λ x. x) q in other p;
+  log_digits = λ r other κ e q. let p = seen_as (λ x. x) q in other p;
+  log_order = λ r other κ e q. let p = seen_as (λ x. x) q in other p;
+  log_cut = λ r other κ e q. let p = seen_as (λ x. x) q in other p;
+  log_behind = λ r other κ e q. let p = seen_as (λ x. x) q in other (ap (λ (x : Reading). x.taken) p);
+  log_line_nought = λ text r refused none κ e q. let p = seen_as (λ x. x) q in absurd (omega (arith, (place text r refused p).first));
+  log_column_nought = λ text r refused none κ e q. let p = seen_as (λ x. x) q in absurd (omega (arith, (place text r refused p).wrong.first));
   open_place = λ bytes r other κ e p. other (ap (λ (x : Log). x.place) p);
   open_bytes = λ bytes r other κ e p. other (ap (λ (x : Log). x.bytes) p);
   moved_place = λ log place r other κ e p. other (ap (λ (x : Log). x.place) p);
   moved_bytes = λ log place r other κ e p. other (ap (λ (x : Log). x.bytes) p);
-  entry_first = λ line column early κ e p. let answer : BrokenRecord ≡ Done = ap (λ (x : Reading). x.answer) p in off (cc answer);
-  entry_past = λ r done κ e p. let answer : Done ≡ BrokenRecord = sym done ∙ ap (λ (x : Reading). x.answer) p in off (cc answer);
+  entry_first = λ line column early κ e q. let p = seen_as (λ x. x) q in let answer : BrokenRecord ≡ Done = ap (λ (x : Reading). x.answer) p in off (cc answer);
+  entry_past = λ r done κ e q. let p = seen_as (λ x. x) q in let answer : Done ≡ BrokenRecord = sym done ∙ ap (λ (x : Reading). x.answer) p in off (cc answer);
   replay_broken = λ entries κ e p. let verdict : Agrees ≡ Unread 1 1 = ap (λ (x : Conclusion). x.verdict) p in off (cc verdict);
   replay_cut = λ entries κ e p. let verdict : Agrees ≡ Unread 2 1 = ap (λ (x : Conclusion). x.verdict) p in off (cc verdict);
   replay_cut_feed = λ entries κ e p. let verdict : Agrees ≡ Unread 5 9 = ap (λ (x : Conclusion). x.verdict) p in off (cc verdict);

@@ -1,5 +1,5 @@
 -- Wrong answers of the calls of first differences, verdicts, reports and steps.
-use Rattle.std.specs.Prelude.{◌≡◌, true, false, List, [], ◌∷◌, ℕ, suc}
+use Rattle.std.specs.Prelude.{◌≡◌, true, false, List, [], ◌∷◌, ℕ, suc, Some, None}
 use Rattle.answers.specs.declared.Answer.TheVariants.{Done}
 use Rattle.permutation.specs.Strings.{bytes_of, zeros}
 use Rattle.ascon.specs.Known.{counting}
@@ -8,13 +8,11 @@ use Rattle.record.specs.declared.form.Record.{Record}
 use Rattle.record.specs.Form.{field_of, held, with_number, with_field, blank}
 use Rattle.report.specs.declared.Verdict.TheVariants.{Equal, Tag, Unread}
 use Rattle.judge.specs.declared.difference.Comparison.{Comparison}
-use Rattle.judge.specs.declared.difference.Difference.TheVariants.{Same, At}
 use Rattle.judge.specs.declared.stepping.Step.TheVariants.{Stopped, Wait}
 use Rattle.judge.specs.Verdicts.{our_sealing}
-use Rattle.report.proofs as report
 use Rattle.judge.proofs as judge
 use Rattle.letter.specs.Calls.{Lent, lent, lent_mut, Never, Only, NeverLeaves, NoSet}
-use Rattle.letter.specs.Judging.{compare_learnt}
+use Rattle.letter.specs.Judging.{report_learnt, compare_learnt}
 use Rattle.letter.specs.Wrong.Records.{case_of}
 
 -- the rules' whole case with the right rounds and a text of one byte; its cipher is empty
@@ -29,17 +27,17 @@ published_in set text cipher tag =
 
 pub record Wrong : Type 0 where
   -- a text that is cut off is not the same
-  pub difference_cut : Never judge.first_difference.Reads.Learnt (lent (1 ∷ 2 ∷ []), (lent (1 ∷ []), tt)) Same
+  pub difference_cut : Never judge.first_difference.Reads.Learnt (lent (1 ∷ 2 ∷ []), (lent (1 ∷ []), tt)) None
   -- nor is one that goes on
-  pub difference_longer : Never judge.first_difference.Reads.Learnt (lent (1 ∷ []), (lent (1 ∷ 2 ∷ []), tt)) Same
+  pub difference_longer : Never judge.first_difference.Reads.Learnt (lent (1 ∷ []), (lent (1 ∷ 2 ∷ []), tt)) None
   -- nor another of the same length
-  pub difference_byte : Never judge.first_difference.Reads.Learnt (lent (1 ∷ []), (lent (2 ∷ []), tt)) Same
+  pub difference_byte : Never judge.first_difference.Reads.Learnt (lent (1 ∷ []), (lent (2 ∷ []), tt)) None
   -- the place is not one too far
-  pub difference_far : Never judge.first_difference.Reads.Learnt (lent (1 ∷ 2 ∷ []), (lent (1 ∷ []), tt)) (At 2)
+  pub difference_far : Never judge.first_difference.Reads.Learnt (lent (1 ∷ 2 ∷ []), (lent (1 ∷ []), tt)) (Some 2)
   -- nor that of the last difference
-  pub difference_last : Never judge.first_difference.Reads.Learnt (lent (1 ∷ 2 ∷ []), (lent (3 ∷ 4 ∷ []), tt)) (At 1)
+  pub difference_last : Never judge.first_difference.Reads.Learnt (lent (1 ∷ 2 ∷ []), (lent (3 ∷ 4 ∷ []), tt)) (Some 1)
   -- a text that is the same has no difference at its end
-  pub difference_end : Never judge.first_difference.Reads.Learnt (lent (1 ∷ []), (lent (1 ∷ []), tt)) (At 1)
+  pub difference_end : Never judge.first_difference.Reads.Learnt (lent (1 ∷ []), (lent (1 ∷ []), tt)) (Some 1)
   -- the part of a text that goes on is not its empty end
   pub tail_longer : (part : Lent) → part.now ≡ [] → Never judge.difference_tail.Reads.Learnt (lent (1 ∷ []), (lent (1 ∷ 2 ∷ []), tt)) part
   -- the part does not begin one too far
@@ -53,7 +51,7 @@ pub record Wrong : Type 0 where
   -- the empty part of a text that is cut off does not lie at its beginning
   pub tail_begin : (part : Lent) → part.ref_ptr.1 ≡ 0 → Never judge.difference_tail.Reads.Learnt (lent (1 ∷ 2 ∷ []), (lent (1 ∷ []), tt)) part
   -- in a comparison, too, a text that is cut off is not the same
-  pub compare_cut : (r : Comparison) → r.difference ≡ Same → Never compare_learnt (lent (1 ∷ 2 ∷ []), (lent (1 ∷ []), tt)) r
+  pub compare_cut : (r : Comparison) → r.difference ≡ None → Never compare_learnt (lent (1 ∷ 2 ∷ []), (lent (1 ∷ []), tt)) r
   -- and the part belongs to the place: where the texts differ at 1, it does not lie at the beginning
   pub compare_part : (r : Comparison) → r.part.ref_ptr.1 ≡ 0 → Never compare_learnt (lent (1 ∷ 2 ∷ []), (lent (1 ∷ 3 ∷ []), tt)) r
   -- fields differ where one holds a beginning of what the other holds, either way round
@@ -95,7 +93,7 @@ pub record Wrong : Type 0 where
   -- where the input has ended, it is of form 1, and at fault in its first column
   pub step_inside_end : (written : ℕ) → Never judge.judge_window.Reads.Learnt (lent (ascii "form"), (true, (1, (lent_mut (zeros 32), tt)))) (Stopped 1 5 written)
   -- a report without room is not done
-  pub report_room : Never report.report.Reads.Learnt (1, (Equal, (lent_mut [], tt))) (record { answer = Done; written = 0 })
+  pub report_room : Never report_learnt (1, (Equal, (lent_mut [], tt))) (record { answer = Done; written = 0 })
   -- the field of an unread record is its line, and not its column
-  pub report_column : NeverLeaves report.report.Reads.Learnt (1, (Unread 4 7, (lent_mut (zeros 32), tt))) (record { answer = Done; written = 32 })
+  pub report_column : NeverLeaves report_learnt (1, (Unread 4 7, (lent_mut (zeros 32), tt))) (record { answer = Done; written = 32 })
       (1, (Unread 4 7, (lent_mut (ascii "record=1\nverdict=unread\nfield=7\n"), tt)))

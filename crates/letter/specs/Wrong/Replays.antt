@@ -3,8 +3,7 @@ use Rattle.std.specs.Prelude.{◌≡◌, Bool, true, false, List, [], ◌++◌, 
 use Rattle.answers.specs.declared.Answer.TheVariants.{Done, BrokenRecord}
 use Rattle.permutation.specs.Strings.{zeros}
 use Rattle.digits.specs.Ascii.{ascii}
-use Rattle.chip_log.specs.declared.reading.Reading.{Reading}
-use Rattle.chip_log.specs.Calls.{refused_at}
+use Rattle.chip_log.specs.Calls.{Reading, refused_at}
 use Rattle.stream.specs.declared.Direction.TheVariants.{Sealing}
 use Rattle.stream.specs.declared.Phase.TheVariants as phase
 use Rattle.stream.specs.declared.Stream.{Stream}
@@ -16,10 +15,9 @@ use Rattle.replay.specs.declared.window.Verdict.{Verdict}
 use Rattle.replay.specs.declared.window.Verdict.TheVariants.{Agrees, Answer, Out, Rounds, Unread, Open}
 use Rattle.replay.specs.Cursor.{log_at}
 use Rattle.replay.specs.Replays.{is_agreed, told}
-use Rattle.chip_log.proofs as chip_log
 use Rattle.replay.proofs as replay-crate
 use Rattle.letter.specs.Calls.{Lent, lent, Never}
-use Rattle.letter.specs.Replays.{line_of, open_learnt, moved_learnt, entry_learnt}
+use Rattle.letter.specs.Replays.{line_of, read_learnt, open_learnt, moved_learnt, entry_seen}
 
 -- ---- entries
 
@@ -86,40 +84,40 @@ pub record Wrong : Type 0 where
 
   -- nothing is told of `call=start3` but that the 3 is at fault, since two calls begin with what stands before it
   pub log_call : (r : Reading) → (r ≡ refused_at 1 11 false → ⊥)
-      → Never chip_log.read.Reads.Learnt (lent (ascii "call=start3\n"), tt) r
+      → Never read_learnt (lent (ascii "call=start3\n"), tt) r
   -- data of a finish is at fault from its first digit, on line 2
   pub log_finish : (r : Reading) → (r ≡ refused_at 2 6 false → ⊥)
-      → Never chip_log.read.Reads.Learnt (lent (ascii "call=finish\ndata=00\nanswer=7\nout=\nrounds=0\n"), tt) r
+      → Never read_learnt (lent (ascii "call=finish\ndata=00\nanswer=7\nout=\nrounds=0\n"), tt) r
   -- 25 bytes are one too many for a start in set 2: its first digit is at fault
   pub log_start2 : (r : Reading) → (r ≡ refused_at 2 54 false → ⊥)
-      → Never chip_log.read.Reads.Learnt (lent (ascii "call=start2\ndata=00000000000000000000000000000000000000000000000000\n"), tt) r
+      → Never read_learnt (lent (ascii "call=start2\ndata=00000000000000000000000000000000000000000000000000\n"), tt) r
   -- 24 bytes are too few for one in set 1: the line feed is at fault
   pub log_start1 : (r : Reading) → (r ≡ refused_at 2 54 false → ⊥)
-      → Never chip_log.read.Reads.Learnt (lent (ascii "call=start1\ndata=000000000000000000000000000000000000000000000000\n"), tt) r
+      → Never read_learnt (lent (ascii "call=start1\ndata=000000000000000000000000000000000000000000000000\n"), tt) r
   -- 256 bytes are not refused, and of 257 the first digit too many is at fault
   pub log_most : (line column : ℕ) (early : Bool)
-      → Never chip_log.read.Reads.Learnt (lent (ad_of 512 ++ ascii "\nanswer=7\nout=\nrounds=0\n"), tt) (refused_at line column early)
+      → Never read_learnt (lent (ad_of 512 ++ ascii "\nanswer=7\nout=\nrounds=0\n"), tt) (refused_at line column early)
   pub log_long : (r : Reading) → (r ≡ refused_at 2 518 false → ⊥)
-      → Never chip_log.read.Reads.Learnt (lent (ad_of 514), tt) r
+      → Never read_learnt (lent (ad_of 514), tt) r
   -- a digit in upper case is at fault
   pub log_upper : (r : Reading) → (r ≡ refused_at 2 6 false → ⊥)
-      → Never chip_log.read.Reads.Learnt (lent (ascii "call=ad\ndata=A0\n"), tt) r
+      → Never read_learnt (lent (ascii "call=ad\ndata=A0\n"), tt) r
   -- in `answer=007` the second zero is at fault
   pub log_zeros : (r : Reading) → (r ≡ refused_at 3 9 false → ⊥)
-      → Never chip_log.read.Reads.Learnt (lent (ascii "call=ad\ndata=\nanswer=007\n"), tt) r
+      → Never read_learnt (lent (ascii "call=ad\ndata=\nanswer=007\n"), tt) r
   -- a number has at most seven digits: the eighth is at fault
   pub log_digits : (r : Reading) → (r ≡ refused_at 3 15 false → ⊥)
-      → Never chip_log.read.Reads.Learnt (lent (ascii "call=ad\ndata=\nanswer=10000000\n"), tt) r
+      → Never read_learnt (lent (ascii "call=ad\ndata=\nanswer=10000000\n"), tt) r
   -- no line stands in another's place
   pub log_order : (r : Reading) → (r ≡ refused_at 2 1 false → ⊥)
-      → Never chip_log.read.Reads.Learnt (lent (ascii "call=ad\nanswer=7\ndata=\nout=\nrounds=0\n"), tt) r
+      → Never read_learnt (lent (ascii "call=ad\nanswer=7\ndata=\nout=\nrounds=0\n"), tt) r
   -- a text that ended behind a line can go on
-  pub log_cut : (r : Reading) → (r ≡ refused_at 2 1 true → ⊥) → Never chip_log.read.Reads.Learnt (lent (ascii "call=ad\n"), tt) r
+  pub log_cut : (r : Reading) → (r ≡ refused_at 2 1 true → ⊥) → Never read_learnt (lent (ascii "call=ad\n"), tt) r
   -- what stands behind an entry is not taken
-  pub log_behind : (r : Reading) → (r.taken ≡ 39 → ⊥) → Never chip_log.read.Reads.Learnt (lent (text_refused ++ ascii "x"), tt) r
+  pub log_behind : (r : Reading) → (r.taken ≡ 39 → ⊥) → Never read_learnt (lent (text_refused ++ ascii "x"), tt) r
   -- whatever the text, it is not refused at line 0, nor at column 0
-  pub log_line_nought : (text : List ℕ) (r : Reading) → r.answer ≡ BrokenRecord → r.line ≡ 0 → Never chip_log.read.Reads.Learnt (lent text, tt) r
-  pub log_column_nought : (text : List ℕ) (r : Reading) → r.answer ≡ BrokenRecord → r.column ≡ 0 → Never chip_log.read.Reads.Learnt (lent text, tt) r
+  pub log_line_nought : (text : List ℕ) (r : Reading) → r.answer ≡ BrokenRecord → r.line ≡ 0 → Never read_learnt (lent text, tt) r
+  pub log_column_nought : (text : List ℕ) (r : Reading) → r.answer ≡ BrokenRecord → r.column ≡ 0 → Never read_learnt (lent text, tt) r
   -- ---- a log and its place
 
   -- a log is not opened elsewhere than at its beginning, nor over other bytes
@@ -129,9 +127,9 @@ pub record Wrong : Type 0 where
   pub moved_place : (log : Log) (place : ℕ) (r : Log) → (r.place ≡ place → ⊥) → Never moved_learnt (log, (place, tt)) r
   pub moved_bytes : (log : Log) (place : ℕ) (r : Log) → (r.bytes ≡ log.bytes → ⊥) → Never moved_learnt (log, (place, tt)) r
   -- the entry is the one at the place, and not the log's first
-  pub entry_first : (line column : ℕ) (early : Bool) → Never entry_learnt (log_at (lent (ascii "x" ++ text_refused)) 1, tt) (refused_at line column early)
+  pub entry_first : (line column : ℕ) (early : Bool) → Never entry_seen (log_at (lent (ascii "x" ++ text_refused)) 1, tt) (refused_at line column early)
   -- past the end there is none
-  pub entry_past : (r : Reading) → r.answer ≡ Done → Never entry_learnt (log_at (lent text_refused) 40, tt) r
+  pub entry_past : (r : Reading) → r.answer ≡ Done → Never entry_seen (log_at (lent text_refused) 40, tt) r
   -- ---- a whole log
 
   -- a log with a broken entry does not agree, whatever the count
