@@ -23,6 +23,7 @@ fn put_count(number: u64, out: &mut [u8]) -> usize
 fn count_name(number: u64) -> Name
     ensures { result ≡ named (ascii "Count = " ++ numeral number) }
 {
+    // No heap: the text stands in an array, `size` bytes of it.
     let mut text = [0; 32];
     let size = put_count(number, &mut text);
     lines::named(&text[..size])

@@ -99,6 +99,7 @@ fn with_rounds(entry: Record) -> Record
 }
 
 // Reads the entry of a set and a number that a text begins with.
+#[tactic(auto, unfolding(crate::specs::Calls::read_entry))]
 pub fn read(set: u64, number: u64, text: &[u8]) -> Result<Read<Record>, Unread>
     ensures { reading_of result ≡ read_entry set number text.now }
 {

@@ -46,41 +46,50 @@ fn put_field(field: Field, out: &mut [u8]) -> usize
     digits::put_bytes(Case::Upper, &field.bytes[..field.size], out)
 }
 
-// Puts the digits of a line of a record in form at the beginning of a place that has room for them, and gives how many.
-fn put_value(line: usize, entry: Record, out: &mut [u8]) -> usize
-    requires value { broken One entry ≡ 0 }
-    requires in_bounds { 544 ≤ length out.old }
-    ensures { laid result out.new ≡ put (hex_in Upper (bytes_at line entry)) out.old }
-{
-    let first = put_field(first_field(line, entry), out);
-    first + put_field(second_field(line, entry), &mut out[first..])
+// A record in form, with the number of its entry.
+#[derive(Clone, Copy)]
+struct Entry {
+    number: u64,
+    content: Record,
+    ghost in_form: { broken One content ≡ 0 },
 }
 
-// Puts a line of the entry of a record in form at the beginning of a place, and gives its length; a place too short for it stays as it is, and the length is 0.
-fn put_line(number: u64, line: usize, entry: Record, out: &mut [u8]) -> usize
-    requires { broken One entry ≡ 0 }
-    ensures { laid result out.new ≡ put (line_text number line entry) out.old }
-{
-    let name = form::name_of(number, line);
-    let mut value = [0; 544];
-    let count = put_value(line, entry, &mut value);
-    digits::put_line(&name.bytes[..name.size], &value[..count], out)
-}
-
-// Puts the entry of a record in form at the beginning of a place that has room for it, and gives its length.
-fn put_entry(number: u64, entry: Record, out: &mut [u8]) -> usize
-    requires value { broken One entry ≡ 0 }
-    requires in_bounds { length (entry_text number entry) ≤ length out.old }
-    ensures { laid result out.new ≡ put (entry_text number entry) out.old }
-{
-    let mut at = 0;
-    for line in 1..8 {
-        at += put_line(number, line, entry, &mut out[at..]);
+impl Entry {
+    // Puts the digits of a line at the beginning of a place that has room for them, and gives how many.
+    fn put_value(self, line: usize, out: &mut [u8]) -> usize
+        requires { 544 ≤ length out.old }
+        ensures { laid result out.new ≡ put (hex_in Upper (bytes_at line self.content)) out.old }
+    {
+        let first = put_field(first_field(line, self.content), out);
+        first + put_field(second_field(line, self.content), &mut out[first..])
     }
-    at
+
+    // Puts a line at the beginning of a place, and gives its length; a place too short for it stays as it is, and the length is 0.
+    fn put_line(self, line: usize, out: &mut [u8]) -> usize
+        ensures { laid result out.new ≡ put (line_text self.number line self.content) out.old }
+    {
+        let name = form::name_of(self.number, line);
+        // No heap: the digits stand in an array, `count` of them.
+        let mut value = [0; 544];
+        let count = self.put_value(line, &mut value);
+        digits::put_line(&name.bytes[..name.size], &value[..count], out)
+    }
+
+    // Puts all lines at the beginning of a place that has room for them, and gives their length.
+    fn put_lines(self, out: &mut [u8]) -> usize
+        requires { length (entry_text self.number self.content) ≤ length out.old }
+        ensures { laid result out.new ≡ put (entry_text self.number self.content) out.old }
+    {
+        let mut at = 0;
+        for line in 1..8 {
+            at += self.put_line(line, &mut out[at..]);
+        }
+        at
+    }
 }
 
 // Writes the entry of a record at the beginning of a place; a record out of form, with a chip, or a place too short is refused.
+#[tactic(auto, using(record::proofs::Written::none_found, record::proofs::Written::found_line), unfolding(crate::specs::Calls::write_entry))]
 pub fn write(number: u64, entry: Record, out: &mut [u8]) -> Result<usize, Unwritten>
     ensures { write_leaves (writing_of result) out.new ≡ write_entry number entry out.old }
 {
@@ -90,8 +99,13 @@ pub fn write(number: u64, entry: Record, out: &mut [u8]) -> Result<usize, Unwrit
     if entry.chip != 0 {
         return Err(Unwritten::ChipLost);
     }
+    let whole = Entry {
+        number,
+        content: entry,
+    };
+    // No heap: the entry stands in an array, `size` bytes of it.
     let mut text = [0; 1696];
-    let size = put_entry(number, entry, &mut text);
+    let size = whole.put_lines(&mut text);
     if out.len() < size {
         return Err(Unwritten::NoRoom);
     }

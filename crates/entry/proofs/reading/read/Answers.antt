@@ -128,10 +128,6 @@ read_on c p =
           ∙ l.invariant.rest;
     }
 
-pub returns-then-not-is_set : goal.returns-then-not-is_set
-unfolding read_entry
-returns-then-not-is_set c = rw (sym c.is_set.ensures ∙ c.if-not-is_set.true)
-
 pub loop-line-init : goal.loop-line-init
 loop-line-init c =
     let a = c.args in
@@ -172,12 +168,3 @@ overflow_add-taken c =
 
 pub loop-line-preserved : goal.loop-line-preserved
 loop-line-preserved c = read_on (goal.at.loop-line-preserved c).After-with_line-content (parts (goal.at.loop-line-preserved c).In-Ok)
-
-pub returns : goal.returns
-unfolding read_entry
-returns c =
-    let a = c.args in
-    let l = c.loop-line in
-    let none : 8 - l.line ≡ 0 = omega (arith, c.loop-line-test.false) in
-    let all = sym l.invariant.rest ∙ ap (λ (k : ℕ). lines_from (read_at a.set a.number) (given a.set a.number) k l.line l.taken l.content a.text.now) none in
-    rw (sym c.is_set.ensures ∙ c.if-not-is_set.false, all, c.with_rounds.ensures)

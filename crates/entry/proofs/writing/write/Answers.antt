@@ -5,13 +5,13 @@ use Prim.Native.Nat.{ℕ, ◌≤◌}
 use native.Mathlib.Omega.{arith}
 use lib.ListN.{length, take}
 use lib.Seq.{length-take-le, take-append_seam}
-use borrow.Author.Tests.{le-leb, lt-leb, eq-eqb, ne_eqb}
+use borrow.Author.Tests.{le-leb, lt-leb, eq-eqb}
 use Rattle.digits.specs.Room.{laid, put}
 use Rattle.digits.proofs.Room.{put_inside, put_count}
 use Rattle.record.specs.declared.form.Form.TheVariants.{One}
 use Rattle.record.specs.declared.form.Record.{Record}
 use Rattle.record.specs.Form.{broken}
-use Rattle.record.proofs.Written.{found_line, none_found}
+use Rattle.record.proofs.Written.{none_found}
 use Rattle.entry.specs.Form.{largest_number, entry_text}
 use Rattle.entry.specs.Calls.{write_entry}
 use Rattle.entry.proofs.Bounds.{entry_most}
@@ -30,27 +30,16 @@ text-put number size e before after h in_form room is =
     let whole = put_count text before after size is (rw room (entry_most number h e in_form)) in
     (whole.0, ap₂ take whole.0 whole.1 ∙ take-append_seam text _)
 
-pub returns-in-Some : goal.returns-in-Some
-unfolding write_entry
-returns-in-Some c =
-    let found = found_line (broken One c.args.entry) c.in-Some.line (sym c.first_broken.ensures ∙ c.in-Some.is) in
-    rw (ne_eqb (broken One c.args.entry) 0 (λ e. omega (arith, e, found.1)), found.0)
-
-pub returns-then-entry-ne0 : goal.returns-then-entry-ne0
-unfolding write_entry
-returns-then-entry-ne0 c = rw (in_form (goal.at.returns-then-entry-ne0 c).In_default, ne_eqb c.args.entry.chip 0 c.if-entry-ne0.true)
-
-pub put_entry-size-requires : goal.put_entry-size-requires
-put_entry-size-requires c =
-    let whole = in_form (goal.at.put_entry-size-requires c).In_default in
-    record { value = whole; in_bounds = entry_most c.args.number (omega (arith, c.ranges.number.fits)) c.args.entry whole }
+pub put_lines-size-requires : goal.put_lines-size-requires
+put_lines-size-requires c =
+    entry_most c.args.number (omega (arith, c.ranges.number.fits)) c.args.entry (in_form (goal.at.put_lines-size-requires c).In_default)
 
 pub returns-then-out-size : goal.returns-then-out-size
 unfolding write_entry
 returns-then-out-size c =
     let a = c.args in
     let whole = in_form (goal.at.returns-then-out-size c).In_default in
-    let done = text-put a.number _ a.entry _ _ (omega (arith, c.ranges.number.fits)) whole refl c.put_entry-size.ensures in
+    let done = text-put a.number _ a.entry _ _ (omega (arith, c.ranges.number.fits)) whole refl c.put_lines-size.ensures in
     rw (
       whole,
       eq-eqb a.entry.chip 0 c.if-entry-ne0.false,
@@ -58,18 +47,18 @@ returns-then-out-size c =
     )
 
 pub slice_bounds-text-end : goal.slice_bounds-text-end
-slice_bounds-text-end c = (put_inside _ _ _ _ c.put_entry-size.ensures).0
+slice_bounds-text-end c = (put_inside _ _ _ _ c.put_lines-size.ensures).0
 
 pub slice_bounds-put_text-end : goal.slice_bounds-put_text-end
 slice_bounds-put_text-end c =
-    let p = c.put_entry-size in sym (length-take-le p.result p.new.out (put_inside _ _ _ _ p.ensures).0)
+    let p = c.put_lines-size in sym (length-take-le p.result p.new.out (put_inside _ _ _ _ p.ensures).0)
 
 pub returns : goal.returns
 unfolding write_entry
 returns c =
     let a = c.args in
     let whole = in_form (goal.at.returns c).In_default in
-    let done = text-put a.number _ a.entry _ _ (omega (arith, c.ranges.number.fits)) whole refl c.put_entry-size.ensures in
+    let done = text-put a.number _ a.entry _ _ (omega (arith, c.ranges.number.fits)) whole refl c.put_lines-size.ensures in
     let text = entry_text a.number a.entry in
     let fits : length text ≤ length a.out.now = omega (arith, done.0, c.if-out-size.false) in
     let put = put_count text a.out.now _ _ (c.put_text.ensures ∙ ap (λ (x : List ℕ). put x a.out.now) done.1) fits in

@@ -1,8 +1,9 @@
--- `entry::writing::put_line` meets its contract.
+-- `entry::writing::Entry::put_line` meets its contract.
 use mathlib.Core.Path.{◌≡◌, sym, ap₂, ◌∙◌}
 use mathlib.Core.List.{List}
 use Prim.Native.Nat.{ℕ, ◌≤◌}
 use native.Mathlib.Omega.{arith}
+use borrow.Author.Rules.{rules}
 use lib.ListN.{take}
 use lib.Seq.{length-take-le, take-append_seam}
 use Rattle.digits.specs.declared.hex.Case.TheVariants.{Upper}
@@ -15,7 +16,7 @@ use Rattle.lines.proofs.Names.{Holds, named_holds}
 use Rattle.entry.specs.Form.{largest_number, name, bytes_at, line_text}
 use Rattle.entry.proofs.Table.{name_few}
 use Rattle.entry.proofs.Bounds.{digits_few}
-use Rattle.entry.proofs.writing.put_line.Goals as goal
+use Rattle.entry.proofs.writing.Entry.put_line.Goals as goal
 
 -- the name is the line's
 held_name : (number line : ℕ) (n : Name) → number ≤ largest_number → n ≡ named (name number line) → Holds (name number line) n
@@ -23,13 +24,9 @@ held_name number line n h e = named_holds (name number line) (omega (arith, name
 
 pub shared_ref_as_front-put_line : goal.shared_ref_as_front-put_line
 shared_ref_as_front-put_line c =
-    let h : c.args.number ≤ largest_number = omega (arith, c.ranges.number.fits) in
-    omega (arith, (held_name c.args.number c.args.line _ h c.name_of-name.ensures).size_is, name_few c.args.number h c.args.line)
-
-pub slice_bounds-put_line-end : goal.slice_bounds-put_line-end
-slice_bounds-put_line-end c =
-    let n = c.name_of-name in
-    sym (length-take-le n.result.size n.result.bytes (held_name c.args.number c.args.line _ (omega (arith, c.ranges.number.fits)) n.ensures).inside)
+    let a = c.args in
+    let h : a.self.number ≤ largest_number = search rules in
+    omega (arith, (held_name a.self.number a.line _ h c.name_of-name.ensures).size_is, name_few a.self.number h a.line)
 
 pub slice_bounds-value-end : goal.slice_bounds-value-end
 slice_bounds-value-end c = (put_inside _ _ _ _ c.put_value-count.ensures).0
@@ -42,7 +39,7 @@ pub returns : goal.returns
 unfolding line_text
 returns c =
     let a = c.args in
-    let held = held_name a.number a.line _ (omega (arith, c.ranges.number.fits)) c.name_of-name.ensures in
-    let value = hex_in Upper (bytes_at a.line a.entry) in
-    let whole = put_count value _ _ _ c.put_value-count.ensures (digits_few a.entry c.requires a.line) in
+    let held = held_name a.self.number a.line _ (search rules) c.name_of-name.ensures in
+    let value = hex_in Upper (bytes_at a.line a.self.content) in
+    let whole = put_count value _ _ _ c.put_value-count.ensures (digits_few a.self.content a.self.in_form a.line) in
     c.put_line.ensures ∙ ap₂ (λ (x y : List ℕ). put (line_of x y) a.out.now) held.text_is (ap₂ take whole.0 whole.1 ∙ take-append_seam value _)

@@ -1,4 +1,4 @@
--- `entry::writing::put_value` meets its contract.
+-- `entry::writing::Entry::put_value` meets its contract.
 use mathlib.Core.Path.{◌≡◌, sym, ap, ap₂, ◌∙◌}
 use mathlib.Core.List.{List, ◌++◌}
 use Prim.Native.Nat.{ℕ, ◌+◌, ◌-◌, ◌≤◌}
@@ -15,7 +15,7 @@ use Rattle.record.specs.declared.form.Record.{Record}
 use Rattle.record.specs.Form.{held, broken}
 use Rattle.entry.specs.Form.{bytes_at}
 use Rattle.entry.proofs.Bounds.{first_at, second_at, bytes_two, first_few, second_few, digits_few}
-use Rattle.entry.proofs.writing.put_value.Goals as goal
+use Rattle.entry.proofs.writing.Entry.put_value.Goals as goal
 
 -- the digits of the line are put
 both-put : (line : ℕ) (r : Record) (out between after : List ℕ) (m n : ℕ) (first second : Field) → broken One r ≡ 0 → 544 ≤ length out
@@ -33,7 +33,7 @@ both-put line r out between after m n first second in_form room is-first is-seco
 
 pub put_field-first-requires : goal.put_field-first-requires
 put_field-first-requires c =
-    omega (arith, ap (λ (x : Field). x.size) c.first_field.ensures, first_few c.args.entry c.requires.value c.args.line)
+    omega (arith, ap (λ (x : Field). x.size) c.first_field.ensures, first_few c.args.self.content c.args.self.in_form c.args.line)
 
 pub slice_bounds-put_field-count : goal.slice_bounds-put_field-count
 slice_bounds-put_field-count c = (put_inside _ _ _ _ c.put_field-first.ensures).0
@@ -43,16 +43,16 @@ slice_bounds-put_field-start c = (put_inside _ _ _ _ c.put_field-first.ensures).
 
 pub put_field-requires : goal.put_field-requires
 put_field-requires c =
-    omega (arith, ap (λ (x : Field). x.size) c.second_field.ensures, second_few c.args.entry c.requires.value c.args.line)
+    omega (arith, ap (λ (x : Field). x.size) c.second_field.ensures, second_few c.args.self.content c.args.self.in_form c.args.line)
 
 pub returns : goal.returns
 returns c =
     let a = c.args in
-    both-put a.line a.entry a.out.now _ _ _ _ _ _ c.requires.value c.requires.in_bounds c.first_field.ensures c.second_field.ensures c.put_field-first.ensures c.put_field.ensures
+    both-put a.line a.self.content a.out.now _ _ _ _ _ _ a.self.in_form c.requires c.first_field.ensures c.second_field.ensures c.put_field-first.ensures c.put_field.ensures
 
 pub overflow_add-result : goal.overflow_add-result
 overflow_add-result c =
     let a = c.args in
-    let done = both-put a.line a.entry a.out.now _ _ _ _ _ _ c.requires.value c.requires.in_bounds c.first_field.ensures c.second_field.ensures c.put_field-first.ensures c.put_field.ensures in
+    let done = both-put a.line a.self.content a.out.now _ _ _ _ _ _ a.self.in_form c.requires c.first_field.ensures c.second_field.ensures c.put_field-first.ensures c.put_field.ensures in
     let h = put_inside _ _ _ _ done in
     record { fits = omega (arith, h.0, h.1, c.well_formed.1.1.0.0) }

@@ -8,8 +8,8 @@ use Rattle.digits.proofs.Room.{put_fits, put_inside, behind, put_after}
 use Rattle.lines.specs.Texts.{text_from}
 use Rattle.record.specs.declared.form.Record.{Record}
 use Rattle.entry.specs.Form.{line_text, entry_text}
-use Rattle.entry.proofs.writing.put_entry.Invariants.{Left}
-use Rattle.entry.proofs.writing.put_entry.Goals as goal
+use Rattle.entry.proofs.writing.Entry.put_lines.Invariants.{Left}
+use Rattle.entry.proofs.writing.Entry.put_lines.Goals as goal
 
 module _ (number : ℕ) (r : Record) (before out : List ℕ) (at line : ℕ) (left : Left number r before out at line) (h : line < 8)
     (room : length (entry_text number r) ≤ length before) where
@@ -51,12 +51,12 @@ pub overflow_add-at : goal.overflow_add-at
 overflow_add-at c =
     let l = c.loop-line in
     let a = c.args in
-    let more = one_more a.number a.entry a.out.now l.out l.at l.line l.invariant c.loop-line-test.true c.requires.in_bounds _ _ c.put_line-at.ensures in
+    let more = one_more a.self.number a.self.content a.out.now l.out l.at l.line l.invariant c.loop-line-test.true c.requires _ _ c.put_line-at.ensures in
     let inside = put_inside _ _ _ _ more.done in
-    record { fits = omega (arith, inside.0, inside.1, c.well_formed.1.1.0.0) }
+    record { fits = omega (arith, inside.0, inside.1, c.well_formed.1.0.0) }
 
 pub loop-line-preserved : goal.loop-line-preserved
 loop-line-preserved c =
     let l = c.loop-line in
     let a = c.args in
-    one_more a.number a.entry a.out.now l.out l.at l.line l.invariant c.loop-line-test.true c.requires.in_bounds _ _ c.put_line-at.ensures
+    one_more a.self.number a.self.content a.out.now l.out l.at l.line l.invariant c.loop-line-test.true c.requires _ _ c.put_line-at.ensures

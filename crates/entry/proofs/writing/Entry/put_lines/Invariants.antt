@@ -1,4 +1,4 @@
--- `entry::writing::put_entry` meets its contract. The loop's invariant: the lines before stand in the place, and with those left they are the entry.
+-- `entry::writing::Entry::put_lines` meets its contract. The loop's invariant: the lines before stand in the place, and with those left they are the entry.
 use mathlib.Core.Path.{◌≡◌}
 use mathlib.Core.List.{List, ◌++◌}
 use Prim.Native.Nat.{ℕ, ◌-◌}
@@ -6,7 +6,7 @@ use Rattle.digits.specs.Room.{laid, put}
 use Rattle.lines.specs.Texts.{text_from}
 use Rattle.record.specs.declared.form.Record.{Record}
 use Rattle.entry.specs.Form.{line_text, entry_text}
-use Rattle.entry.proofs.writing.put_entry.Given as goal
+use Rattle.entry.proofs.writing.Entry.put_lines.Given as goal
 
 -- what holds before a line is put
 pub record Left (number : ℕ) (r : Record) (before out : List ℕ) (at line : ℕ) : Type 0 where
@@ -15,4 +15,4 @@ pub record Left (number : ℕ) (r : Record) (before out : List ℕ) (at line : �
   pub done : laid at out ≡ put earlier before
 
 abbrev pub invariant-loop-line : goal.invariant-loop-line
-invariant-loop-line l = Left l.number l.entry l.initial.out l.out l.at l.line
+invariant-loop-line l = Left l.self.number l.self.content l.initial.out l.out l.at l.line
