@@ -6,7 +6,9 @@ use Prim.Native.Nat.{ℕ, ◌+◌, ◌-◌, ◌≤◌, ◌<◌}
 use native.Mathlib.Omega.{arith}
 use Rattle.std.proofs.Common.{Err}
 use lib.ListN.{length, take, drop, length-drop, length-append}
-use lib.Seq.{take_all}
+use lib.Seq.{take_all, drop-drop}
+use lib.Dec.{eqb}
+use borrow.Author.Tests.{eqb-false}
 use Rattle.answers.specs.Numbers.{number_of, is_done}
 use Rattle.digits.specs.Room.{laid, put}
 use Rattle.digits.proofs.Room.{put_fits}
@@ -28,6 +30,14 @@ few_bytes Forward = omega arith
 few_bytes Back = omega arith
 few_bytes (Import set) = omega arith
 few_bytes Export = omega arith
+
+-- a rest that is not empty has a byte
+pub some_left : (rest : List ℕ) → false ≡ eqb (length rest) 0 → 1 ≤ length rest
+some_left rest e = let some = eqb-false (length rest) 0 (sym e) in omega (arith, some)
+
+-- the rest behind so many bytes of it
+pub rest_on : (text rest : List ℕ) (at taken : ℕ) → rest ≡ drop at text → take (length rest - taken) (drop taken rest) ≡ drop (at + taken) text
+rest_on text rest at taken e = take_all (length rest - taken) (drop taken rest) (omega (arith, length-drop taken rest)) ∙ ap (drop taken) e ∙ drop-drop taken at text
 
 -- a refusal of a record, with the record's number
 abbrev named : ℕ → Moving → MovingAll
@@ -78,11 +88,7 @@ module _ (route : Route) (text : List ℕ) (counts : Counts route (length text))
 
   -- the record at this place was moved, or refused
   abbrev Moves : Moving → Type 0
-  Moves moving = move_leaves moving after ≡ move_call route (count + 1) (take (length text - at) (drop at text)) out
-
-  -- the part of the text from the place on is all of what is left
-  is : {moving : Moving} → Moves moving → move_leaves moving after ≡ move_call route (count + 1) rest out
-  is call = call ∙ ap (λ (part : List ℕ). move_call route (count + 1) part out) (take_all (length text - at) rest (omega (arith, length-drop at text)))
+  Moves moving = move_leaves moving after ≡ move_call route (count + 1) rest out
 
   -- a record that was moved stands there, with so many bytes
   pub turn_done : (taken written : ℕ) → Moves (moved_as taken written) → Turned route text at count before out after taken written
@@ -90,7 +96,7 @@ module _ (route : Route) (text : List ℕ) (counts : Counts route (length text))
   turn_done taken written call = go (ended route (count + 1) one rest out)
     where
       told : {l : MoveLeaves} → move_call route (count + 1) rest out ≡ l → true ≡ is_done l.outcome.answer
-      told m = ap (λ (l : MoveLeaves). is_done l.outcome.answer) (is call ∙ m)
+      told m = ap (λ (l : MoveLeaves). is_done l.outcome.answer) (call ∙ m)
 
       go : Ended route (count + 1) one rest out → Turned route text at count before out after taken written
       go (unknown k m) = absurd (true≢false (told m))
@@ -99,13 +105,13 @@ module _ (route : Route) (text : List ℕ) (counts : Counts route (length text))
       go (short d e h m) = absurd (true≢false (told m))
       go (done d e h m) =
           let reading = next route count rest in
-          let all : taken ≡ reading.taken = ap (λ (l : MoveLeaves). l.outcome.taken) (is call ∙ m) in
+          let all : taken ≡ reading.taken = ap (λ (l : MoveLeaves). l.outcome.taken) (call ∙ m) in
           record {
             next = text_by route (count + 1) reading.content;
             some = omega (arith, (next_is route count rest later d some_rest).some);
             left_over = rw all (left_on route text counts at count before left some_rest d e);
             room = h;
-            placed = ap (λ (l : MoveLeaves). laid l.outcome.written l.out) (is call ∙ m) ∙ sym (put_fits (text_by route (count + 1) reading.content) out h);
+            placed = ap (λ (l : MoveLeaves). laid l.outcome.written l.out) (call ∙ m) ∙ sym (put_fits (text_by route (count + 1) reading.content) out h);
           }
 
   -- a refusal is that of all records, with the record's number, where the place has room for the most bytes of a record
@@ -116,7 +122,7 @@ module _ (route : Route) (text : List ℕ) (counts : Counts route (length text))
       of_all : {l : MoveLeaves} → move_call route (count + 1) rest out ≡ l → (number_of l.outcome.answer ≡ 1 → ⊥) → (number_of l.outcome.answer ≡ 6 → ⊥)
           → moving_all_of (Err (of_record (count + 1) why)) ≡ named (count + 1) l.outcome
       of_all m h k =
-          let e = is call ∙ m in
+          let e = call ∙ m in
           let same = ap (λ (l : MoveLeaves). number_of l.outcome.answer) e in
           named_is (count + 1) why (λ z. h (sym same ∙ z)) (λ z. k (sym same ∙ z)) ∙ ap (λ (l : MoveLeaves). named (count + 1) l.outcome) e
 
@@ -127,7 +133,7 @@ module _ (route : Route) (text : List ℕ) (counts : Counts route (length text))
       go (short d e h m) =
           let reading = next route count rest in
           absurd (omega (arith, most route (count + 1) one reading.content ((next_is route count rest later d some_rest).spells, e), few_bytes route))
-      go (done d e h m) = absurd (false≢true (sym (refuses why) ∙ ap (λ (l : MoveLeaves). is_done l.outcome.answer) (is call ∙ m)))
+      go (done d e h m) = absurd (false≢true (sym (refuses why) ∙ ap (λ (l : MoveLeaves). is_done l.outcome.answer) (call ∙ m)))
 
   -- none is refused where all records can be moved and have room
   pub turn_whole : (why : Unmoved) → is_whole (moved_all route text) ≡ true → length (text_in (moved_all route text)) ≤ length before + length out → Moves (moving_of (Err why)) → ⊥
@@ -147,4 +153,4 @@ module _ (route : Route) (text : List ℕ) (counts : Counts route (length text))
                 (left_counts route text counts (at + reading.taken) (count + 1) (grows route count before reading) more) more.rest w,
             length-append before (text_by route (count + 1) reading.content),
           ))
-      go (done d e h m) = false≢true (sym (refuses why) ∙ ap (λ (l : MoveLeaves). is_done l.outcome.answer) (is call ∙ m))
+      go (done d e h m) = false≢true (sym (refuses why) ∙ ap (λ (l : MoveLeaves). is_done l.outcome.answer) (call ∙ m))

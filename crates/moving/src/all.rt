@@ -62,6 +62,7 @@ fn of_record(record: u64, refused: Unmoved) -> UnmovedAll
 }
 
 // What moving all records of a text comes to, and how many bytes they then have.
+#[tactic(auto, unfolding(crate::specs::Moves::moved_all))]
 fn measure(route: Route, text: &[u8]) -> Result<MovedAll, UnmovedAll>
     ensures { moving_all_of result ≡ summary (moved_all route text.now) }
 {
@@ -69,15 +70,15 @@ fn measure(route: Route, text: &[u8]) -> Result<MovedAll, UnmovedAll>
         return Err(UnmovedAll::UnknownSet);
     }
     let mut scratch = [0; 1706];
-    let mut at = 0;
+    let mut rest = text;
     let mut records = 0;
     let mut written = 0;
-    while at < text.len() {
+    while !rest.is_empty() {
         records += 1;
-        match one::move_record(route, records, &text[at..], &mut scratch) {
+        match one::move_record(route, records, rest, &mut scratch) {
             Ok(moved) => {
-                at += moved.taken;
                 written += moved.written;
+                rest = &rest[moved.taken..];
             }
             Err(refused) => return Err(of_record(records, refused)),
         }
@@ -91,18 +92,19 @@ fn put_all(route: Route, text: &[u8], out: &mut [u8])
     requires text_in_bounds { length (text_in (moved_all route text.now)) ≤ length out.old }
     ensures { out.new ≡ text_in (moved_all route text.now) ++ drop (length (text_in (moved_all route text.now))) out.old }
 {
-    let mut at = 0;
+    let mut rest = text;
     let mut end = 0;
     let mut number = 0;
-    while at < text.len() {
+    while !rest.is_empty() {
         number += 1;
-        let moved = one::move_record(route, number, &text[at..], &mut out[end..]).unwrap();
-        at += moved.taken;
+        let moved = one::move_record(route, number, rest, &mut out[end..]).unwrap();
+        rest = &rest[moved.taken..];
         end += moved.written;
     }
 }
 
 // Moves all records of a text, and writes them at the beginning of a place; where one is refused, or there is no room for all, nothing is written.
+#[tactic(auto, using(crate::proofs::Places::all_put), unfolding(crate::specs::Moves::move_all_call))]
 pub fn move_all(route: Route, text: &[u8], out: &mut [u8]) -> Result<MovedAll, UnmovedAll>
     ensures { all_leaves (moving_all_of result) out.new ≡ move_all_call route text.now out.old }
 {

@@ -12,7 +12,7 @@ use Rattle.moving.specs.declared.route.Route.{Route}
 use Rattle.moving.specs.declared.all.MovedAll.{MovedAll}
 use Rattle.moving.specs.declared.all.UnmovedAll.{UnmovedAll}
 use Rattle.moving.specs.Moves.{MovingAll, moving_all_of, moved_all, text_in, is_whole, all_by, all_leaves, summary, move_all_call}
-use Rattle.moving.proofs.Places.{refuses, all_stops, all_whole, all_refused, all_short, whole_length, all_put}
+use Rattle.moving.proofs.Places.{refuses, all_stops, all_whole, all_refused, all_short, whole_length}
 use Rattle.moving.proofs.all.move_all.Goals as goal
 
 -- what is measured, where a record is refused
@@ -41,16 +41,5 @@ returns-then-out-moved c =
     let none = none_refused a.route a.text.now _ c.in_ok-moved.ensures in
     all_short (moved_all a.route a.text.now) a.out.now none.0 (omega (arith, c.if-out-moved.true, none.1))
 
-pub put_all-requires : goal.put_all-requires
-put_all-requires c =
-    let none = none_refused c.args.route c.args.text.now _ c.in_ok-moved.ensures in
-    record { text_value = none.0; text_in_bounds = omega (arith, c.if-out-moved.false, none.1) }
-
-pub returns : goal.returns
-unfolding move_all_call
-returns c =
-    let a = c.args in
-    let none = none_refused a.route a.text.now _ c.in_ok-moved.ensures in
-    ap (λ (m : MovingAll). all_leaves m c.put_all.new.out) c.in_ok-moved.ensures
-    ∙ ap (all_leaves (summary (moved_all a.route a.text.now))) c.put_all.ensures
-    ∙ all_put (moved_all a.route a.text.now) a.out.now none.0 (omega (arith, c.if-out-moved.false, none.1))
+pub put_all-requires-clause-text_value : goal.put_all-requires-clause-text_value
+put_all-requires-clause-text_value c = (none_refused c.args.route c.args.text.now _ c.in_ok-moved.ensures).0

@@ -2,22 +2,24 @@
 -- to. The measure is the number of bytes left.
 use mathlib.Core.Path.{◌≡◌}
 use mathlib.Core.List.{List}
-use Prim.Native.Nat.{ℕ, ◌-◌, ◌≤◌}
-use lib.ListN.{length}
+use Prim.Native.Nat.{ℕ, ◌≤◌}
+use lib.ListN.{length, drop}
 use Rattle.digits.specs.Room.{laid, put}
 use Rattle.moving.specs.declared.route.Route.{Route}
 use Rattle.moving.proofs.Steps.{Left}
 use Rattle.moving.proofs.all.put_all.Given as goal
 
 -- what holds before a record is put
-pub record Placed (route : Route) (text before out : List ℕ) (at end number : ℕ) : Type 0 where
+pub record Placed (route : Route) (text before out rest : List ℕ) (end number : ℕ) : Type 0 where
+  pub at : ℕ
   pub earlier : List ℕ
   pub room : length earlier ≤ length before
   pub left : Left route text at number earlier
   pub done : laid end out ≡ put earlier before
+  pub rest_is : rest ≡ drop at text
 
-abbrev pub invariant-loop-at : goal.invariant-loop-at
-invariant-loop-at l = Placed l.route l.text l.initial.out l.out l.at l.end l.number
+abbrev pub invariant-loop-rest : goal.invariant-loop-rest
+invariant-loop-rest l = Placed l.route l.text l.initial.out l.out l.rest l.end l.number
 
-abbrev pub decreases-loop-at : goal.decreases-loop-at
-decreases-loop-at l = length l.text - l.at
+abbrev pub decreases-loop-rest : goal.decreases-loop-rest
+decreases-loop-rest l = length l.rest
