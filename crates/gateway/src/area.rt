@@ -1,10 +1,11 @@
 // The spelling of a stream's state in an area of 112 bytes: the words, the key, and the numbers, each word and number in eight bytes, high byte first.
-ghost use Rattle.std.specs.Prelude.{◌≡◌, ◌+◌, ◌*◌, ◌≤◌, length, take, drop, cond, leb};
+ghost use Rattle.std.specs.Prelude.{◌≡◌, [], ◌∷◌, ◌+◌, ◌*◌, ◌≤◌, length, take, drop, cond, leb};
 ghost use Rattle.std.specs.declared.option.Option.TheVariants.{Some, None};
 ghost use Rattle.permutation.specs.Strings.{string_of_words};
 ghost use Rattle.gateway.specs.Laying.{laid};
-ghost use Rattle.gateway.specs.Spelling.{state_length, phase_number, numbers_of, spelling, number_at, direction_of, phase_of, is_spelling, state_in};
+ghost use Rattle.gateway.specs.Spelling.{state_length, numbers_of, spelling, number_at, direction_of, phase_of, is_spelling, state_in};
 
+use std::array;
 use stream::{Direction, Phase, Stream};
 
 // The bytes of an area.
@@ -48,7 +49,7 @@ fn put_numbers(area: &mut [u8; LENGTH], at: usize, numbers: &[u64])
     }
 }
 
-// ---- directions and phases
+// ---- directions and phases, which are `stream`'s, so that no `TryFrom` can stand here
 
 // The direction of a number, which is up to 2.
 fn direction_of(number: u64) -> Option<Direction>
@@ -74,18 +75,14 @@ fn phase_of(number: u64) -> Option<Phase>
     }
 }
 
-// The number of a phase.
-fn phase_number(phase: Phase) -> u64
-    ensures { result ≡ phase_number phase }
-{
-    match phase {
-        Phase::Ad => 0,
-        Phase::Text => 1,
-        Phase::Ended => 2,
-    }
-}
-
 // ---- states
+
+// The words at the front of an area.
+fn words_in(area: &[u8; LENGTH]) -> [u64; 5]
+    ensures { result ≡ number_at area.now 0 ∷ number_at area.now 8 ∷ number_at area.now 16 ∷ number_at area.now 24 ∷ number_at area.now 32 ∷ [] }
+{
+    array::from_fn(|i| number_at(area, 8 * i))
+}
 
 // The state that an area spells, if it spells one.
 pub(crate) fn state_in(area: &[u8; LENGTH]) -> Option<Stream>
@@ -94,13 +91,7 @@ pub(crate) fn state_in(area: &[u8; LENGTH]) -> Option<Stream>
     let direction = direction_of(number_at(area, 64))?;
     let phase = phase_of(number_at(area, 72))?;
     Some(Stream {
-        words: [
-            number_at(area, 0),
-            number_at(area, 8),
-            number_at(area, 16),
-            number_at(area, 24),
-            number_at(area, 32),
-        ],
+        words: words_in(area),
         set: number_at(area, 56),
         direction,
         phase,
@@ -119,7 +110,7 @@ fn numbers_of(state: Stream) -> [u64; 7]
     [
         state.set,
         stream::rank(state.direction),
-        phase_number(state.phase),
+        state.phase as u64,
         state.ad as u64,
         state.text as u64,
         state.place as u64,

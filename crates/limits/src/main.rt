@@ -89,15 +89,6 @@ fn next_of(direction: Direction) -> Direction {
     }
 }
 
-// The number of a phase.
-fn phase_number(phase: Phase) -> u64 {
-    match phase {
-        Phase::Ad => 0,
-        Phase::Text => 1,
-        Phase::Ended => 2,
-    }
-}
-
 // ---- all that something holds, mixed
 
 // A number mixed in: the mixture turned left by 7 bits, and combined with it.
@@ -125,7 +116,7 @@ fn mixed_state(s: Stream) -> u64 {
             mixed_bytes(&s.key),
             s.set,
             stream::rank(s.direction),
-            phase_number(s.phase),
+            s.phase as u64,
             s.ad as u64,
             s.text as u64,
             s.place as u64,
@@ -344,7 +335,7 @@ fn state_of(direction: Direction, set: u64, phase: Phase, limit: u64, count: usi
 fn try_states(direction: Direction, set: u64, phase: Phase, limit: u64, bytes: &[u8]) {
     say(b"states direction=", stream::rank(direction));
     say(b" set=", set);
-    say(b" phase=", phase_number(phase));
+    say(b" phase=", phase as u64);
     say(b" limit=", limit);
     io::write_all(STDOUT_FILENO, b":");
     let counts = match phase {
