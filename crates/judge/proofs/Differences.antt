@@ -1,12 +1,13 @@
 -- The first difference of two texts: what it tells, and what it is where they begin alike.
 use mathlib.Core.Path.{◌≡◌, refl, sym, ap, subst, ◌∙◌}
-use mathlib.Core.Bool.{Bool, true, false, cond, true≢false}
+use mathlib.Core.Bool.{Bool, true, false, cond, not, ◌&&◌, true≢false}
 use mathlib.Core.List.{List, [], ◌∷◌, ◌++◌}
 use mathlib.Core.Logic.{◌↔◌}
 use mathlib.Core.Option.{Option, none, some, some-injective, none-ne-some}
 use Prim.Native.Nat.{ℕ, zero, suc, ◌≤◌, ◌<◌, max}
 use native.Mathlib.Omega.{arith}
 use lib.Dec.{eqb, leb}
+use lib.Pointwise.{pointwise}
 use lib.ListN.{length, get_elem?, drop}
 use borrow.Author.Tests.{eqb-true, eqb-false, eq-eqb, ne_eqb, leb-true, leb-false}
 use Rattle.std.specs.Prelude.{Some, None, is_some}
@@ -102,6 +103,18 @@ part_from [] [] = refl
 part_from [] (b ∷ found) = refl
 part_from (a ∷ wanted) [] = refl
 part_from (a ∷ wanted) (b ∷ found) = by_bytes (λ d. d.part ≡ drop d.place (b ∷ found)) a b wanted found (λ first. part_from wanted found) (λ other. refl)
+
+-- texts differ where they are not the same byte by byte
+pub not_same : (wanted found : List ℕ) → not (pointwise eqb wanted found) ≡ differ wanted found
+not_same [] [] = refl
+not_same [] (b ∷ found) = refl
+not_same (a ∷ wanted) [] = refl
+not_same (a ∷ wanted) (b ∷ found) = go (eqb a b) (not_same wanted found)
+  where
+    go : (t : Bool) → not (pointwise eqb wanted found) ≡ differ wanted found
+        → not (t && pointwise eqb wanted found) ≡ (cond t (further (first_difference wanted found)) (here true (b ∷ found))).differs
+    go true e = e
+    go false e = refl
 
 -- texts of which one goes on behind the place differ
 pub goes_on : (wanted found : List ℕ) → (first_difference wanted found).place < max (length wanted) (length found) → differ wanted found ≡ true

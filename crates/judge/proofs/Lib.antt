@@ -6,3 +6,5 @@ pub mod Windows
 pub mod Sizes
 pub mod Outputs
 pub mod Laws
+pub mod Ours
+pub mod Made

@@ -18,6 +18,7 @@ fn first_place(wanted: &[u8], found: &[u8]) -> usize
 }
 
 // Where two texts differ first, if they differ: their bytes differ there, or one has ended and the other has not.
+#[tactic(auto, using(crate::proofs::Differences::goes_on, crate::proofs::Differences::both_end))]
 pub fn first_difference(wanted: &[u8], found: &[u8]) -> Option<usize>
     ensures { result ≡ difference_of wanted.now found.now }
 {
@@ -30,6 +31,7 @@ pub fn first_difference(wanted: &[u8], found: &[u8]) -> Option<usize>
 }
 
 // The rest of the found text itself, from the first difference on; the empty end of the found text where that is the wanted text or a beginning of it.
+#[tactic(auto, using(crate::proofs::Differences::inside, crate::proofs::Differences::part_from))]
 pub fn difference_tail<'a>(wanted: &[u8], found: &'a [u8]) -> &'a [u8]
     ensures { part_of result ≡ difference_part wanted.now found.entry }
 {
@@ -61,6 +63,7 @@ pub(crate) fn held(field: &Field) -> &[u8]
 }
 
 // Whether the bytes that two fields hold differ.
+#[tactic(auto, using(crate::proofs::Differences::not_same))]
 pub fn fields_differ(wanted: Field, found: Field) -> bool
     ensures { result ≡ differ (held wanted) (held found) }
 {

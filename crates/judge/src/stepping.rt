@@ -31,6 +31,7 @@ pub enum Step {
 }
 
 // The verdict on what was read.
+#[tactic(auto, unfolding(crate::specs::Steps::verdict_read, record::specs::Calls::read_as, record::specs::Calls::refused_at))]
 fn verdict_on(reading: Result<Read<Record>, Unread>) -> Verdict
     ensures { result ≡ verdict_read (reading_of reading) }
 {
@@ -41,6 +42,7 @@ fn verdict_on(reading: Result<Read<Record>, Unread>) -> Verdict
 }
 
 // Whether a text only ended too early, so that more of it can make a record.
+#[tactic(auto, unfolding(record::specs::Calls::read_as, record::specs::Calls::refused_at))]
 fn is_early(reading: Result<Read<Record>, Unread>) -> bool
     ensures { result ≡ (reading_of reading).early }
 {
@@ -48,6 +50,7 @@ fn is_early(reading: Result<Read<Record>, Unread>) -> bool
 }
 
 // The report on what was read.
+#[tactic(auto, using(crate::proofs::Made::by_report), unfolding(record::specs::Calls::read_as, record::specs::Calls::refused_at))]
 fn report_on(reading: Result<Read<Record>, Unread>, number: u64, out: &mut [u8]) -> Step
     ensures { step_leaves result out.new ≡ step_by (reading_of reading) number out.old (report_choices (reading_of reading) number (length out.old)) }
 {
@@ -71,6 +74,7 @@ fn report_on(reading: Result<Read<Record>, Unread>, number: u64, out: &mut [u8])
 
 // Judges the record that a window of the input begins with, where the window tells enough, and puts the report at the beginning of a place. `ended` says that the
 // window is all that is left of the input.
+#[tactic(auto, unfolding(crate::specs::Steps::step_call, crate::specs::Steps::step_by))]
 pub fn judge_window(window: &[u8], ended: bool, number: u64, out: &mut [u8]) -> Step
     ensures { step_leaves result out.new ≡ step_call window.now ended number out.old }
 {

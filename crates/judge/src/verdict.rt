@@ -55,6 +55,7 @@ fn seal_record(entry: Record) -> Ours
 }
 
 // The verdict on a record.
+#[tactic(auto, using(crate::proofs::Ours::our_rounds_are, crate::proofs::Ours::our_cipher_is, crate::proofs::Ours::our_tag_is, record::proofs::Written::none_found, record::proofs::Written::found_line), unfolding(crate::specs::Verdicts::verdict_on))]
 pub fn judge(entry: Record) -> Verdict
     ensures { result ≡ verdict_on entry }
 {

@@ -6,18 +6,12 @@ use native.Mathlib.Omega.{arith}
 use lib.ListN.{length, take, drop, length-drop}
 use lib.Seq.{take_all}
 use Rattle.judge.specs.Difference.{first_difference}
-use Rattle.judge.proofs.Differences.{inside, part_from}
+use Rattle.judge.proofs.Differences.{part_from}
 use Rattle.judge.proofs.difference.difference_tail.Goals as goal
 
 -- what stands from a place to the end is what is left
 to_end : (x : List ℕ) (i : ℕ) → take (length x - i) (drop i x) ≡ drop i x
 to_end x i = take_all (length x - i) (drop i x) (omega (arith, length-drop i x))
-
-pub slice_bounds-result-count : goal.slice_bounds-result-count
-slice_bounds-result-count c = omega (arith, c.first_place.ensures, (inside c.args.wanted.now c.args.found.now).1)
-
-pub slice_bounds-result-start : goal.slice_bounds-result-start
-slice_bounds-result-start c = omega (arith, c.first_place.ensures, (inside c.args.wanted.now c.args.found.now).1)
 
 pub returns : goal.returns
 returns c =
