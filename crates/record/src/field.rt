@@ -1,7 +1,7 @@
 // A field: up to 256 bytes, with zeros behind them.
-ghost use Rattle.std.specs.Prelude.{◌≡◌, []};
+ghost use Rattle.std.specs.Prelude.{◌≡◌, ◌≤◌, []};
 ghost use Rattle.digits.specs.Hex.{from_hex_in};
-ghost use Rattle.record.specs.Form.{field_of, is_field};
+ghost use Rattle.record.specs.Form.{field_of, held, is_field};
 ghost use Rattle.record.specs.Calls.{fitted};
 
 use digits::Case;
@@ -14,23 +14,33 @@ pub struct Field {
     pub size: usize,
 }
 
-// A field with no bytes.
-#[tactic(auto, unfolding(crate::specs::Form::field_of))]
-pub(crate) fn no_field() -> Field
-    ensures { result ≡ field_of [] }
-{
-    Field {
-        bytes: [0; 256],
-        size: 0,
+impl Field {
+    // A field with no bytes.
+    #[tactic(auto, unfolding(crate::specs::Form::field_of))]
+    pub(crate) fn empty() -> Field
+        ensures { result ≡ field_of [] }
+    {
+        Field {
+            bytes: [0; 256],
+            size: 0,
+        }
     }
-}
 
-// Whether a field has at most 256 bytes, and zeros in every place past them.
-#[tactic(auto, unfolding(crate::specs::Form::is_field))]
-pub(crate) fn is_field(field: Field) -> bool
-    ensures { result ≡ is_field field }
-{
-    field.size <= 256 && field.bytes[field.size..] == [0; 256][field.size..]
+    // The bytes that a field holds.
+    pub(crate) fn held(&self) -> &[u8]
+        requires { self.now.size ≤ 256 }
+        ensures { result.now ≡ held self.now }
+    {
+        &self.bytes[..self.size]
+    }
+
+    // Whether a field has at most 256 bytes, and zeros in every place past them.
+    #[tactic(auto, unfolding(crate::specs::Form::is_field))]
+    pub(crate) fn is_in_form(&self) -> bool
+        ensures { result ≡ is_field self.now }
+    {
+        self.size <= 256 && self.bytes[self.size..].iter().all(|&b| b == 0)
+    }
 }
 
 // The field of digits, two a byte; the empty one where they are no bytes, or more than 256.
@@ -39,12 +49,12 @@ pub fn read_field(case: Case, text: &[u8]) -> Field
 {
     let size = text.len() / 2;
     if 256 < size || text.len() % 2 != 0 {
-        return no_field();
+        return Field::empty();
     }
     let mut bytes = [0; 256];
     for i in 0..size {
         let Ok(b) = digits::read_pair(case, text[2 * i], text[2 * i + 1]) else {
-            return no_field();
+            return Field::empty();
         };
         bytes[i] = b;
     }

@@ -5,7 +5,6 @@ ghost use Rattle.record.specs.Form.{part_at, lines_in, number_at, field_at, with
 ghost use Rattle.record.specs.Text.{name, kind_of};
 ghost use Rattle.record.specs.Calls.{line_found};
 
-use crate::field;
 use crate::field::Field;
 use digits::Case;
 use lines::{Kind, Name, Value};
@@ -32,25 +31,133 @@ pub struct Record {
     pub rounds: u64,
 }
 
-// How many lines a form has.
-pub(crate) fn lines_in(form: Form) -> usize
-    ensures { result ≡ lines_in form }
-{
-    match form {
-        Form::One => 8,
-        Form::Two => 10,
+impl Form {
+    // How many lines a form has.
+    pub(crate) fn lines(self) -> usize
+        ensures { result ≡ lines_in self }
+    {
+        match self {
+            Form::One => 8,
+            Form::Two => 10,
+        }
+    }
+
+    // The part of a record that stands in a line of a form. A part is named by its line in form 2: the definitions (`part_at`, `keeps`) speak of parts by this number.
+    pub(crate) fn part_at(self, line: usize) -> usize
+        requires { line ≤ 10 }
+        ensures { result ≡ part_at self line }
+    {
+        match self {
+            Form::One if line == 1 => 2,
+            Form::One => line + 2,
+            Form::Two => line,
+        }
+    }
+
+    // Whether a form has no line for the chip, and the chip is another than 0.
+    pub(crate) fn loses_chip(self, entry: &Record) -> bool
+        ensures { result ≡ loses_chip self entry.now }
+    {
+        match self {
+            Form::One => entry.chip != 0,
+            Form::Two => false,
+        }
     }
 }
 
-// The part of a record that stands in a line of a form. A part is named by its line in form 2: the definitions (`part_at`, `keeps`) speak of parts by this number.
-pub(crate) fn part_at(form: Form, line: usize) -> usize
-    requires { line ≤ 10 }
-    ensures { result ≡ part_at form line }
-{
-    match form {
-        Form::One if line == 1 => 2,
-        Form::One => line + 2,
-        Form::Two => line,
+impl Record {
+    // The record of zeros.
+    #[tactic(auto, unfolding(crate::specs::Form::blank))]
+    pub(crate) fn blank() -> Record
+        ensures { result ≡ blank }
+    {
+        let none = Field::empty();
+        Record {
+            set: 0,
+            chip: 0,
+            key: none,
+            nonce: none,
+            ad: none,
+            text: none,
+            cipher: none,
+            tag: none,
+            rounds: 0,
+        }
+    }
+
+    // The number of a part that holds one: the set, the chip or the rounds.
+    pub(crate) fn number_at(&self, part: usize) -> u64
+        ensures { result ≡ number_at part self.now }
+    {
+        match part {
+            2 => self.set,
+            3 => self.chip,
+            _ => self.rounds,
+        }
+    }
+
+    // The bytes of a part that holds some.
+    pub(crate) fn field_at(&self, part: usize) -> &Field
+        ensures { result.now ≡ field_at part self.now }
+    {
+        match part {
+            5 => &self.nonce,
+            6 => &self.ad,
+            7 => &self.text,
+            8 => &self.cipher,
+            9 => &self.tag,
+            _ => &self.key,
+        }
+    }
+
+    // A record with another number in a part.
+    #[tactic(auto, unfolding(crate::specs::Form::with_number))]
+    pub(crate) fn with_number(self, part: usize, n: u64) -> Record
+        ensures { result ≡ with_number part n self }
+    {
+        match part {
+            2 => Record { set: n, ..self },
+            3 => Record { chip: n, ..self },
+            10 => Record { rounds: n, ..self },
+            _ => self,
+        }
+    }
+
+    // A record with other bytes in a part.
+    #[tactic(auto, unfolding(crate::specs::Form::with_field))]
+    pub(crate) fn with_field(self, part: usize, field: Field) -> Record
+        ensures { result ≡ with_field part field self }
+    {
+        match part {
+            4 => Record { key: field, ..self },
+            5 => Record {
+                nonce: field,
+                ..self
+            },
+            6 => Record { ad: field, ..self },
+            7 => Record {
+                text: field,
+                ..self
+            },
+            8 => Record {
+                cipher: field,
+                ..self
+            },
+            9 => Record { tag: field, ..self },
+            _ => self,
+        }
+    }
+
+    // Whether a part holds what it may.
+    #[tactic(auto, unfolding(crate::specs::Form::keeps))]
+    pub(crate) fn keeps_rule(&self, part: usize) -> bool
+        ensures { result ≡ keeps part self.now }
+    {
+        is_allowed(
+            value_of(part, self.set),
+            self.number_at(part),
+            self.field_at(part),
+        )
     }
 }
 
@@ -69,95 +176,6 @@ pub(crate) fn name_of(part: usize) -> Name
         9 => lines::named(b"tag="),
         10 => lines::named(b"rounds="),
         _ => lines::named(b"form=2"),
-    }
-}
-
-// The number of a part that holds one: the set, the chip or the rounds.
-pub(crate) fn number_at(part: usize, entry: Record) -> u64
-    ensures { result ≡ number_at part entry }
-{
-    match part {
-        2 => entry.set,
-        3 => entry.chip,
-        _ => entry.rounds,
-    }
-}
-
-// The bytes of a part that holds some.
-pub(crate) fn field_at(part: usize, entry: Record) -> Field
-    ensures value { result ≡ field_at part entry }
-    ensures bytes_len { length result.bytes ≡ 256 }
-{
-    match part {
-        5 => entry.nonce,
-        6 => entry.ad,
-        7 => entry.text,
-        8 => entry.cipher,
-        9 => entry.tag,
-        _ => entry.key,
-    }
-}
-
-// A record with another number in a part.
-#[tactic(auto, unfolding(crate::specs::Form::with_number))]
-pub(crate) fn with_number(part: usize, entry: Record, n: u64) -> Record
-    ensures { result ≡ with_number part n entry }
-{
-    match part {
-        2 => Record { set: n, ..entry },
-        3 => Record { chip: n, ..entry },
-        10 => Record { rounds: n, ..entry },
-        _ => entry,
-    }
-}
-
-// A record with other bytes in a part.
-#[tactic(auto, unfolding(crate::specs::Form::with_field))]
-pub(crate) fn with_field(part: usize, entry: Record, field: Field) -> Record
-    ensures { result ≡ with_field part field entry }
-{
-    match part {
-        4 => Record {
-            key: field,
-            ..entry
-        },
-        5 => Record {
-            nonce: field,
-            ..entry
-        },
-        6 => Record { ad: field, ..entry },
-        7 => Record {
-            text: field,
-            ..entry
-        },
-        8 => Record {
-            cipher: field,
-            ..entry
-        },
-        9 => Record {
-            tag: field,
-            ..entry
-        },
-        _ => entry,
-    }
-}
-
-// The record of zeros.
-#[tactic(auto, unfolding(crate::specs::Form::blank))]
-pub(crate) fn no_record() -> Record
-    ensures { result ≡ blank }
-{
-    let none = field::no_field();
-    Record {
-        set: 0,
-        chip: 0,
-        key: none,
-        nonce: none,
-        ad: none,
-        text: none,
-        cipher: none,
-        tag: none,
-        rounds: 0,
     }
 }
 
@@ -190,56 +208,29 @@ pub(crate) fn kind_of(part: usize, set: u64) -> Kind
     }
 }
 
-// Whether a number lies between two.
-fn is_between(least: u64, most: u64, n: u64) -> bool
-    ensures { result ≡ (leb least n && leb n most) }
-{
-    least <= n && n <= most
-}
-
 // Whether a number or a field is what may be held.
-fn is_allowed(value: Value, n: u64, field: Field) -> bool
-    ensures { result ≡ allows value n field }
+fn is_allowed(value: Value, n: u64, field: &Field) -> bool
+    ensures { result ≡ allows value n field.now }
 {
     match value {
         Value::Fixed(_) => true,
-        Value::Number(least, most) => is_between(least, most, n),
+        Value::Number(least, most) => least <= n && n <= most,
         Value::Bytes(least, most, _) => {
-            field::is_field(field) && is_between(least as u64, most as u64, field.size as u64)
+            field.is_in_form()
+                && usize::from(least) <= field.size
+                && field.size <= usize::from(most)
         }
     }
-}
-
-// Whether a part holds what it may.
-#[tactic(auto, unfolding(crate::specs::Form::keeps))]
-pub(crate) fn keeps_rule(part: usize, entry: Record) -> bool
-    ensures { result ≡ keeps part entry }
-{
-    is_allowed(
-        value_of(part, entry.set),
-        number_at(part, entry),
-        field_at(part, entry),
-    )
 }
 
 // The first line of a record in a form that breaks its rule, if one does.
 pub fn first_broken(form: Form, entry: Record) -> Option<usize>
     ensures { result ≡ line_found (broken form entry) }
 {
-    for line in 1..=lines_in(form) {
-        if !keeps_rule(part_at(form, line), entry) {
+    for line in 1..=form.lines() {
+        if !entry.keeps_rule(form.part_at(line)) {
             return Some(line);
         }
     }
     None
-}
-
-// Whether a form has no line for the chip, and the chip is another than 0.
-pub(crate) fn loses_chip(form: Form, entry: Record) -> bool
-    ensures { result ≡ loses_chip form entry }
-{
-    match form {
-        Form::One => entry.chip != 0,
-        Form::Two => false,
-    }
 }

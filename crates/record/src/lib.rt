@@ -5,6 +5,7 @@
 mod field;
 mod form;
 mod outcome;
+mod part;
 mod reading;
 mod writing;
 

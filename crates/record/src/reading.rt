@@ -14,8 +14,8 @@ fn with_value(part: usize, entry: Record, number: u64, digits: &[u8]) -> Record
 {
     match form::value_of(part, entry.set) {
         Value::Fixed(_) => entry,
-        Value::Number(_, _) => form::with_number(part, entry, number),
-        Value::Bytes(_, _, case) => form::with_field(part, entry, field::read_field(case, digits)),
+        Value::Number(_, _) => entry.with_number(part, number),
+        Value::Bytes(_, _, case) => entry.with_field(part, field::read_field(case, digits)),
     }
 }
 
@@ -23,30 +23,20 @@ fn with_value(part: usize, entry: Record, number: u64, digits: &[u8]) -> Record
 pub fn read(form: Form, text: &[u8]) -> Result<Read<Record>, Unread>
     ensures { reading_of result ≡ read_call form text.now }
 {
-    let mut content = form::no_record();
+    let mut content = Record::blank();
     let mut taken = 0;
-    for line in 1..=form::lines_in(form) {
-        let part = form::part_at(form, line);
+    for line in 1..=form.lines() {
+        let part = form.part_at(line);
         let kind = form::kind_of(part, content.set);
         let rest = &text[taken..];
-        match lines::read(kind, rest) {
-            Ok(found) => {
-                content = with_value(
-                    part,
-                    content,
-                    found.number,
-                    &rest[kind.name.size..found.size - 1],
-                );
-                taken += found.size;
-            }
-            Err(stopped) => {
-                return Err(Unread {
-                    line,
-                    column: stopped.column,
-                    early: rest.len() < stopped.column,
-                });
-            }
-        }
+        let found = lines::read(kind, rest).map_err(|stopped| Unread {
+            line,
+            column: stopped.column,
+            early: rest.len() < stopped.column,
+        })?;
+        let digits = &rest[kind.name.size..found.size - 1];
+        content = with_value(part, content, found.number, digits);
+        taken += found.size;
     }
     Ok(Read { content, taken })
 }

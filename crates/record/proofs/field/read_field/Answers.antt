@@ -66,7 +66,7 @@ returns-then-size-gt256 c =
       | then-size-gt256-via-then-size-gt256 w ↦ λ n e. omega (arith, e, w.if-size-gt256.true)
       | then-size-gt256-via-else-size-gt256+then-text-ne0 w ↦ λ n e. omega (arith, e, w.if-text-ne0.true)
     ] in
-    c.no_field.ensures ∙ no_field c.args.case c.args.text.now many
+    c.empty.ensures ∙ no_field c.args.case c.args.text.now many
 
 pub loop-i-init : goal.loop-i-init
 loop-i-init c = record { done = []; sized = refl; holds = refl; rest = start (from_hex_in c.args.case c.args.text.now) }

@@ -30,7 +30,7 @@ turn c =
     let l = c.loop-line in
     let a = c.args in
     rw (c.keeps_rule.ensures ∙ ap (λ (part : ℕ). keeps part a.entry) c.part_at.ensures)
-    (sym (one_line a.form a.entry l.line (omega (arith, c.lines_in-line-end.ensures, c.loop-line-test.true))) ∙ l.invariant)
+    (sym (one_line a.form a.entry l.line (omega (arith, c.lines-line-end.ensures, c.loop-line-test.true))) ∙ l.invariant)
 
 pub loop-line-init : goal.loop-line-init
 unfolding broken
@@ -52,11 +52,11 @@ returns-then-not-keeps_rule c =
 pub returns : goal.returns
 returns c =
     let some : 1 ≤ lines_in c.args.form = search rules in
-    absurd (omega (arith, some, c.lines_in-line-end.ensures, c.loop-line.auto.line-end, c.loop-line-test.false))
+    absurd (omega (arith, some, c.lines-line-end.ensures, c.loop-line.auto.line-end, c.loop-line-test.false))
 
 pub returns-else-not-keeps_rule : goal.returns-else-not-keeps_rule
 returns-else-not-keeps_rule c =
     let a = c.args in
     let t = turn (goal.at.returns-else-not-keeps_rule c).After-keeps_rule in
-    let last : lines_in a.form + 1 - (c.loop-line.line + 1) ≡ 0 = omega (arith, c.lines_in-line-end.ensures) in
+    let last : lines_in a.form + 1 - (c.loop-line.line + 1) ≡ 0 = omega (arith, c.lines-line-end.ensures) in
     ap line_found (sym (ap (λ (k : ℕ). broken_from a.form k (c.loop-line.line + 1) a.entry) last) ∙ rw (c.if-not-keeps_rule.false) at t)

@@ -6,22 +6,25 @@ use native.Mathlib.Omega.{arith}
 use lib.Dec.{ltb}
 use lib.ListN.{length, take, drop, length-drop}
 use lib.Seq.{take_all, length-take-le}
-use Rattle.std.specs.Prelude.{Ok, Err}
+use Rattle.std.specs.Prelude.{Result, Ok, Err, MatchResult}
+use Rattle.std.proofs.Common.{rules}
 use Rattle.lines.specs.declared.kinds.Kind.{Kind}
 use Rattle.lines.specs.declared.walk.Line.{Line}
 use Rattle.lines.specs.Steps.{Found, read_of}
 use Rattle.lines.specs.Laws.{FoundIn}
 use Rattle.lines.specs.Tables.{broken_at, go_on, lines_from}
 use Rattle.lines.proofs.Values.{line_size, value_there}
+use Rattle.record.specs.declared.outcome.Read.{Read}
+use Rattle.record.specs.declared.outcome.Unread.{Unread}
 use Rattle.record.specs.declared.form.Form.{Form}
 use Rattle.record.specs.declared.form.Record.{Record}
 use Rattle.record.specs.Form.{part_at, lines_in}
 use Rattle.record.specs.Text.{kind_of}
-use Rattle.record.specs.Calls.{with_value, read_at, given, answered, read_call}
+use Rattle.record.specs.Calls.{with_value, read_at, given, lines_of, answered, reading_of, read_call}
 use Rattle.record.proofs.Table.{fit_kind, right_at, told}
 use Rattle.record.proofs.reading.read.Invariants.{from, Left}
 use Rattle.record.proofs.reading.read.Goals as goal
-use Rattle.record.proofs.reading.read.Goals.{In-Ok, After-with_value-content}
+use Rattle.record.proofs.reading.read.Goals.{In_ok-found, After-with_value-content}
 
 -- a line, and those behind it
 one_line : (form : Form) (line at : ℕ) (r : Record) (text : List ℕ) → line ≤ lines_in form → (f : Found) → read_at form line r (drop at text) ≡ f
@@ -67,28 +70,41 @@ found_there : (form : Form) (text : List ℕ) (line at : ℕ) (r : Record) (part
 found_there form text line at r part kind found part-is kind-is e =
     ap₂ read_of (sym (kind-is ∙ ap (λ (k : ℕ). kind_of k r.set) part-is)) (sym (from-there text at)) ∙ sym e
 
+-- a line that was not read is the broken one
+refused : (form : Form) (text : List ℕ) (line at : ℕ) (r : Record) (found : Found) (result : Result (Read Record) Unread) → line ≤ lines_in form → Left form text r at line
+    → read_at form line r (drop at text) ≡ found
+    → MatchResult found (λ _. ⊥) (λ s. result ≡ Err (record { line = line; column = s.column; early = ltb (length (take (length text - at) (drop at text))) s.column }))
+    → reading_of result ≡ answered (lines_of form (lines_in form) text)
+refused form text line at r (Ok l) result h left e told = absurd told
+refused form text line at r (Err s) result h left e told =
+    ap reading_of told
+    ∙ ap (λ (x : List ℕ). answered (broken_at line s.column (ltb (length x) s.column))) (from-there text at)
+    ∙ ap answered (sym (one_line form line at r text h (Err s) e) ∙ left.rest)
+
 -- the parts of a line that was read
-parts : (c : In-Ok) → let a = c.args in
+parts : (c : In_ok-found) → let a = c.args in
     let l = c.loop-line in
-    Passed a.form l.line l.content (drop l.taken a.text.now) c.kind_of-kind.result c.part_at-part.result c.in-Ok.found
+    Passed a.form l.line-counter l.content (drop l.taken a.text.now) c.kind_of-kind.result c.part_at-part.result c.in_ok-found.found
 parts c =
     let a = c.args in
     let l = c.loop-line in
-    let found = found_there a.form a.text.now l.line l.taken l.content _ _ _ c.part_at-part.ensures c.kind_of-kind.ensures c.read.ensures in
-    passed_line a.form l.line l.content (drop l.taken a.text.now) _ _ _ c.part_at-part.ensures c.kind_of-kind.ensures (found ∙ c.in-Ok.is)
+    let read : c.read.result ≡ Ok c.in_ok-found.found = search rules in
+    let there = found_there a.form a.text.now l.line-counter l.taken l.content _ _ _ c.part_at-part.ensures c.kind_of-kind.ensures c.read.ensures ∙ read in
+    passed_line a.form l.line-counter l.content (drop l.taken a.text.now) _ _ _ c.part_at-part.ensures c.kind_of-kind.ensures there
 
 -- the lines behind one that was read, from the record that it gave
 read-on : (c : After-with_value-content) → let a = c.args in
     let l = c.loop-line in
-    Passed a.form l.line l.content (drop l.taken a.text.now) c.kind_of-kind.result c.part_at-part.result c.in-Ok.found
-    → Left a.form a.text.now c.with_value-content.result (l.taken + c.in-Ok.found.size) (l.line + 1)
+    Passed a.form l.line-counter l.content (drop l.taken a.text.now) c.kind_of-kind.result c.part_at-part.result c.in_ok-found.found
+    → Left a.form a.text.now c.with_value-content.result (l.taken + c.in_ok-found.found.size) (l.line-counter + 1)
 read-on c p =
     let a = c.args in
     let l = c.loop-line in
-    let found : Line = c.in-Ok.found in
+    let found : Line = c.in_ok-found.found in
     let rest : List ℕ = drop l.taken a.text.now in
-    let there = found_there a.form a.text.now l.line l.taken l.content _ _ _ c.part_at-part.ensures c.kind_of-kind.ensures c.read.ensures ∙ c.in-Ok.is in
-    let given-is : given a.form l.line l.content found.number (take found.size rest) ≡ c.with_value-content.result =
+    let read : c.read.result ≡ Ok found = search rules in
+    let there = found_there a.form a.text.now l.line-counter l.taken l.content _ _ _ c.part_at-part.ensures c.kind_of-kind.ensures c.read.ensures ∙ read in
+    let given-is : given a.form l.line-counter l.content found.number (take found.size rest) ≡ c.with_value-content.result =
     p.gives
     ∙ ap (λ (x : List ℕ). with_value c.part_at-part.result l.content found.number (take (found.size - 1 - c.kind_of-kind.result.name.size) (drop c.kind_of-kind.result.name.size x)))
     (sym (from-there a.text.now l.taken))
@@ -96,47 +112,48 @@ read-on c p =
     record {
       inside = omega (arith, p.inside, length-drop l.taken a.text.now, l.invariant.inside);
       rest =
-          ap (λ (r : Record). from a.form (l.line + 1) (l.taken + found.size) r a.text.now) (sym given-is)
-          ∙ sym (one_line a.form l.line l.taken l.content a.text.now (omega (arith, c.lines_in-line-end.ensures)) (Ok found) there)
+          ap (λ (r : Record). from a.form (l.line-counter + 1) (l.taken + found.size) r a.text.now) (sym given-is)
+          ∙ sym (one_line a.form l.line-counter l.taken l.content a.text.now (omega (arith, c.lines-line-end.ensures)) (Ok found) there)
           ∙ l.invariant.rest;
     }
 
-pub overflow_sub-found : goal.overflow_sub-found
-overflow_sub-found c = omega (arith, (parts (goal.at.overflow_sub-found c).In-Ok).long)
+pub returns-in_err-found : goal.returns-in_err-found
+unfolding read_call
+returns-in_err-found c =
+    let a = c.args in
+    let l = c.loop-line in
+    let told : MatchResult c.read.result (λ _. ⊥)
+    (λ s. c.from_residual.result
+    ≡ Err (record { line = l.line-counter; column = s.column; early = ltb (length (take (length a.text.now - l.taken) (drop l.taken a.text.now))) s.column })) = search rules in
+    refused a.form a.text.now l.line-counter l.taken l.content _ _ (omega (arith, c.lines-line-end.ensures)) l.invariant
+    (found_there a.form a.text.now l.line-counter l.taken l.content _ _ _ c.part_at-part.ensures c.kind_of-kind.ensures c.read.ensures) told
 
-pub slice_bounds-with_value-count : goal.slice_bounds-with_value-count
-slice_bounds-with_value-count c = omega (arith, (parts (goal.at.slice_bounds-with_value-count c).In-Ok).long)
+pub overflow_sub-digits : goal.overflow_sub-digits
+overflow_sub-digits c = omega (arith, (parts (goal.at.overflow_sub-digits c).In_ok-found).long)
 
-pub slice_bounds-with_value-start : goal.slice_bounds-with_value-start
-slice_bounds-with_value-start c = let p = parts (goal.at.slice_bounds-with_value-start c).In-Ok in omega (arith, p.long, p.inside)
+pub slice_bounds-digits-count : goal.slice_bounds-digits-count
+slice_bounds-digits-count c = omega (arith, (parts (goal.at.slice_bounds-digits-count c).In_ok-found).long)
 
-pub slice_bounds-with_value-end : goal.slice_bounds-with_value-end
-slice_bounds-with_value-end c = let p = parts (goal.at.slice_bounds-with_value-end c).In-Ok in omega (arith, p.long, p.inside, length-drop c.loop-line.taken c.args.text.now)
+pub slice_bounds-digits-start : goal.slice_bounds-digits-start
+slice_bounds-digits-start c = let p = parts (goal.at.slice_bounds-digits-start c).In_ok-found in omega (arith, p.long, p.inside)
+
+pub slice_bounds-digits-end : goal.slice_bounds-digits-end
+slice_bounds-digits-end c = let p = parts (goal.at.slice_bounds-digits-end c).In_ok-found in omega (arith, p.long, p.inside, length-drop c.loop-line.taken c.args.text.now)
 
 pub overflow_add-taken : goal.overflow_add-taken
 overflow_add-taken c =
-    let left = read-on (goal.at.overflow_add-taken c).After-with_value-content (parts (goal.at.overflow_add-taken c).In-Ok) in
+    let left = read-on (goal.at.overflow_add-taken c).After-with_value-content (parts (goal.at.overflow_add-taken c).In_ok-found) in
     record { fits = omega (arith, left.inside, c.well_formed) }
 
-pub returns-in-Err : goal.returns-in-Err
-unfolding read_call
-returns-in-Err c =
-    let a = c.args in
-    let l = c.loop-line in
-    let found = found_there a.form a.text.now l.line l.taken l.content _ _ _ c.part_at-part.ensures c.kind_of-kind.ensures c.read.ensures ∙ c.in-Err.is in
-    ap (λ (x : List ℕ). answered (broken_at l.line c.in-Err.stopped.column (ltb (length x) c.in-Err.stopped.column))) (from-there a.text.now l.taken)
-    ∙ ap answered
-    (sym (one_line a.form l.line l.taken l.content a.text.now (omega (arith, c.lines_in-line-end.ensures)) (Err c.in-Err.stopped) found)
-    ∙ l.invariant.rest)
-
 pub loop-line-preserved : goal.loop-line-preserved
-loop-line-preserved c = read-on (goal.at.loop-line-preserved c).After-with_value-content (parts (goal.at.loop-line-preserved c).In-Ok)
+loop-line-preserved c = read-on (goal.at.loop-line-preserved c).After-with_value-content (parts (goal.at.loop-line-preserved c).In_ok-found)
 
-pub returns-in-Ok : goal.returns-in-Ok
+pub returns-in_ok-found : goal.returns-in_ok-found
 unfolding read_call
-returns-in-Ok c =
+returns-in_ok-found c =
     let a = c.args in
     let l = c.loop-line in
-    let left = read-on (goal.at.returns-in-Ok c).After-with_value-content (parts (goal.at.returns-in-Ok c).In-Ok) in
-    let last : lines_in a.form + 1 - (l.line + 1) ≡ 0 = omega (arith, c.lines_in-line-end.ensures) in
-    ap answered (ap (λ (k : ℕ). lines_from (read_at a.form) (given a.form) k (l.line + 1) (l.taken + c.in-Ok.found.size) c.with_value-content.result a.text.now) (sym last) ∙ left.rest)
+    let left = read-on (goal.at.returns-in_ok-found c).After-with_value-content (parts (goal.at.returns-in_ok-found c).In_ok-found) in
+    let last : lines_in a.form + 1 - (l.line-counter + 1) ≡ 0 = omega (arith, c.lines-line-end.ensures) in
+    ap answered
+    (ap (λ (k : ℕ). lines_from (read_at a.form) (given a.form) k (l.line-counter + 1) (l.taken + c.in_ok-found.found.size) c.with_value-content.result a.text.now) (sym last) ∙ left.rest)

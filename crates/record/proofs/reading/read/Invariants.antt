@@ -20,4 +20,4 @@ pub record Left (form : Form) (text : List ℕ) (r : Record) (at line : ℕ) : T
   pub rest : from form line at r text ≡ lines_of form (lines_in form) text
 
 abbrev pub invariant-loop-line : goal.invariant-loop-line
-invariant-loop-line l = Left l.form l.text l.content l.taken l.line
+invariant-loop-line l = Left l.form l.text l.content l.taken l.line-counter

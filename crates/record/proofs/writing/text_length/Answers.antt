@@ -19,26 +19,27 @@ few form r e = omega (arith, text_most form (lines_in form) (omega arith) r (in_
 
 -- a line has its bytes, and those behind it theirs
 counted : (c : After-line_length-size) → let a = c.args in
-    c.loop-line.size + c.line_length-size.result + length (text_left a.form (c.loop-line.line + 1) a.entry) ≡ length (text_of a.form a.entry)
+    c.loop-line.size + c.line_length-size.result + length (text_left a.form (c.loop-line.line + 1) a.entry.now) ≡ length (text_of a.form a.entry.now)
 counted c =
     let a = c.args in
     omega (
       arith,
-      c.line_length-size.ensures ∙ ap (λ (part : ℕ). length (line_text part a.entry)) c.part_at.ensures,
-      text_more a.form a.entry c.loop-line.line (omega (arith, c.lines_in-line-end.ensures)),
+      c.line_length-size.ensures ∙ ap (λ (part : ℕ). length (line_text part a.entry.now)) c.part_at.ensures,
+      text_more a.form a.entry.now c.loop-line.line (omega (arith, c.lines-line-end.ensures)),
       c.loop-line.invariant,
     )
 
 pub loop-line-init : goal.loop-line-init
-loop-line-init c = omega (arith, ap length (text_all c.args.form c.args.entry))
+loop-line-init c = omega (arith, ap length (text_all c.args.form c.args.entry.now))
 
-pub line_length-size-requires : goal.line_length-size-requires
-line_length-size-requires c =
+pub invariant_of-part : goal.invariant_of-part
+invariant_of-part c =
     let a = c.args in
-    ap (λ (part : ℕ). keeps part a.entry) c.part_at.ensures ∙ in_form_rule a.form a.entry c.requires c.loop-line.line (omega arith) (omega (arith, c.lines_in-line-end.ensures))
+    let rule = in_form_rule a.form a.entry.now c.requires c.loop-line.line (omega arith) (omega (arith, c.lines-line-end.ensures)) in
+    record { keeps = ap (λ (part : ℕ). keeps part a.entry.now) c.part_at.ensures ∙ rule }
 
 pub overflow_add-size : goal.overflow_add-size
-overflow_add-size c = record { fits = omega (arith, counted (goal.at.overflow_add-size c).After-line_length-size, few c.args.form c.args.entry c.requires) }
+overflow_add-size c = record { fits = omega (arith, counted (goal.at.overflow_add-size c).After-line_length-size, few c.args.form c.args.entry.now c.requires) }
 
 pub loop-line-preserved : goal.loop-line-preserved
 loop-line-preserved c = counted (goal.at.loop-line-preserved c).After-line_length-size

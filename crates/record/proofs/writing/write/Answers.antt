@@ -31,7 +31,7 @@ line-put c =
     let left = l.invariant in
     let here : List ℕ = line_text (part_at a.form l.line) a.entry in
     let earlier : List ℕ = text_from a.form (l.line - 1) 1 a.entry in
-    let more = text_more a.form a.entry l.line (omega (arith, c.lines_in-line-end.ensures)) in
+    let more = text_more a.form a.entry l.line (omega (arith, c.lines-line-end.ensures)) in
     let room : length (earlier ++ here) ≤ length a.out.now =
     omega (arith, length-append earlier here, left.sized, left.sum, more, c.text_length.ensures, c.if-out-text_length.false) in
     let part : laid c.put_line-at.result c.put_line-at.new.out ≡ put here (take (length l.out - l.at) (drop l.at l.out)) =
@@ -75,11 +75,11 @@ loop-line-init c =
       done = sym (put_fits [] c.args.out.now (omega arith));
     }
 
-pub put_line-at-requires : goal.put_line-at-requires
-put_line-at-requires c =
+pub invariant_of-part : goal.invariant_of-part
+invariant_of-part c =
     let a = c.args in
-    ap (λ (part : ℕ). keeps part a.entry) c.part_at.ensures
-    ∙ in_form_rule a.form a.entry (whole (goal.at.put_line-at-requires c).In_default) c.loop-line.line (omega arith) (omega (arith, c.lines_in-line-end.ensures))
+    let rule = in_form_rule a.form a.entry (whole (goal.at.invariant_of-part c).In_default) c.loop-line.line (omega arith) (omega (arith, c.lines-line-end.ensures)) in
+    record { keeps = ap (λ (part : ℕ). keeps part a.entry) c.part_at.ensures ∙ rule }
 
 pub overflow_add-at : goal.overflow_add-at
 overflow_add-at c =
@@ -97,7 +97,7 @@ returns-else-out-text_length-2 c =
     let here = goal.at.returns-else-out-text_length-2 c in
     let left = line-put here.After-put_line-at in
     let room : length (text_of a.form a.entry) ≤ length a.out.now = omega (arith, c.text_length.ensures, c.if-out-text_length.false) in
-    let last : l.line + 1 - 1 ≡ lines_in a.form = omega (arith, c.lines_in-line-end.ensures) in
+    let last : l.line + 1 - 1 ≡ lines_in a.form = omega (arith, c.lines-line-end.ensures) in
     let all = put_count (text_of a.form a.entry) a.out.now _ _ (left.done ∙ ap (λ (k : ℕ). put (text_from a.form k 1 a.entry) a.out.now) last) room in
     rw (
       whole here.In_default,

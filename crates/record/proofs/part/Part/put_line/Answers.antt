@@ -1,7 +1,6 @@
--- `record::writing::put_line` meets its contract.
+-- `record::part::Part::put_line` meets its contract.
 use mathlib.Core.Path.{◌≡◌, sym, ap₂, ◌∙◌}
 use mathlib.Core.List.{List}
-use Prim.Native.Nat.{ℕ}
 use native.Mathlib.Omega.{arith}
 use lib.ListN.{take}
 use lib.Seq.{length-take-le, take-append_seam}
@@ -10,10 +9,10 @@ use Rattle.digits.proofs.Room.{put_inside, put_count}
 use Rattle.record.specs.Text.{value_text, line_text}
 use Rattle.record.proofs.Names.{name_sizes, held_name}
 use Rattle.record.proofs.Bounds.{value_most}
-use Rattle.record.proofs.writing.put_line.Goals as goal
+use Rattle.record.proofs.part.Part.put_line.Goals as goal
 
 pub shared_ref_as_front-put_line : goal.shared_ref_as_front-put_line
-shared_ref_as_front-put_line c = omega (arith, (held_name _ _ c.name_of-name.ensures).size_is, (name_sizes c.args.part).1)
+shared_ref_as_front-put_line c = omega (arith, (held_name _ _ c.name_of-name.ensures).size_is, (name_sizes c.args.self.now.number).1)
 
 pub slice_bounds-value-end : goal.slice_bounds-value-end
 slice_bounds-value-end c = (put_inside _ _ _ _ c.put_value-count.ensures).0
@@ -25,11 +24,9 @@ slice_bounds-put_line-end-2 c =
 pub returns : goal.returns
 unfolding line_text
 returns c =
-    let value-put : (let a = c.args in take c.put_value-count.result c.put_value-count.new.out ≡ value_text a.part a.entry) = let s = c in
-    let value = value_text s.args.part s.args.entry in
-    let whole = put_count value _ _ _ c.put_value-count.ensures (value_most s.args.part s.args.entry s.requires) in
-    ap₂ take whole.0 whole.1 ∙ take-append_seam value _ in
-    let a = c.args in
-    let n = c.name_of-name in
+    let p = c.args.self.now in
+    let value : List _ = value_text p.number p.entry.now in
+    let whole = put_count value _ _ _ c.put_value-count.ensures (value_most p.number p.entry.now p.keeps) in
+    let there : take c.put_value-count.result c.put_value-count.new.out ≡ value = ap₂ take whole.0 whole.1 ∙ take-append_seam value _ in
     c.put_line.ensures
-    ∙ ap₂ (λ (x y : List ℕ). put (line_of x y) a.out.now) (held_name a.part n.result n.ensures).text_is value-put
+    ∙ ap₂ (λ (x y : List _). put (line_of x y) c.args.out.now) (held_name p.number c.name_of-name.result c.name_of-name.ensures).text_is there
