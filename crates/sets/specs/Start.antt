@@ -1,7 +1,8 @@
 -- The first tests of a stream's start, and of a whole message.
-use Rattle.std.specs.Prelude.{not, List, [], ◌∷◌, ℕ, eqb}
+use Rattle.std.specs.Prelude.{cond, not, List, [], ◌∷◌, ℕ, eqb, Result, Ok, Err}
 use Rattle.answers.specs.declared.Answer.{Answer}
 use Rattle.answers.specs.declared.Answer.TheVariants.{Done, UnknownSet, KeyLength, NonceLength}
+use Rattle.answers.specs.Numbers.{is_done}
 use Rattle.answers.specs.Order.{Choice, ◌when◌, first}
 use Rattle.ascon.specs.Sets.{is_set, row_of}
 
@@ -12,3 +13,7 @@ start_faults set key nonce =
 
 unfoldable pub start_test : ℕ → ℕ → ℕ → Answer
 start_test set key nonce = first Done (start_faults set key nonce)
+
+-- an answer as tests inside the crates above give it: done is Ok, any other an Err
+abbrev pub tested : Answer → Result (Unit {0}) Answer
+tested answer = cond (is_done answer) (Ok tt) (Err answer)

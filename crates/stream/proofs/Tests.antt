@@ -4,11 +4,12 @@ use mathlib.Core.Bool.{Bool, true, false, cond, not, ◌&&◌, false≢true, and
 use mathlib.Core.List.{List, [], ◌∷◌}
 use Prim.Native.Nat.{ℕ, zero, suc, ◌+◌, ◌-◌, ◌*◌, ◌/◌, ◌≤◌, ◌<◌}
 use native.Mathlib.Nat.{le_trans, le-div_iff_mul-le, div-mul-le_self, mul-le-mul_right, div-le_self}
-use native.Mathlib.Numerals.{add-one}
 use native.Mathlib.Omega.{arith}
 use lib.Dec.{eqb, leb, lit≤}
-use lib.ListN.{length, get_or, drop}
-use lib.Seq.{drop-cons}
+use lib.ListN.{length, get_or}
+use Rattle.std.specs.Prelude.{IsTrue, EachIndex, ◌↔◌}
+use lib.Pointwise.{pointwise}
+use Rattle.std.proofs.lemmas.Bool.Decides.{nat_tests}
 use borrow.Author.Tests.{eqb-true, leb-true, not-false, eq-eqb}
 use Rattle.answers.specs.declared.Answer.TheVariants.{Done, PastLimit, NoRoom}
 use Rattle.answers.specs.Numbers.{is_done}
@@ -17,19 +18,39 @@ use Rattle.answers.proofs.Order.{none_holds, first_append}
 use Rattle.permutation.specs.Runs.{rounds_of}
 use Rattle.permutation.specs.Strings.{zeros}
 use Rattle.ascon.specs.Sets.{ParameterSet, row_of, text_limit}
-use Rattle.sets.specs.Start.{start_faults, start_test}
+use Rattle.std.specs.Prelude.{Result, Ok, Err}
+use Rattle.answers.specs.declared.Answer.{Answer}
+use Rattle.sets.specs.Start.{start_faults, start_test, tested}
 use Rattle.sets.proofs.Rows.{Sizes, row_sizes}
-use Rattle.sets.proofs.Start.{StartPassed, start_passed}
+use Rattle.sets.proofs.Start.{StartPassed, start_passed, ok_done, err_refused}
 use Rattle.stream.specs.State.{rank_of, is_direction, gives_text, is_ad, is_open, fits, all_zero, is_sound}
 use Rattle.stream.specs.Calls.{filled_rounds, closing_rounds, limited_start_test, piece_faults, piece_test, text_faults, text_test, finish_faults, finish_test}
 use Rattle.stream.specs.declared.Direction.{Direction}
 use Rattle.stream.specs.declared.Direction.TheVariants.{Sealing, Checking, Opening}
+use Rattle.stream.specs.declared.Phase.{Phase}
+use Rattle.stream.specs.declared.Phase.TheVariants.{Ad, Text, Ended}
 use Rattle.stream.specs.declared.Stream.{Stream}
+use Rattle.stream.specs.contracts.Phase.{the_type}
+use denote.Enum.Declared.{tag_of}
 use Rattle.stream.proofs.Sound.{sound_kept}
 
--- the element at i, and the rest
-pub zero_left : (xs : List ℕ) (i : ℕ) → i < length xs → all_zero (drop i xs) ≡ (eqb (get_or xs i 0) 0 && all_zero (drop (i + 1) xs))
-zero_left xs i h = rw (add-one i, drop-cons xs i 0 h)
+-- a test that says of a list whether each element is zero
+pub all_zero_is : (xs : List ℕ) (r : Bool) → (IsTrue r ↔ EachIndex xs (λ k. get_or xs k 0 ≡ 0)) → r ≡ all_zero xs
+all_zero_is xs true h = sym (each xs (h.0 refl))
+  where
+    each : (xs : List ℕ) → ((k : ℕ) → k < length xs → get_or xs k 0 ≡ 0) → all_zero xs ≡ true
+    each [] h = refl
+    each (x ∷ xs) h = rw (h 0 (omega arith)) (each xs (λ k l. h (suc k) (omega arith)))
+all_zero_is xs false h = go (all_zero xs) refl
+  where
+    at : (xs : List ℕ) → all_zero xs ≡ true → (k : ℕ) → k < length xs → get_or xs k 0 ≡ 0
+    at [] e k l = refl
+    at (x ∷ xs) e zero l = eqb-true x 0 ((and-eq-true_iff (eqb x 0) (all_zero xs)).0 e).0
+    at (x ∷ xs) e (suc k) l = at xs ((and-eq-true_iff (eqb x 0) (all_zero xs)).0 e).1 k (omega arith)
+
+    go : (t : Bool) → all_zero xs ≡ t → false ≡ t
+    go true f = absurd (false≢true (h.1 (at xs f)))
+    go false f = refl
 
 -- zeros are all zero
 pub zero_zeros : (n : ℕ) → all_zero (zeros n) ≡ true
@@ -83,6 +104,12 @@ unfitting d s other = go (is_open s.phase) (is_direction d s.direction) refl
     go true false e = refl
     go false t e = refl
 
+-- the code's test of a phase
+pub ad_compared : (phase : Phase) → eqb (tag_of the_type phase) 0 ≡ is_ad phase
+ad_compared Ad = refl
+ad_compared Text = refl
+ad_compared Ended = refl
+
 -- ---- what passed tests say
 
 -- a start's limit is tested behind its set, key and nonce
@@ -128,6 +155,18 @@ pub text_test_is : (d : Direction) (s : Stream) (n room : ℕ) → let answer = 
 unfolding piece_test text_test
 text_test_is d s n room = first_append (piece_faults s (fits d s) (s.text + n) s.limit) (NoRoom when (gives_text d && not (leb n room)) ∷ []) refl
 
+-- so the tests of a piece refuse first, and the room is tested where they pass
+pub text_refused : (d : Direction) (s : Stream) (n room : ℕ) {fit : Bool} {r : Result (Unit {0}) Answer} {given : Answer}
+    → fit ≡ fits d s → r ≡ tested (piece_test s fit s.text n s.limit) → r ≡ Err given → Err given ≡ tested (text_test d s n room)
+text_refused d s n room f e o =
+    let h = err_refused (piece_test s (fits d s) s.text n s.limit) o (rw (← f) e) in
+    rw (text_test_is d s n room, h.not_done, h.not_done) (rw (h.is))
+
+pub text_roomy : (d : Direction) (s : Stream) (n room : ℕ) {fit : Bool} {r : Result (Unit {0}) Answer} {u : Unit {0}}
+    → fit ≡ fits d s → r ≡ tested (piece_test s fit s.text n s.limit) → r ≡ Ok u
+    → text_test d s n room ≡ cond (gives_text d && not (leb n room)) NoRoom Done
+text_roomy d s n room f e o = text_test_is d s n room ∙ rw (ok_done (piece_test s (fits d s) s.text n s.limit) o (rw (← f) e))
+
 pub record TextPassed (d : Direction) (s : Stream) (n room : ℕ) : Type 0 where
   pub piece : PiecePassed s (fits d s) s.text n s.limit
   pub room_fits : gives_text d ≡ true → n ≤ room
@@ -165,3 +204,16 @@ finish_passed d s n e =
       in_phase = not-false (fits d s) h.1.0;
       tag_fits = eqb-true n (row_of s.set).key (not-false (eqb n (row_of s.set).key) h.1.1.0);
     }
+
+-- ---- the ended state
+
+-- a list of zeros, by `==`
+pub pointwise_zeros : (xs : List ℕ) (n : ℕ) → length xs ≡ n → pointwise eqb xs (zeros n) ≡ all_zero xs
+pointwise_zeros [] zero h = refl
+pointwise_zeros [] (suc n) h = absurd (omega arith)
+pointwise_zeros (x ∷ xs) zero h = absurd (omega arith)
+pointwise_zeros (x ∷ xs) (suc n) h = ap (λ (t : Bool). eqb x 0 && t) (pointwise_zeros xs n (omega arith))
+
+-- the tests of two orders
+pub reordered : (w s d k r : Bool) → (w && (s && (d && (k && r)))) ≡ (w && (k && (d && (s && r))))
+reordered w s d k r = grind (arith, nat_tests)

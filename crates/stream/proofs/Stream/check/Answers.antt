@@ -1,35 +1,39 @@
 -- `stream::Stream::check` meets its contract.
-use mathlib.Core.Path.{sym, ap, ◌∙◌}
-use mathlib.Core.List.{List}
+use mathlib.Core.Path.{ap, ◌∙◌}
+use mathlib.Core.List.{List, []}
 use Prim.Native.Nat.{ℕ}
 use lib.ListN.{length}
-use Rattle.answers.specs.Numbers.{is_done}
+use Rattle.answers.specs.declared.Answer.{Answer}
 use Rattle.ascon.specs.Sets.{row_of}
 use Rattle.sponge.specs.declared.Way.TheVariants.{Open}
 use Rattle.sponge.specs.Sponge.{absorbed}
+use Rattle.sets.proofs.Start.{ok_done, ok_chosen, err_chosen}
 use Rattle.stream.specs.declared.Direction.TheVariants.{Checking}
-use Rattle.stream.specs.Calls.{took_text, text_call}
-use Rattle.stream.proofs.Tests.{TextPassed, text_passed, within_largest}
+use Rattle.stream.specs.Calls.{refused, text_test, took_text, Called, called, text_words, text_call}
+use Rattle.stream.proofs.Tests.{text_passed, within_largest}
 use Rattle.stream.proofs.Stream.check.Goals as goal
 
-pub returns-then-not-is_done : goal.returns-then-not-is_done
+pub returns-in-Err : goal.returns-in-Err
 unfolding text_call
-returns-then-not-is_done c =
-    let d = c in
-    c.refusal.ensures ∙ rw (← d.text_test-answer.ensures, sym d.is_done.ensures ∙ c.if-not-is_done.true)
+returns-in-Err c =
+    let s = c.args.self in
+    let n = length c.args.piece.now in
+    c.refusal.ensures
+    ∙ ap (λ (x : Called). x.outcome)
+    (err_chosen (text_test Checking s n 0) (λ (a : Answer). called (refused a s) []) _ c.in-Err.is c.text_test.ensures)
 
 pub took_text-requires : goal.took_text-requires
 took_text-requires c =
-    let passed : (let a = c.args in TextPassed Checking a.self (length a.piece.now) 0) = text_passed _ _ _ _ (ap is_done (sym c.text_test-answer.ensures) ∙ sym c.is_done.ensures ∙ c.if-not-is_done.false) in
-    within_largest _ _ _ _ passed
+    let n = length c.args.piece.now in
+    within_largest Checking c.args.self n 0 (text_passed Checking c.args.self n 0 (ok_done _ c.in_default.is c.text_test.ensures))
 
 pub returns : goal.returns
 unfolding text_call
 returns c =
-    let e = c in
-    let a = e.args in
-    let s = a.self in
-    rw (← e.text_test-answer.ensures, sym e.is_done.ensures ∙ e.if-not-is_done.false)
-    (c.took_text.ensures
-    ∙ ap (λ (w : List ℕ). took_text s w (length a.piece.now))
-    (c.absorb-words.ensures ∙ ap (λ (w : List ℕ). absorbed (row_of s.set) Open w s.text a.piece.now) c.text_words.ensures))
+    let s = c.args.self in
+    let piece = c.args.piece.now in
+    c.took_text.ensures
+    ∙ ap (λ (w : List ℕ). took_text s w (length piece))
+    (c.absorb-words.ensures ∙ ap (λ (w : List ℕ). absorbed (row_of s.set) Open w s.text piece) c.text_words.ensures)
+    ∙ ap (λ (x : Called). x.outcome)
+    (ok_chosen (text_test Checking s (length piece) 0) (called (took_text s (absorbed (row_of s.set) Open (text_words s) s.text piece) (length piece)) []) _ c.in_default.is c.text_test.ensures)

@@ -9,13 +9,10 @@ use Rattle.stream.specs.Calls.{took_text}
 use Rattle.stream.proofs.Tests.{rounds_bound, closing_bound}
 use Rattle.stream.proofs.Stream.took_text.Goals as goal
 
-pub overflow_add-rounds : goal.overflow_add-rounds
-overflow_add-rounds c =
+pub overflow_add-result : goal.overflow_add-result
+overflow_add-result c =
     let a = c.args in
     omega (arith, closing_bound a.self, rounds_bound (row_of a.self.set) (row_sizes a.self.set) a.self.text a.n (omega arith))
-
-pub nonzero_rem-place : goal.nonzero_rem-place
-nonzero_rem-place c = rw c.block_length.ensures (row_sizes c.args.self.set).some_block
 
 pub returns : goal.returns
 unfolding took_text
