@@ -25,12 +25,11 @@ use Rattle.sponge.proofs.Ends.{Sixteen}
 use Rattle.stream.specs.declared.Stream.{Stream}
 use Rattle.stream.specs.State.{ended}
 use Rattle.replay.specs.declared.whole.Conclusion.{Conclusion}
-use Rattle.replay.specs.declared.window.Step.{Step}
 use Rattle.replay.specs.declared.window.Stretch.{Stretch}
 use Rattle.replay.specs.declared.window.Verdict.{Verdict}
 use Rattle.replay.specs.declared.window.Verdict.TheVariants.{Agrees, Answer, Out, Rounds, Unread, Open}
 use Rattle.replay.specs.Feeding.{Gives, fed}
-use Rattle.replay.specs.Replays.{compared, step_on, step_of, is_agreed, stopped, further, stretch_of, told, replay_of, step_by}
+use Rattle.replay.specs.Replays.{Step, compared, step_on, step_of, is_agreed, stopped, further, stretch_of, told, replay_of, step_by}
 use Rattle.replay.specs.Laws.{Asked, answer_to, entry_of, log_from, after, AllAllowed, Ours, Compares, IsWrong, FirstWrong, is_difference}
 use Rattle.replay.proofs.Compared.{Says, compared_says, says_compared}
 use Rattle.replay.proofs.Gives.{ended_key, entry_fits}

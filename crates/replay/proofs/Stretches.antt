@@ -21,11 +21,10 @@ use Rattle.chip_log.proofs.Laws.{reads_log}
 use Rattle.record.specs.Form.{held}
 use Rattle.stream.specs.declared.Stream.{Stream}
 use Rattle.stream.specs.State.{ended}
-use Rattle.replay.specs.declared.window.Step.{Step}
 use Rattle.replay.specs.declared.window.Stretch.{Stretch}
 use Rattle.replay.specs.declared.window.Verdict.TheVariants.{Agrees, Answer, Out, Rounds, Unread, Open}
 use Rattle.replay.specs.Feeding.{Gives}
-use Rattle.replay.specs.Replays.{compared, step_on, unread_of, step_of, is_agreed, at_end, stopped, further, stretch_in, stretch_of, replay_of, step_by}
+use Rattle.replay.specs.Replays.{Step, compared, step_on, unread_of, step_of, is_agreed, at_end, stopped, further, stretch_in, stretch_of, replay_of, step_by}
 use Rattle.replay.specs.Laws.{is_open}
 
 -- ---- one entry

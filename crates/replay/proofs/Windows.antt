@@ -10,11 +10,10 @@ use lib.Seq.{drop-drop, drop-append-le}
 use Rattle.stream.specs.declared.Stream.{Stream}
 use Rattle.stream.specs.State.{ended}
 use Rattle.replay.specs.declared.whole.Conclusion.{Conclusion}
-use Rattle.replay.specs.declared.window.Step.{Step}
 use Rattle.replay.specs.declared.window.Stretch.{Stretch}
 use Rattle.replay.specs.declared.window.Verdict.{Verdict}
 use Rattle.replay.specs.declared.window.Verdict.TheVariants.{Open}
-use Rattle.replay.specs.Replays.{step_of, is_agreed, stopped, further, stretch_of, told, replay_of}
+use Rattle.replay.specs.Replays.{Step, step_of, is_agreed, stopped, further, stretch_of, told, replay_of}
 use Rattle.replay.specs.Laws.{is_open, SoFar, begun, replayed, onward, over_windows, concluded, joined}
 use Rattle.replay.proofs.Stretches.{onto, agreed_read, step_inside, by_entries, stretch_step, step_same, step_told}
 

@@ -1,5 +1,5 @@
 -- Replaying a log: the verdict on each entry, and the first that does not agree.
-use Rattle.std.specs.Prelude.{Bool, true, false, cond, not, ◌&&◌, List, [], ◌∷◌, ℕ, zero, suc, ◌+◌, eqb, length, drop}
+use Rattle.std.specs.Prelude.{◌≡◌, Bool, true, false, cond, not, ◌&&◌, List, [], ◌∷◌, ℕ, zero, suc, ◌+◌, eqb, length, drop, Result, Ok, Err}
 use Rattle.answers.specs.Numbers.{number_of, is_done}
 use Rattle.answers.specs.Order.{Choice, ◌when◌, first}
 use Rattle.judge.specs.Difference.{differ}
@@ -10,13 +10,27 @@ use Rattle.record.specs.Form.{held}
 use Rattle.stream.specs.declared.Stream.{Stream}
 use Rattle.stream.specs.State.{ended}
 use Rattle.replay.specs.declared.whole.Conclusion.{Conclusion}
-use Rattle.replay.specs.declared.window.Step.{Step}
+use Rattle.replay.specs.declared.window.Agreed.{Agreed}
 use Rattle.replay.specs.declared.window.Stretch.{Stretch}
 use Rattle.replay.specs.declared.window.Verdict.{Verdict}
 use Rattle.replay.specs.declared.window.Verdict.TheVariants.{Agrees, Answer, Out, Rounds, Unread, Open}
 use Rattle.replay.specs.Feeding.{Gives, fed}
 
 -- ---- one entry
+
+abbrev pub is_agreed : Verdict → Bool
+is_agreed Agrees = true
+is_agreed Answer = false
+is_agreed Out = false
+is_agreed Rounds = false
+is_agreed (Unread line column) = false
+is_agreed Open = false
+
+-- its verdict, how many bytes it has, and the stream's state behind it
+pub record Step : Type 0 where
+  pub verdict : Verdict
+  pub taken : ℕ
+  pub next : Stream
 
 -- the verdicts but agreement, in their order: the answer, the output, compared whole, the rounds
 abbrev pub differences : Gives → Entry → List (Choice Verdict)
@@ -46,15 +60,19 @@ step_by over s reading =
 abbrev pub step_of : Bool → Stream → List ℕ → Step
 step_of over s text = step_by over s (read_entry text)
 
--- ---- entry after entry
+-- ---- in the code's types
 
-abbrev pub is_agreed : Verdict → Bool
-is_agreed Agrees = true
-is_agreed Answer = false
-is_agreed Out = false
-is_agreed Rounds = false
-is_agreed (Unread line column) = false
-is_agreed Open = false
+-- an entry agrees, or this is its other verdict
+abbrev pub ComparedAs : Result Unit Verdict → Verdict → Type 0
+ComparedAs (Ok agreed) verdict = verdict ≡ Agrees
+ComparedAs (Err other) verdict = (verdict ≡ other) × (is_agreed other ≡ false)
+
+-- an entry that agrees goes so far, or this is its other verdict
+abbrev pub SteppedAs : Result Agreed Verdict → Step → Type 0
+SteppedAs (Ok agreed) step = step ≡ record { verdict = Agrees; taken = agreed.taken; next = agreed.next }
+SteppedAs (Err other) step = (step.verdict ≡ other) × (is_agreed other ≡ false)
+
+-- ---- entry after entry
 
 -- where no byte is left, the log agrees if it is over
 abbrev pub at_end : Bool → Verdict

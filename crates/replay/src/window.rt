@@ -3,7 +3,7 @@ ghost use Rattle.std.specs.Prelude.{◌≡◌, drop};
 ghost use Rattle.chip_log.specs.Calls.{reading_of, refused_at, read_entry};
 ghost use Rattle.chip_log.specs.Laws.{InForm};
 ghost use Rattle.replay.specs.Feeding.{as_given};
-ghost use Rattle.replay.specs.Replays.{is_agreed, compared, step_on, unread_of, at_end, step_of, stretch_of};
+ghost use Rattle.replay.specs.Replays.{is_agreed, compared, ComparedAs, step_on, SteppedAs, unread_of, at_end, step_of, stretch_of};
 
 use crate::feeding;
 use crate::feeding::Given;
@@ -46,10 +46,9 @@ pub struct Stretch {
     pub verdict: Verdict,
 }
 
-// One entry: its verdict, how many bytes it has, and the stream's state behind it.
+// An entry that agrees: how many bytes it has, and the stream's state behind it.
 #[derive(Clone, Copy)]
-pub struct Step {
-    pub verdict: Verdict,
+pub struct Agreed {
     pub taken: usize,
     pub next: Stream,
 }
@@ -68,35 +67,35 @@ pub(crate) fn entry_at(bytes: &[u8], place: usize) -> Result<Read<Entry>, Unread
     chip_log::read(left(bytes, place))
 }
 
-// The verdict on an entry, by what our stream gives.
+// Whether an entry agrees with what our stream gives, or else the verdict.
 #[tactic(auto, unfolding(crate::specs::Replays::compared))]
-fn compare(given: Given, entry: Entry) -> Verdict
-    ensures { result ≡ compared (as_given given) entry }
+fn compare(given: Given, entry: Entry) -> Result<(), Verdict>
+    ensures { ComparedAs result (compared (as_given given) entry) }
 {
     if entry.answer != answers::number(given.answer) {
-        Verdict::Answer
+        Err(Verdict::Answer)
     } else if judge::fields_differ(given.out, entry.out) {
-        Verdict::Out
+        Err(Verdict::Out)
     } else if entry.rounds != given.rounds {
-        Verdict::Rounds
+        Err(Verdict::Rounds)
     } else {
-        Verdict::Agrees
+        Ok(())
     }
 }
 
 // Feeds an entry in form to a stream, and compares what it gives.
 #[tactic(auto, using(crate::proofs::Gives::input_inside))]
-fn step_on(stream: Stream, entry: Entry, taken: usize) -> Step
+fn step_on(stream: Stream, entry: Entry, taken: usize) -> Result<Agreed, Verdict>
     requires { InForm entry }
-    ensures { result ≡ step_on stream entry taken }
+    ensures { SteppedAs result (step_on stream entry taken) }
 {
     let input = entry.input;
     let given = feeding::feed(stream, entry.call, &input.bytes[..input.size]);
-    Step {
-        verdict: compare(given, entry),
+    compare(given, entry)?;
+    Ok(Agreed {
         taken,
         next: given.next,
-    }
+    })
 }
 
 // The verdict on a text that is no entry: it is unread, or open where it ended too early and more of the log may come.
@@ -114,18 +113,14 @@ fn unread(wrong: Unread, ended: bool) -> Verdict
     }
 }
 
-// The entry at a place of a log, from a stream's state.
+// The entry at a place of a log, from a stream's state: how far one that agrees goes, or else the verdict.
 #[tactic(auto, unfolding(crate::specs::Replays::step_by, chip_log::specs::Calls::read_as, chip_log::specs::Calls::refused_at))]
-fn step_at(bytes: &[u8], place: usize, ended: bool, stream: Stream) -> Step
-    ensures { result ≡ step_of ended stream (drop place bytes.now) }
+fn step_at(bytes: &[u8], place: usize, ended: bool, stream: Stream) -> Result<Agreed, Verdict>
+    ensures { SteppedAs result (step_of ended stream (drop place bytes.now)) }
 {
     match entry_at(bytes, place) {
         Ok(read) => step_on(stream, read.content, read.taken),
-        Err(wrong) => Step {
-            verdict: unread(wrong, ended),
-            taken: 0,
-            next: stream,
-        },
+        Err(wrong) => Err(unread(wrong, ended)),
     }
 }
 
@@ -153,16 +148,14 @@ pub(crate) fn stretch_at(bytes: &[u8], place: usize, ended: bool, stream: Stream
     };
     // No `for`: how far a turn goes only the entry that it reads can tell.
     while stretch.taken < log.len() {
-        let step = step_at(log, stretch.taken, ended, stretch.stream);
-        if !step.verdict.is_agreed() {
-            return Stretch {
-                verdict: step.verdict,
-                ..stretch
-            };
+        match step_at(log, stretch.taken, ended, stretch.stream) {
+            Ok(agreed) => {
+                stretch.entries += 1;
+                stretch.taken += agreed.taken;
+                stretch.stream = agreed.next;
+            }
+            Err(verdict) => return Stretch { verdict, ..stretch },
         }
-        stretch.entries += 1;
-        stretch.taken += step.taken;
-        stretch.stream = step.next;
     }
     stretch
 }
