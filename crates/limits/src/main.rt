@@ -3,7 +3,7 @@
 // them, with their rounds. The file `stdout` holds the second program's answers.
 #![tactic(auto)]
 
-ghost use Rattle.std.specs.Prelude.{◌<◌};
+ghost use Rattle.std.specs.Prelude.{◌<◌, ◌≤◌};
 
 use stream::{Direction, Outcome, Phase, Stream};
 
@@ -169,29 +169,42 @@ fn text<const ROOM: usize>(direction: Direction, stream: Stream, piece: &[u8]) -
     Called { outcome, lent }
 }
 
-// The finish of a direction, with a tag of the set's length: a checking or an opening is given the tag that its words would be sealed with, its first byte combined with
-// `change`.
-fn finish(direction: Direction, stream: Stream, change: u8) -> Called {
-    let mut room = [90; 16];
-    let n = sets::key_length(stream.set).min(room.len());
-    let tag = &mut room[..n];
-    if let Direction::Sealing = direction {
-        let outcome = stream.finish_sealing(tag);
-        let lent = mixed_bytes(tag);
-        return Called { outcome, lent };
-    }
+// The length of a set's keys, nonces and tags.
+fn key_length(set: u64) -> usize
+    ensures { result ≤ 16 }
+{
+    sets::key_length(set).min(16)
+}
+
+// The tag that the words of a stream would be sealed with, its first byte combined with `change`.
+fn own_tag(stream: Stream, change: u8) -> [u8; 16] {
+    let mut tag = [90; 16];
     let sealing = Stream {
         direction: Direction::Sealing,
         ..stream
     };
-    sealing.finish_sealing(tag);
-    if let Some(first) = tag.first_mut() {
-        *first ^= change;
+    sealing.finish_sealing(&mut tag[..key_length(stream.set)]);
+    tag[0] ^= change;
+    tag
+}
+
+// The finish of a direction, with a tag of the set's length: a checking or an opening is given its own one, changed or not.
+fn finish(direction: Direction, stream: Stream, change: u8) -> Called {
+    let n = key_length(stream.set);
+    match direction {
+        Direction::Sealing => {
+            let mut tag = [90; 16];
+            let outcome = stream.finish_sealing(&mut tag[..n]);
+            let lent = mixed_bytes(&tag[..n]);
+            Called { outcome, lent }
+        }
+        Direction::Checking => {
+            Called::placeless(stream.finish_checking(&own_tag(stream, change)[..n]))
+        }
+        Direction::Opening => {
+            Called::placeless(stream.finish_opening(&own_tag(stream, change)[..n]))
+        }
     }
-    Called::placeless(match direction {
-        Direction::Opening => stream.finish_opening(tag),
-        _ => stream.finish_checking(tag),
-    })
 }
 
 // ---- starts
@@ -244,9 +257,8 @@ fn try_walk(direction: Direction, set: u64, limit: u64, walk: usize, bytes: &[u8
     say(b" limit=", limit);
     say(b" number=", walk as u64);
     io::write_all(STDOUT_FILENO, b":");
-    let length = sets::key_length(set);
-    let key = first_of(&KEY, length);
-    let nonce = first_of(&NONCE, length);
+    let key = &KEY[..key_length(set)];
+    let nonce = &NONCE[..key_length(set)];
     let begun = Called::placeless(Stream::start(direction, set, limit, key, nonce)).told();
     let mut stream = Called::placeless(begun.ad(first_of(bytes, 3))).told();
     for length in piece_lengths(walk, limit as usize) {
