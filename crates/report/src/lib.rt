@@ -33,6 +33,7 @@ fn word(verdict: Verdict) -> &'static [u8]
 }
 
 // Puts what the last line says, the differing field or the broken line, at the beginning of a place.
+#[tactic(auto, using(crate::proofs::Lengths::numeral_most))]
 fn put_part(verdict: Verdict, out: &mut [u8]) -> usize
     ensures value { laid result out.new ≡ put (part verdict) out.old }
     ensures upper_bound { length (part verdict) ≤ 20 }
