@@ -1,4 +1,4 @@
-// An entry line by line: what each line is called, and what it holds.
+// An entry line by line: what each line is called, and what it holds. A line is told by its number, as the definitions `name`, `value_kind` and `bytes_at` have it.
 ghost use Rattle.std.specs.Prelude.{◌≡◌, ◌++◌, ◌≤◌, length};
 ghost use Rattle.ascon.specs.Sets.{row_of};
 ghost use Rattle.digits.specs.Ascii.{ascii};
