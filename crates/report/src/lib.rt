@@ -48,6 +48,7 @@ fn put_part(verdict: Verdict, out: &mut [u8]) -> usize
 }
 
 // Writes the report on a record with a number at the beginning of a place, and gives its length; a place too short for it stays as it is.
+// No Display: into lent room, all or nothing, it would need a writer of its own and its measure, where three calls of `put_line` stand.
 pub fn report(number: u64, verdict: Verdict, out: &mut [u8]) -> Result<usize, NoRoom>
     ensures { report_leaves (reported_of result) out.new ≡ report_call number verdict out.old }
 {
