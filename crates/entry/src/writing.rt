@@ -14,8 +14,8 @@ use digits::Case;
 use record::{Field, Form, Record, Unwritten};
 
 // The field of a record that stands behind the name of a line; the empty one where none does.
-fn first_field(line: usize, entry: Record) -> Field
-    ensures { result ≡ get_or (field_of [] ∷ entry.key ∷ entry.nonce ∷ entry.text ∷ entry.ad ∷ entry.cipher ∷ []) (line - 1) (field_of []) }
+fn first_field(line: usize, entry: &Record) -> Field
+    ensures { result ≡ get_or (field_of [] ∷ entry.now.key ∷ entry.now.nonce ∷ entry.now.text ∷ entry.now.ad ∷ entry.now.cipher ∷ []) (line - 1) (field_of []) }
 {
     match line {
         2 => entry.key,
@@ -28,8 +28,8 @@ fn first_field(line: usize, entry: Record) -> Field
 }
 
 // The field behind that: the tag behind the ciphertext.
-fn second_field(line: usize, entry: Record) -> Field
-    ensures { result ≡ cond (eqb line 6) entry.tag (field_of []) }
+fn second_field(line: usize, entry: &Record) -> Field
+    ensures { result ≡ cond (eqb line 6) entry.now.tag (field_of []) }
 {
     if line == 6 {
         entry.tag
@@ -56,17 +56,17 @@ struct Entry {
 
 impl Entry {
     // Puts the digits of a line at the beginning of a place that has room for them, and gives how many.
-    fn put_value(self, line: usize, out: &mut [u8]) -> usize
+    fn put_value(&self, line: usize, out: &mut [u8]) -> usize
         requires { 544 ≤ length out.old }
-        ensures { laid result out.new ≡ put (hex_in Upper (bytes_at line self.content)) out.old }
+        ensures { laid result out.new ≡ put (hex_in Upper (bytes_at line self.now.content)) out.old }
     {
-        let first = put_field(first_field(line, self.content), out);
-        first + put_field(second_field(line, self.content), &mut out[first..])
+        let first = put_field(first_field(line, &self.content), out);
+        first + put_field(second_field(line, &self.content), &mut out[first..])
     }
 
     // Puts a line at the beginning of a place, and gives its length; a place too short for it stays as it is, and the length is 0.
-    fn put_line(self, line: usize, out: &mut [u8]) -> usize
-        ensures { laid result out.new ≡ put (line_text self.number line self.content) out.old }
+    fn put_line(&self, line: usize, out: &mut [u8]) -> usize
+        ensures { laid result out.new ≡ put (line_text self.now.number line self.now.content) out.old }
     {
         let name = form::name_of(self.number, line);
         // No heap: the digits stand in an array, `count` of them.
@@ -76,9 +76,9 @@ impl Entry {
     }
 
     // Puts all lines at the beginning of a place that has room for them, and gives their length.
-    fn put_lines(self, out: &mut [u8]) -> usize
-        requires { length (entry_text self.number self.content) ≤ length out.old }
-        ensures { laid result out.new ≡ put (entry_text self.number self.content) out.old }
+    fn put_lines(&self, out: &mut [u8]) -> usize
+        requires { length (entry_text self.now.number self.now.content) ≤ length out.old }
+        ensures { laid result out.new ≡ put (entry_text self.now.number self.now.content) out.old }
     {
         let mut at = 0;
         for line in 1..8 {

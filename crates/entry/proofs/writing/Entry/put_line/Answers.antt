@@ -25,8 +25,8 @@ held_name number line n h e = named_holds (name number line) (omega (arith, name
 pub shared_ref_as_front-put_line : goal.shared_ref_as_front-put_line
 shared_ref_as_front-put_line c =
     let a = c.args in
-    let h : a.self.number ≤ largest_number = search rules in
-    omega (arith, (held_name a.self.number a.line _ h c.name_of-name.ensures).size_is, name_few a.self.number h a.line)
+    let h : a.self.now.number ≤ largest_number = search rules in
+    omega (arith, (held_name a.self.now.number a.line _ h c.name_of-name.ensures).size_is, name_few a.self.now.number h a.line)
 
 pub slice_bounds-value-end : goal.slice_bounds-value-end
 slice_bounds-value-end c = (put_inside _ _ _ _ c.put_value-count.ensures).0
@@ -39,7 +39,7 @@ pub returns : goal.returns
 unfolding line_text
 returns c =
     let a = c.args in
-    let held = held_name a.self.number a.line _ (search rules) c.name_of-name.ensures in
-    let value = hex_in Upper (bytes_at a.line a.self.content) in
-    let whole = put_count value _ _ _ c.put_value-count.ensures (digits_few a.self.content a.self.in_form a.line) in
+    let held = held_name a.self.now.number a.line _ (search rules) c.name_of-name.ensures in
+    let value = hex_in Upper (bytes_at a.line a.self.now.content) in
+    let whole = put_count value _ _ _ c.put_value-count.ensures (digits_few a.self.now.content a.self.now.in_form a.line) in
     c.put_line.ensures ∙ ap₂ (λ (x y : List ℕ). put (line_of x y) a.out.now) held.text_is (ap₂ take whole.0 whole.1 ∙ take-append_seam value _)

@@ -51,7 +51,7 @@ pub overflow_add-at : goal.overflow_add-at
 overflow_add-at c =
     let l = c.loop-line in
     let a = c.args in
-    let more = one_more a.self.number a.self.content a.out.now l.out l.at l.line l.invariant c.loop-line-test.true c.requires _ _ c.put_line-at.ensures in
+    let more = one_more a.self.now.number a.self.now.content a.out.now l.out l.at l.line l.invariant c.loop-line-test.true c.requires _ _ c.put_line-at.ensures in
     let inside = put_inside _ _ _ _ more.done in
     record { fits = omega (arith, inside.0, inside.1, c.well_formed.1.0.0) }
 
@@ -59,4 +59,4 @@ pub loop-line-preserved : goal.loop-line-preserved
 loop-line-preserved c =
     let l = c.loop-line in
     let a = c.args in
-    one_more a.self.number a.self.content a.out.now l.out l.at l.line l.invariant c.loop-line-test.true c.requires _ _ c.put_line-at.ensures
+    one_more a.self.now.number a.self.now.content a.out.now l.out l.at l.line l.invariant c.loop-line-test.true c.requires _ _ c.put_line-at.ensures
