@@ -73,6 +73,7 @@ fn measure(route: Route, text: &[u8]) -> Result<MovedAll, UnmovedAll>
     let mut rest = text;
     let mut records = 0;
     let mut written = 0;
+    // A turn takes as many bytes as its record has: no range and no iterator of std steps so.
     while !rest.is_empty() {
         records += 1;
         match one::move_record(route, records, rest, &mut scratch) {
@@ -95,6 +96,7 @@ fn put_all(route: Route, text: &[u8], out: &mut [u8])
     let mut rest = text;
     let mut end = 0;
     let mut number = 0;
+    // Turns as in `measure`.
     while !rest.is_empty() {
         number += 1;
         let moved = one::move_record(route, number, rest, &mut out[end..]).unwrap();
