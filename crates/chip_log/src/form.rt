@@ -111,7 +111,7 @@ impl Call {
     }
 }
 
-// The call that a number tells; any other number tells a start in set 1.
+// The call that a number tells; any other number tells a start in set 1, as `call_of` (specs/Calls.antt) has it, so this is no `TryFrom`.
 impl From<u64> for Call {
     ghost from_gives = { λ number call. call ≡ call_of number };
 

@@ -38,6 +38,7 @@ impl Verdict {
 }
 
 // How far a stretch of a log was replayed: how many entries agreed, how many bytes they have, the stream's state behind them, and the verdict on what follows them.
+// Each of the four is told whatever the verdict is, as the theorems `Replays.waits` and `.inside` have them.
 #[derive(Clone, Copy)]
 pub struct Stretch {
     pub entries: usize,
