@@ -1,10 +1,8 @@
 -- What the program is asked to do, by its words.
-use Rattle.std.specs.Prelude.{cond, List, ℕ, eqb, leb}
+use Rattle.std.specs.Prelude.{Option, Some, None, cond, List, ℕ, eqb, leb}
 use Rattle.digits.specs.Ascii.{ascii}
 use Rattle.permutation.specs.Strings.{same}
 use Rattle.moving.specs.declared.route.Route.TheVariants.{Forward, Back, Import, Export}
-use Rattle.bench.specs.declared.decimal.Decimal.{Decimal}
-use Rattle.bench.specs.declared.decimal.Decimal.TheVariants.{Number, NoNumber}
 use Rattle.bench.specs.Decimal.{decimal_of}
 use Rattle.bench.specs.declared.Task.{Task}
 use Rattle.bench.specs.declared.Task.TheVariants.{Judge, Move, Replay, Unknown}
@@ -15,9 +13,9 @@ word_task word =
     cond (same word (ascii "forward")) (Move Forward) (cond (same word (ascii "back")) (Move Back) (cond (same word (ascii "export")) (Move Export) (cond (same word (ascii "replay")) Replay Unknown)))
 
 -- the moving of a published test file of a set, if a decimal names one
-abbrev pub import_of : Decimal → Task
-import_of (Number set) = Move (Import set)
-import_of NoNumber = Unknown
+abbrev pub import_of : Option ℕ → Task
+import_of (Some set) = Move (Import set)
+import_of None = Unknown
 
 -- a word, and a set behind it
 abbrev pub set_task : List ℕ → List ℕ → Task

@@ -1,5 +1,5 @@
 -- Wrong versions of the program's functions, each told by one input: what its contracts do not allow.
-use Rattle.std.specs.Prelude.{true, List, [], ◌∷◌, ◌≡◌, ℕ, ℤ, pos, negsuc}
+use Rattle.std.specs.Prelude.{Option, Some, None as nothing, true, List, [], ◌∷◌, ◌≡◌, ℕ, ℤ, pos, negsuc}
 use Rattle.digits.specs.Ascii.{ascii}
 use Rattle.moving.specs.declared.route.Route.{Route}
 use Rattle.moving.specs.declared.route.Route.TheVariants.{Import, Export}
@@ -20,8 +20,6 @@ use Rattle.bench.specs.declared.whole.Input.{Input}
 use Rattle.bench.specs.declared.whole.Input.TheVariants as input
 use Rattle.bench.specs.declared.whole.Output.{Output}
 use Rattle.bench.specs.declared.whole.Output.TheVariants as output
-use Rattle.bench.specs.declared.decimal.Decimal.{Decimal}
-use Rattle.bench.specs.declared.decimal.Decimal.TheVariants.{Number, NoNumber}
 use Rattle.bench.specs.declared.Task.{Task}
 use Rattle.bench.specs.declared.Task.TheVariants.{Judge, Move, Replay, Unknown}
 use Rattle.bench.specs.Progress.{fresh}
@@ -35,7 +33,7 @@ beginning = record { left = 0; entries = 0; stream = ended; verdict = Open; faul
 pub record RuledOut
     (hears : ℤ → ℤ → Heard → Type 0) (reads : Progress → Heard → Progress → Type 0) (counts : Tally → Verdict → Tally → Type 0)
     (inputs : ℕ → Heard → Input → Type 0) (outputs : ℕ → Heard → Output → Type 0)
-    (decimals : List ℕ → Decimal → Type 0) (tasks : ℕ → List ℕ → List ℕ → Task → Type 0)
+    (decimals : List ℕ → Option ℕ → Type 0) (tasks : ℕ → List ℕ → List ℕ → Task → Type 0)
     (numbers : ℕ → replay.Verdict → ℕ → Type 0) (replays : Replaying → List ℕ → Heard → Replaying → List ℕ → Type 0)
     : Type 0 where
   -- a call that failed with another error than a signal's is not tried again
@@ -54,14 +52,14 @@ pub record RuledOut
   -- a write that took no byte is not tried again
   pub output_nothing : (from : ℕ) → outputs from (Moved 0) (output.Part from) → ⊥
   -- an empty word is no number, nor is one with a sign, nor one with more than 64 bits
-  pub decimal_empty : (n : ℕ) → decimals [] (Number n) → ⊥
-  pub decimal_sign : (n : ℕ) → decimals (ascii "+1") (Number n) → ⊥
-  pub decimal_large : (n : ℕ) → decimals (ascii "18446744073709551616") (Number n) → ⊥
+  pub decimal_empty : (n : ℕ) → decimals [] (Some n) → ⊥
+  pub decimal_sign : (n : ℕ) → decimals (ascii "+1") (Some n) → ⊥
+  pub decimal_large : (n : ℕ) → decimals (ascii "18446744073709551616") (Some n) → ⊥
   -- but the largest of 64 bits is one, also behind needless zeros
-  pub decimal_largest : decimals (ascii "18446744073709551615") NoNumber → ⊥
-  pub decimal_zeros : decimals (ascii "00018446744073709551615") NoNumber → ⊥
+  pub decimal_largest : decimals (ascii "18446744073709551615") nothing → ⊥
+  pub decimal_zeros : decimals (ascii "00018446744073709551615") nothing → ⊥
   -- its digits are not read from right to left
-  pub decimal_order : decimals (ascii "12") (Number 21) → ⊥
+  pub decimal_order : decimals (ascii "12") (Some 21) → ⊥
   -- a set is not taken for another, nor one way for the other
   pub task_set : tasks 3 (ascii "import") (ascii "1") (Move (Import 2)) → ⊥
   pub task_way : tasks 3 (ascii "import") (ascii "1") (Move Export) → ⊥

@@ -21,7 +21,6 @@ ghost use Rattle.bench.specs.Progress.{moved_by, Sound, view, More, Less, Closed
 ghost use Rattle.turns.specs.Laws.{OneAnswer, Turned, Ran};
 ghost use Rattle.bench.specs.Tasks.{word_task, set_task, task_of};
 
-use decimal::Decimal;
 use moving::Route;
 use progress::{Heard, Progress};
 use system::{STDERR_FILENO, System};
@@ -238,8 +237,8 @@ fn set_task(word: &[u8], set: &[u8]) -> Task
         return Task::Unknown;
     }
     match decimal::read(set) {
-        Decimal::Number(number) => Task::Move(Route::Import(number)),
-        Decimal::NoNumber => Task::Unknown,
+        Some(number) => Task::Move(Route::Import(number)),
+        None => Task::Unknown,
     }
 }
 

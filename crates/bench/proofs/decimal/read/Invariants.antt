@@ -1,14 +1,9 @@
--- `bench::decimal::read` meets its contract. The loop's invariant: what was read, and from there the characters left, is what all of them say. The measure is the number
--- of characters left.
+-- `bench::decimal::read` meets its contract. The loop's invariant: what was read, and from there the characters left, is what all of them say.
 use mathlib.Core.Path.{◌≡◌}
-use Prim.Native.Nat.{◌-◌, ◌≤◌}
-use lib.ListN.{length, drop}
-use Rattle.bench.specs.declared.decimal.Decimal.TheVariants.{Number}
+use lib.ListN.{drop}
+use Rattle.std.proofs.Common.{Some}
 use Rattle.bench.specs.Decimal.{read_from}
 use Rattle.bench.proofs.decimal.read.Given as goal
 
-abbrev pub invariant-loop-i : goal.invariant-loop-i
-invariant-loop-i l = (l.i ≤ length l.text) × (read_from l.value (drop l.i l.text) ≡ read_from (Number 0) l.text)
-
-abbrev pub decreases-loop-i : goal.decreases-loop-i
-decreases-loop-i l = length l.text - l.i
+abbrev pub invariant-loop-character : goal.invariant-loop-character
+invariant-loop-character l = read_from (Some l.number) (drop l.character-index l.text) ≡ read_from (Some 0) l.text
