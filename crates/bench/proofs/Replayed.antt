@@ -23,15 +23,10 @@ use Rattle.digits.specs.Numbers.{places, numeral}
 use Rattle.turns.specs.Tallies.{largest, numbered, fault_line}
 use Rattle.bench.specs.declared.replays.Fault.{Fault}
 use Rattle.bench.specs.declared.replays.Fault.TheVariants as fault
+use Rattle.std.proofs.Common.{Option, Some, None}
 use Rattle.bench.specs.declared.replays.Replaying.{Replaying}
 use Rattle.bench.specs.Replays.{Going, going, begun, is_none, goes_on, counted, heard_by, further, replayed_on, bytes_in, is_end, delivered, end_told, LogOf, report_words, end_line, ReplaysInput, is_running, with_fault, stretched, so_far, HeardBytes}
 use Rattle.bench.proofs.Views.{drop-take}
-
--- nothing keeps a replay that goes on from its verdict
-pub no_fault : (f : Fault) (v : Verdict) → (is_none f && is_open v) ≡ true → f ≡ fault.None
-no_fault fault.None v e = refl
-no_fault fault.Reading v e = absurd (false≢true e)
-no_fault fault.TooMany v e = absurd (false≢true e)
 
 -- ---- one read
 
@@ -62,10 +57,10 @@ module _ (r : Replaying) (before : List ℕ) (count : ℕ) (inside : r.left + co
 
   -- the replay behind it
   abbrev later : Going
-  later = going (record { left = drop stretch.taken text; entries = r.entries + stretch.entries; stream = stretch.stream; verdict = stretch.verdict }) fault.None
+  later = going (record { left = drop stretch.taken text; entries = r.entries + stretch.entries; stream = stretch.stream; verdict = stretch.verdict }) None
 
   -- what the answer makes of the replay, by whether its entries can still be counted
-  heard_is : heard_by (so_far r before) (run.Came bytes) ≡ cond (ltb (r.entries + stretch.entries) largest) later (going (so_far r before) fault.TooMany)
+  heard_is : heard_by (so_far r before) (run.Came bytes) ≡ cond (ltb (r.entries + stretch.entries) largest) later (going (so_far r before) (Some fault.TooMany))
   unfolding replayed
   heard_is =
       let size : length bytes ≡ count = length-take-le count (drop r.left before) (omega (arith, length-drop r.left before)) in
@@ -84,8 +79,8 @@ module _ (r : Replaying) (before : List ℕ) (count : ℕ) (inside : r.left + co
       moved ∙ sym (drop-take stretch.taken (r.left + count) before (omega (arith, taken, size))) in
       record {
         is =
-            (λ j. going (record { left = left j; entries = r.entries + stretch.entries; stream = stretch.stream; verdict = stretch.verdict }) fault.None)
-            ∙ sym (heard_is ∙ ap (λ (t : Bool). cond t later (going (so_far r before) fault.TooMany)) (lt-ltb (r.entries + stretch.entries) largest few));
+            (λ j. going (record { left = left j; entries = r.entries + stretch.entries; stream = stretch.stream; verdict = stretch.verdict }) None)
+            ∙ sym (heard_is ∙ ap (λ (t : Bool). cond t later (going (so_far r before) (Some fault.TooMany))) (lt-ltb (r.entries + stretch.entries) largest few));
         room = λ e. room stretch.verdict refl e taken size;
         number = few;
       }
@@ -102,7 +97,7 @@ module _ (r : Replaying) (before : List ℕ) (count : ℕ) (inside : r.left + co
   pub bytes_many : r.entries < largest → largest ≤ r.entries + stretch.entries → HeardBytes r before count (with_fault r fault.TooMany) before
   bytes_many few many =
       record {
-        is = sym (heard_is ∙ ap (λ (t : Bool). cond t later (going (so_far r before) fault.TooMany)) (le-ltb (r.entries + stretch.entries) largest many));
+        is = sym (heard_is ∙ ap (λ (t : Bool). cond t later (going (so_far r before) (Some fault.TooMany))) (le-ltb (r.entries + stretch.entries) largest many));
         room = λ e. absurd (false≢true e);
         number = few;
       }
@@ -188,28 +183,28 @@ delivers_none g (reply ∷ replies) e = ap (λ (t : Bool). cond t (bytes_in repl
 -- a verdict that answers lead to is that of the log: these bytes, what is delivered, and a rest, of which there is none where the end is told
 abbrev Tells : Going → List Reply → List ℕ → List ℕ → Type 0
 Tells g replies log rest =
-    (end_told g replies ≡ true → rest ≡ []) → let h = replayed_on g replies in h.fault ≡ fault.None → is_open h.so_far.verdict ≡ false
+    (end_told g replies ≡ true → rest ≡ []) → let h = replayed_on g replies in h.fault ≡ None → is_open h.so_far.verdict ≡ false
     → told h.so_far.entries h.so_far.verdict ≡ replay_of (log ++ (delivered g replies ++ rest))
 
 -- what keeps a replay from its verdict is something
-at_fault : (f : SoFar) (why : Fault) (replies : List Reply) → is_none why ≡ false → (replayed_on (going f why) replies).fault ≡ fault.None → ⊥
+at_fault : (f : SoFar) (why : Option Fault) (replies : List Reply) → is_none why ≡ false → (replayed_on (going f why) replies).fault ≡ None → ⊥
 at_fault f why replies e none =
-    let same : why ≡ fault.None = ap (λ (g : Going). g.fault) (sym (stays (going f why) replies (ap (λ (t : Bool). t && is_open f.verdict) e))) ∙ none in
+    let same : why ≡ None = ap (λ (g : Going). g.fault) (sym (stays (going f why) replies (ap (λ (t : Bool). t && is_open f.verdict) e))) ∙ none in
     false≢true (sym e ∙ ap is_none same)
 
 -- one answer, where the answers behind it tell so from any replay that windows led to
-module _ (replies : List Reply) (rest : List ℕ) (behind : (f : SoFar) (log : List ℕ) → Reached f log → Tells (going f fault.None) replies log rest)
+module _ (replies : List Reply) (rest : List ℕ) (behind : (f : SoFar) (log : List ℕ) → Reached f log → Tells (going f None) replies log rest)
     (f : SoFar) (log : List ℕ) (r : Reached f log) (open_still : is_open f.verdict ≡ true) where
   -- what it makes of the replay tells so
   abbrev HeardTells : Reply → Going → Type 0
   HeardTells reply h =
-      ((is_end reply || end_told h replies) ≡ true → rest ≡ []) → (replayed_on h replies).fault ≡ fault.None → is_open (replayed_on h replies).so_far.verdict ≡ false
+      ((is_end reply || end_told h replies) ≡ true → rest ≡ []) → (replayed_on h replies).fault ≡ None → is_open (replayed_on h replies).so_far.verdict ≡ false
       → told (replayed_on h replies).so_far.entries (replayed_on h replies).so_far.verdict ≡ replay_of (log ++ ((bytes_in reply ++ delivered h replies) ++ rest))
 
   -- the end of the log
-  end_tells : HeardTells (run.Came []) (going (onward true f []) fault.None)
+  end_tells : HeardTells (run.Came []) (going (onward true f []) None)
   end_tells end none told-so =
-      let g : Going = going (onward true f []) fault.None in
+      let g : Going = going (onward true f []) None in
       let over : goes_on g ≡ false = end_told_lem f open_still in
       let nothing : delivered g replies ≡ [] = delivers_none g replies over in
       ap (λ (h : Going). told h.so_far.entries h.so_far.verdict) (stays g replies over)
@@ -217,9 +212,9 @@ module _ (replies : List Reply) (rest : List ℕ) (behind : (f : SoFar) (log : L
       ∙ ap replay_of (sym (append-nil log) ∙ ap (λ (x : List ℕ). log ++ x) (λ j. sym nothing j ++ sym (end refl) j))
 
   -- a window more
-  window_tells : (bytes : List ℕ) → eqb (length bytes) 0 ≡ false → HeardTells (run.Came bytes) (going (onward false f bytes) fault.None)
+  window_tells : (bytes : List ℕ) → eqb (length bytes) 0 ≡ false → HeardTells (run.Came bytes) (going (onward false f bytes) None)
   window_tells bytes some end none told-so =
-      let g : Going = going (onward false f bytes) fault.None in
+      let g : Going = going (onward false f bytes) None in
       let later : end_told g replies ≡ true → rest ≡ [] = λ e. end (ap (λ (t : Bool). t || end_told g replies) some ∙ e) in
       behind (onward false f bytes) (log ++ bytes) (reached_more f log bytes r) later none told-so
       ∙ ap replay_of (append_assoc log bytes (delivered g replies ++ rest) ∙ ap (λ (x : List ℕ). log ++ x) (sym (append_assoc bytes (delivered g replies) rest)))
@@ -228,18 +223,18 @@ module _ (replies : List Reply) (rest : List ℕ) (behind : (f : SoFar) (log : L
   came_tells : (bytes : List ℕ) → HeardTells (run.Came bytes) (heard_by f (run.Came bytes))
   came_tells bytes = by_size (eqb (length bytes) 0) refl
     where
-      by_count : (over : Bool) → HeardTells (run.Came bytes) (going (onward over f bytes) fault.None)
+      by_count : (over : Bool) → HeardTells (run.Came bytes) (going (onward over f bytes) None)
           → HeardTells (run.Came bytes) (counted f (onward over f bytes))
       by_count over tells = go (ltb (onward over f bytes).entries largest)
         where
-          go : (t : Bool) → HeardTells (run.Came bytes) (cond t (going (onward over f bytes) fault.None) (going f fault.TooMany))
+          go : (t : Bool) → HeardTells (run.Came bytes) (cond t (going (onward over f bytes) None) (going f (Some fault.TooMany)))
           go true = tells
-          go false = λ end none told-so. absurd (at_fault f fault.TooMany replies refl none)
+          go false = λ end none told-so. absurd (at_fault f (Some fault.TooMany) replies refl none)
 
       by_size : (t : Bool) → eqb (length bytes) 0 ≡ t → HeardTells (run.Came bytes) (counted f (onward (eqb (length bytes) 0) f bytes))
       by_size true e =
           subst (λ (t : Bool). HeardTells (run.Came bytes) (counted f (onward t f bytes))) (sym e)
-          (by_count true (subst (λ (x : List ℕ). HeardTells (run.Came x) (going (onward true f x) fault.None)) (sym (no_bytes bytes e)) end_tells))
+          (by_count true (subst (λ (x : List ℕ). HeardTells (run.Came x) (going (onward true f x) None)) (sym (no_bytes bytes e)) end_tells))
       by_size false e = subst (λ (t : Bool). HeardTells (run.Came bytes) (counted f (onward t f bytes))) (sym e) (by_count false (window_tells bytes e))
 
   -- any answer
@@ -247,15 +242,15 @@ module _ (replies : List Reply) (rest : List ℕ) (behind : (f : SoFar) (log : L
   heard_tells (run.Came bytes) = came_tells bytes
   heard_tells (run.Took n) = behind f log r
   heard_tells run.Again = behind f log r
-  heard_tells run.Failed = λ end none told-so. absurd (at_fault f fault.Reading replies refl none)
+  heard_tells run.Failed = λ end none told-so. absurd (at_fault f (Some fault.Reading) replies refl none)
 
 -- one answer more, whether the replay goes on or not
-tells_more : (reply : Reply) (replies : List Reply) (rest : List ℕ) → ((f : SoFar) (log : List ℕ) → Reached f log → Tells (going f fault.None) replies log rest)
-    → (f : SoFar) (log : List ℕ) → Reached f log → Tells (going f fault.None) (reply ∷ replies) log rest
+tells_more : (reply : Reply) (replies : List Reply) (rest : List ℕ) → ((f : SoFar) (log : List ℕ) → Reached f log → Tells (going f None) replies log rest)
+    → (f : SoFar) (log : List ℕ) → Reached f log → Tells (going f None) (reply ∷ replies) log rest
 tells_more reply replies rest behind f log r = by_open (is_open f.verdict) refl
   where
     g : Going
-    g = going f fault.None
+    g = going f None
 
     by_open : (t : Bool) → is_open f.verdict ≡ t → Tells g (reply ∷ replies) log rest
     by_open true e = λ end none told-so.
@@ -269,13 +264,13 @@ tells_more reply replies rest behind f log r = by_open (is_open f.verdict) refl
         ∙ ap (λ (b : Bool). replay_of (log ++ (cond b (bytes_in reply ++ delivered (further g reply) replies) [] ++ rest))) (sym e)
 
 -- a verdict that is told is that of the log that the answers come from
-verdict_from : (replies : List Reply) (rest : List ℕ) (f : SoFar) (log : List ℕ) → Reached f log → Tells (going f fault.None) replies log rest
+verdict_from : (replies : List Reply) (rest : List ℕ) (f : SoFar) (log : List ℕ) → Reached f log → Tells (going f None) replies log rest
 verdict_from [] rest f log r = λ end none told-so. reached_told f log rest r told-so
 verdict_from (reply ∷ replies) rest f log r = tells_more reply replies rest (verdict_from replies rest) f log r
 
 -- from the beginning
 verdict_whole : (replies : List Reply) (log : List ℕ) → LogOf replies log → let g = replayed_on begun replies in
-    g.fault ≡ fault.None → is_open g.so_far.verdict ≡ false → told g.so_far.entries g.so_far.verdict ≡ replay_of log
+    g.fault ≡ None → is_open g.so_far.verdict ≡ false → told g.so_far.entries g.so_far.verdict ≡ replay_of log
 verdict_whole replies log l none told-so = verdict_from replies l.rest laws.begun [] reached_begun l.whole none told-so ∙ ap replay_of (sym l.begins)
 
 -- ---- the end, and a failed read
@@ -286,7 +281,7 @@ end_heard f (run.Came bytes) still is =
     subst (λ (t : Bool). goes_on (counted f (onward t f bytes)) ≡ false) (sym is)
     (subst (λ (x : List ℕ). goes_on (counted f (onward true f x)) ≡ false) (sym (no_bytes bytes is)) (by_count (ltb (onward true f []).entries largest)))
   where
-    by_count : (t : Bool) → goes_on (cond t (going (onward true f []) fault.None) (going f fault.TooMany)) ≡ false
+    by_count : (t : Bool) → goes_on (cond t (going (onward true f []) None) (going f (Some fault.TooMany))) ≡ false
     by_count true = end_told_lem f still
     by_count false = refl
 end_heard f (run.Took n) still is = absurd (false≢true is)
@@ -326,7 +321,7 @@ window_other f window other = go (is_open f.verdict)
 pub heard_end : (f : SoFar) (reply : Reply) → (f.verdict ≡ Agrees → ⊥) → (is_end reply ≡ true) ⊎ ((heard_by f reply).so_far.verdict ≡ Agrees → ⊥)
 heard_end f (run.Came bytes) other = by_size (eqb (length bytes) 0) refl
   where
-    by_count : (t : Bool) → (cond t (going (onward false f bytes) fault.None) (going f fault.TooMany)).so_far.verdict ≡ Agrees → ⊥
+    by_count : (t : Bool) → (cond t (going (onward false f bytes) None) (going f (Some fault.TooMany))).so_far.verdict ≡ Agrees → ⊥
     by_count true = window_other f bytes other
     by_count false = other
 
@@ -371,14 +366,14 @@ replayed_append g [] after = refl
 replayed_append g (reply ∷ before) after = replayed_append (further g reply) before after
 
 -- a read that fails before a verdict is told leaves none
-failed_read : (before after : List Reply) → goes_on (replayed_on begun before) ≡ true → (replayed_on begun (before ++ run.Failed ∷ after)).fault ≡ fault.Reading
+failed_read : (before after : List Reply) → goes_on (replayed_on begun before) ≡ true → (replayed_on begun (before ++ run.Failed ∷ after)).fault ≡ Some fault.Reading
 failed_read before after e =
     let g : Going = replayed_on begun before in
-    let failed : further g run.Failed ≡ going g.so_far fault.Reading = ap (λ (t : Bool). cond t (going g.so_far fault.Reading) g) e in
+    let failed : further g run.Failed ≡ going g.so_far (Some fault.Reading) = ap (λ (t : Bool). cond t (going g.so_far (Some fault.Reading)) g) e in
     ap (λ (h : Going). h.fault)
     (replayed_append begun before (run.Failed ∷ after)
     ∙ ap (λ (h : Going). replayed_on h after) failed
-    ∙ stays (going g.so_far fault.Reading) after refl)
+    ∙ stays (going g.so_far (Some fault.Reading)) after refl)
 
 -- an open verdict is no agreement
 pub open_other : Open ≡ Agrees → ⊥

@@ -8,8 +8,8 @@ use lib.Dec.{eqb}
 use lib.ListN.{length, take, drop, length-take, length-drop}
 use lib.Seq.{take-nil, take-add, drop-drop, length-take-le}
 use borrow.Author.Tests.{eqb-true, eqb-false, eq-eqb, ne_eqb}
-use Rattle.bench.specs.declared.progress.Heard.{Heard}
-use Rattle.bench.specs.declared.progress.Heard.TheVariants.{Moved, Again, Failed}
+use Rattle.std.proofs.Common.{Ok, Err}
+use Rattle.bench.specs.declared.progress.Unmoved.TheVariants.{Again, Failed}
 use Rattle.turns.specs.declared.Stage.{Stage}
 use Rattle.turns.specs.declared.Stage.TheVariants.{Judge, Close, Read, Write, Say, Over}
 use Rattle.bench.specs.declared.progress.Progress.{Progress}
@@ -18,7 +18,7 @@ use Rattle.turns.specs.Run as run
 use Rattle.turns.specs.Tallies.{last_words}
 use Rattle.bench.specs.Lines.{Follows}
 use Rattle.turns.specs.Laws.{OneAnswer}
-use Rattle.bench.specs.Progress.{failing, ending, front, read_more, wrote, wrote_more, moved_by, Sound, view, More, Less, Closed}
+use Rattle.bench.specs.Progress.{Heard, failing, ending, front, read_more, wrote, wrote_more, moved_by, Sound, view, More, Less, Closed}
 
 -- ---- parts of lists
 
@@ -59,21 +59,21 @@ unfolding came
 answered_read p q before after text reading m = subst (λ (r : Progress). OneAnswer (view p before text) (view r after text)) (sym m.is) (go m.heard m.fits)
   where
     go : (h : Heard) → p.filled - p.start + moved_by h ≤ length after → OneAnswer (view p before text) (view (read_more (front p) h) after text)
-    go (Moved n) fits =
+    go (Ok n) fits =
         let size = p.filled - p.start in
         let room : length (take n (drop size after)) ≡ n = length-take-le n (drop size after) (omega (arith, length-drop size after)) in
         let all : take (size + n - 0) after ≡ take size (drop p.start before) ++ take n (drop size after) =
         ap (λ (k : ℕ). take k after) (less (size + n)) ∙ take-add size n after ∙ ap (λ (l : List ℕ). l ++ take n (drop size after)) m.kept in
         record { reply = Came (take n (drop size after)); is = rw (reading, room, all) }
-    go Again fits = record { reply = run.Again; is = rw (ap (λ (k : ℕ). take k after) (less (p.filled - p.start)) ∙ m.kept) }
-    go Failed fits = record { reply = run.Failed; is = rw (ap (λ (k : ℕ). take k after) (less (p.filled - p.start)) ∙ m.kept) }
+    go (Err Again) fits = record { reply = run.Again; is = rw (ap (λ (k : ℕ). take k after) (less (p.filled - p.start)) ∙ m.kept) }
+    go (Err Failed) fits = record { reply = run.Failed; is = rw (ap (λ (k : ℕ). take k after) (less (p.filled - p.start)) ∙ m.kept) }
 
 -- the places stay within their bounds
 pub sound_read : (p q : Progress) (before after text : List ℕ) → length after ≡ length before → More p before q after → Sound p before text → Sound q after text
 sound_read p q before after text same m s = subst (λ (r : Progress). Sound r after text) (sym m.is) (go m.heard m.fits)
   where
     go : (h : Heard) → p.filled - p.start + moved_by h ≤ length after → Sound (read_more (front p) h) after text
-    go (Moved n) fits =
+    go (Ok n) fits =
         record {
           begins = omega arith;
           inside = fits;
@@ -84,7 +84,7 @@ sound_read p q before after text same m s = subst (λ (r : Progress). Sound r af
           long = s.long;
           few = s.few;
         }
-    go Again fits =
+    go (Err Again) fits =
         record {
           begins = omega arith;
           inside = omega (arith, s.inside);
@@ -95,7 +95,7 @@ sound_read p q before after text same m s = subst (λ (r : Progress). Sound r af
           long = s.long;
           few = s.few;
         }
-    go Failed fits =
+    go (Err Failed) fits =
         record {
           begins = omega arith;
           inside = omega (arith, s.inside);
@@ -162,9 +162,9 @@ answered_write p q buffer text writing s l = subst (λ (r : Progress). OneAnswer
     by_count n fits false = rw (drop_part n p.size p.from text (omega arith), none_left n p.size p.from text fits s.size_text)
 
     go : (h : Heard) → p.from + moved_by h ≤ p.size → OneAnswer (view p buffer text) (view (wrote_more p h) buffer text)
-    go (Moved n) fits = record { reply = Took n; is = rw writing (by_count n fits (eqb n 0)) }
-    go Again fits = record { reply = run.Again; is = refl }
-    go Failed fits = record { reply = run.Failed; is = refl }
+    go (Ok n) fits = record { reply = Took n; is = rw writing (by_count n fits (eqb n 0)) }
+    go (Err Again) fits = record { reply = run.Again; is = refl }
+    go (Err Failed) fits = record { reply = run.Failed; is = refl }
 
 -- the places stay within their bounds
 pub sound_write : (p q : Progress) (buffer text : List ℕ) → is_writing p.stage ≡ true → Less p q → Sound p buffer text → Sound q buffer text
@@ -207,9 +207,9 @@ sound_write p q buffer text writing l s = subst (λ (r : Progress). Sound r buff
     taken false n fits = within (p.from + n) (cond (eqb (p.from + n) p.size) (behind p.stage) p.stage) fits (next_reads (eqb (p.from + n) p.size))
 
     go : (h : Heard) → p.from + moved_by h ≤ p.size → Sound (wrote_more p h) buffer text
-    go (Moved n) fits = taken (eqb n 0) n fits
-    go Again fits = s
-    go Failed fits = within p.from (failed p.stage) s.from_size (failed_asks p.stage)
+    go (Ok n) fits = taken (eqb n 0) n fits
+    go (Err Again) fits = s
+    go (Err Failed) fits = within p.from (failed p.stage) s.from_size (failed_asks p.stage)
 
 -- ---- the end
 

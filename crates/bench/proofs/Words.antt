@@ -1,16 +1,19 @@
 -- Words that are the same, or not.
-use mathlib.Core.Path.{◌≡◌, refl, ap, ◌∙◌}
-use mathlib.Core.Bool.{Bool, true, false, false≢true}
-use mathlib.Core.List.{List}
+use mathlib.Core.Path.{◌≡◌, refl, sym, ap, ◌∙◌}
+use mathlib.Core.Bool.{Bool, ◌&&◌}
+use mathlib.Core.List.{List, [], ◌∷◌}
 use Prim.Native.Nat.{ℕ}
+use lib.Dec.{eqb}
+use lib.Pointwise.{pointwise}
 use Rattle.permutation.specs.Strings.{same}
-use Rattle.permutation.proofs.Strings.{same_refl, same_eq}
 
--- a test that holds exactly where two texts are the same is the definitions' own
-pub same_as : (x y : List ℕ) (r : Bool) → (r ≡ true → x ≡ y) × (x ≡ y → r ≡ true) → same x y ≡ r
-same_as x y true t = ap (λ (z : List ℕ). same z y) (t.0 refl) ∙ same_refl y
-same_as x y false t = go (same x y) refl
-  where
-    go : (b : Bool) → same x y ≡ b → b ≡ false
-    go true e = absurd (false≢true (t.1 (same_eq x y e)))
-    go false e = refl
+-- the definitions' own test compares pair by pair
+by_pairs : (x y : List ℕ) → same x y ≡ pointwise eqb x y
+by_pairs [] [] = refl
+by_pairs [] (b ∷ y) = refl
+by_pairs (a ∷ x) [] = refl
+by_pairs (a ∷ x) (b ∷ y) = ap (λ (t : Bool). eqb a b && t) (by_pairs x y)
+
+-- what `==` says of a text and a word is what that test says
+pub same_as : (x y : List ℕ) {z : List ℕ} {r : Bool} → z ≡ y → r ≡ pointwise eqb x z → same x y ≡ r
+same_as x y is e = by_pairs x y ∙ ap (λ (w : List ℕ). pointwise eqb x w) (sym is) ∙ sym e

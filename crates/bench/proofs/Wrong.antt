@@ -42,7 +42,7 @@ one_byte = go (heard_end (so_far beginning (0x63 ∷ [])) (run.Came (0x63 ∷ []
     go (inr other) = other
 
 -- each by the contract as the kit reads it off the source
-pub ruled_out : (one two : Lft) → RuledOut (λ count error r. hear.Learnt tt (count, (error, tt)) r (count, (error, tt)))
+pub ruled_out : (one two : Lft) → RuledOut (λ answer r. hear.Learnt tt (answer, tt) r (answer, tt))
     (λ p heard r. after_read.Learnt tt (p, (heard, tt)) r (p, (heard, tt)))
     (λ tally verdict r. counted.Learnt tt (tally, (verdict, tt)) r (tally, (verdict, tt)))
     (λ filled heard r. read_whole.Learnt tt (filled, (heard, tt)) r (filled, (heard, tt)))
@@ -58,8 +58,8 @@ ruled_out one two =
       failure = λ p allowed close. let z : ◌≡◌ {A = ℕ} 0 1 = cc (sym close ∙ ap (λ (q : Progress). q.stage) allowed) in omega arith;
       tag = λ t allowed one. let none : ◌≡◌ {A = ℕ} 1 0 = sym one ∙ ap (λ (t : Tally). t.equal) allowed in omega arith;
       column = λ t allowed none. let kept : ◌≡◌ {A = ℕ} 0 17 = sym none ∙ ap (λ (t : Tally). t.column) allowed in omega arith;
-      input_failure = λ filled size allowed. let z : ◌≡◌ {A = ℕ} 0 1 = cc allowed in omega arith;
-      input_end = λ filled size allowed. let z : ◌≡◌ {A = ℕ} 0 1 = cc allowed in omega arith;
+      input_failure = λ filled allowed. let z : ◌≡◌ {A = ℕ} 0 1 = cc allowed in omega arith;
+      input_end = λ filled allowed. let z : ◌≡◌ {A = ℕ} 0 1 = cc allowed in omega arith;
       output_nothing = λ from allowed. let z : ◌≡◌ {A = ℕ} 0 1 = cc allowed in omega arith;
       decimal_empty = λ n allowed. let z : ◌≡◌ {A = ℕ} 0 1 = cc allowed in omega arith;
       decimal_sign = λ n allowed. let z : ◌≡◌ {A = ℕ} 0 1 = cc allowed in omega arith;

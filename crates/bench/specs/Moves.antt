@@ -1,24 +1,21 @@
 -- What the program says of a moving.
-use Rattle.std.specs.Prelude.{cond, List, [], ◌++◌, ◌≡◌, ℕ, eqb, length}
+use Rattle.std.specs.Prelude.{cond, Result, Ok, Err, List, [], ◌++◌, ◌≡◌, ℕ, eqb, length}
 use Rattle.answers.specs.declared.Answer.TheVariants.{Done, UnknownSet, BrokenRecord, ChipLost}
 use Rattle.answers.specs.Numbers.{number_of, is_done}
 use Rattle.digits.specs.Ascii.{ascii}
 use Rattle.moving.specs.declared.all.MovingAll.{MovingAll}
 use Rattle.moving.specs.Moves.{refused_all}
 use Rattle.turns.specs.Tallies.{numbered}
-use Rattle.bench.specs.declared.moves.Carried.{Carried}
-use Rattle.bench.specs.declared.moves.Carried.TheVariants as carried
+use Rattle.bench.specs.declared.whole.Unread.{Unread}
 
 -- a place of so many bytes. The checker must not count a million of them one by one, and so does not look inside
 unfoldable pub Places : ℕ → List ℕ → Type 0
 Places n place = n ≡ length place
 
 -- how many bytes of the output were written
-abbrev pub written_in : Carried → ℕ
-written_in (carried.Moved moved) = moved.written
-written_in carried.TooLong = 0
-written_in carried.Unread = 0
-written_in carried.Endless = 0
+abbrev pub written_in : Result MovingAll Unread → ℕ
+written_in (Ok moved) = moved.written
+written_in (Err why) = 0
 
 -- the number of the record that is refused, where there is one
 unfoldable pub record_words : MovingAll → List ℕ

@@ -1,5 +1,5 @@
 -- How far the code is: its places in the buffer and in the text, what each function makes of them, and how they show the program's run.
-use Rattle.std.specs.Prelude.{Bool, false, cond, List, ◌≡◌, ℕ, ◌+◌, ◌-◌, ◌≤◌, ◌<◌, eqb, ℤ, pos, negsuc, length, take, drop}
+use Rattle.std.specs.Prelude.{Bool, false, cond, Result, Ok, Err, List, ◌≡◌, ℕ, ◌+◌, ◌-◌, ◌≤◌, ◌<◌, eqb, ℤ, pos, negsuc, length, take, drop}
 use Rattle.record.specs.declared.form.Form.TheVariants.{Two}
 use Rattle.record.specs.Text.{most_bytes}
 use Rattle.report.specs.declared.Verdict.{Verdict}
@@ -7,8 +7,10 @@ use Rattle.report.specs.declared.Verdict.TheVariants.{Unread}
 use Rattle.judge.specs.declared.stepping.Step.{Step}
 use Rattle.judge.specs.declared.stepping.Step.TheVariants.{Judged, Stopped, Wait, End, Short}
 use Rattle.judge.specs.Steps.{taken_by}
-use Rattle.bench.specs.declared.progress.Heard.{Heard}
-use Rattle.bench.specs.declared.progress.Heard.TheVariants.{Moved, Again, Failed}
+use Rattle.bench.specs.declared.progress.Unmoved.{Unmoved}
+use Rattle.bench.specs.declared.progress.Unmoved.TheVariants.{Again, Failed}
+use Rattle.bench.specs.declared.system.Sink.{Sink}
+use Rattle.bench.specs.declared.system.Sink.TheVariants.{Output, Messages}
 use Rattle.turns.specs.declared.Ending.TheVariants.{TooMany}
 use Rattle.turns.specs.declared.Stage.{Stage}
 use Rattle.turns.specs.declared.Stage.TheVariants.{Judge, Close, Read, Write, Say, Over}
@@ -16,14 +18,14 @@ use Rattle.bench.specs.declared.progress.Progress.{Progress}
 use Rattle.turns.specs.Tallies.{none, counted_with, records_of, largest}
 use Rattle.turns.specs.Run.{Standing, closed, behind, failed}
 
--- the number of standard error for the last words, of standard output else
-abbrev pub descriptor_of : Stage → ℤ
-descriptor_of Judge = pos 1
-descriptor_of Close = pos 1
-descriptor_of Read = pos 1
-descriptor_of Write = pos 1
-descriptor_of Say = pos 2
-descriptor_of (Over ending) = pos 1
+-- standard error for the last words, standard output else
+abbrev pub sink_of : Stage → Sink
+sink_of Judge = Output
+sink_of Close = Output
+sink_of Read = Output
+sink_of Write = Output
+sink_of Say = Messages
+sink_of (Over ending) = Output
 
 -- nothing is read, and nothing is judged
 abbrev pub fresh : Progress
@@ -63,17 +65,21 @@ abbrev pub is_signal : ℤ → Bool
 is_signal (pos error) = eqb error 4
 is_signal (negsuc error) = false
 
--- what the raw answer of a call says: how many bytes it moved, or, where that is negative, why it moved none
-abbrev pub heard_of : ℤ → ℤ → Heard
-heard_of (pos count) error = Moved count
-heard_of (negsuc count) error = cond (is_signal error) Again Failed
+-- what the answer of a call says: how many bytes it moved, or why it moved none
+abbrev pub Heard : Type 0
+Heard = Result ℕ Unmoved
+
+-- what its raw answer says, which has the number of an error
+abbrev pub heard_of : Result ℕ ℤ → Heard
+heard_of (Ok count) = Ok count
+heard_of (Err error) = Err (cond (is_signal error) Again Failed)
 
 -- after a read
 abbrev pub read_more : Progress → Heard → Progress
-read_more p (Moved count) =
+read_more p (Ok count) =
     record { start = p.start; filled = p.filled + count; ended = eqb count 0; tally = p.tally; from = p.from; size = p.size; stage = Judge }
-read_more p Again = p
-read_more p Failed = failing p
+read_more p (Err Again) = p
+read_more p (Err Failed) = failing p
 
 -- after a write that took so many bytes
 unfoldable pub wrote : Progress → ℕ → Progress
@@ -91,9 +97,9 @@ wrote p count =
 
 -- after a write
 abbrev pub wrote_more : Progress → Heard → Progress
-wrote_more p (Moved count) = wrote p count
-wrote_more p Again = p
-wrote_more p Failed = failing p
+wrote_more p (Ok count) = wrote p count
+wrote_more p (Err Again) = p
+wrote_more p (Err Failed) = failing p
 
 -- ---- within bounds
 
@@ -104,9 +110,8 @@ pub record Takes (p : Progress) (step : Step) : Type 0 where
 
 -- how many bytes an answer moved
 abbrev pub moved_by : Heard → ℕ
-moved_by (Moved count) = count
-moved_by Again = 0
-moved_by Failed = 0
+moved_by (Ok count) = count
+moved_by (Err why) = 0
 
 -- the window lies in the buffer, which has room for more than the most bytes of a record; where a read is next, the window is shorter than that; what is left to write
 -- lies in the text, which has room for a report and for the last words; the next verdict can be counted

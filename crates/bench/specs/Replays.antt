@@ -1,5 +1,5 @@
 -- The replay of the log on standard input, by what the operating system answers call by call, and what the program says of it.
-use Rattle.std.specs.Prelude.{Bool, true, false, cond, ◌&&◌, ◌||◌, List, [], ◌∷◌, ◌++◌, ◌⊎◌, ◌≡◌, ℕ, ◌+◌, ◌-◌, ◌<◌, eqb, ltb, length, take, drop}
+use Rattle.std.specs.Prelude.{Option, Some, None, Ok, Err, Bool, true, false, cond, ◌&&◌, ◌||◌, List, [], ◌∷◌, ◌++◌, ◌⊎◌, ◌≡◌, ℕ, ◌+◌, ◌-◌, ◌<◌, eqb, ltb, length, take, drop}
 use Rattle.digits.specs.Ascii.{ascii}
 use Rattle.chip_log.specs.Laws.{most_bytes}
 use Rattle.replay.specs.declared.window.Stretch.{Stretch}
@@ -11,30 +11,29 @@ use Rattle.replay.specs.Laws as laws
 use Rattle.turns.specs.Run as run
 use Rattle.turns.specs.Run.{Reply}
 use Rattle.turns.specs.Tallies.{largest, numbered, fault_line}
-use Rattle.bench.specs.declared.progress.Heard.{Heard}
-use Rattle.bench.specs.declared.progress.Heard.TheVariants.{Moved, Again, Failed}
+use Rattle.bench.specs.declared.progress.Unmoved.TheVariants.{Again, Failed}
 use Rattle.bench.specs.declared.replays.Fault.{Fault}
 use Rattle.bench.specs.declared.replays.Fault.TheVariants as fault
 use Rattle.bench.specs.declared.replays.Replaying.{Replaying}
+use Rattle.bench.specs.Progress.{Heard}
 
 -- ---- the run
 
 -- a replay so far, and what keeps it from its verdict
 pub record Going : Type 0 where
   pub so_far : SoFar
-  pub fault : Fault
+  pub fault : Option Fault
 
-abbrev pub going : SoFar → Fault → Going
+abbrev pub going : SoFar → Option Fault → Going
 going so_far fault = record { so_far = so_far; fault = fault }
 
 -- before the first read
 abbrev pub begun : Going
-begun = going laws.begun fault.None
+begun = going laws.begun None
 
-abbrev pub is_none : Fault → Bool
-is_none fault.None = true
-is_none fault.Reading = false
-is_none fault.TooMany = false
+abbrev pub is_none : Option Fault → Bool
+is_none None = true
+is_none (Some why) = false
 
 -- it goes on: no verdict is told, and nothing keeps it from one
 abbrev pub goes_on : Going → Bool
@@ -42,15 +41,15 @@ goes_on g = is_none g.fault && is_open g.so_far.verdict
 
 -- the number of an entry has 64 bits
 abbrev pub counted : SoFar → SoFar → Going
-counted before after = cond (ltb after.entries largest) (going after fault.None) (going before fault.TooMany)
+counted before after = cond (ltb after.entries largest) (going after None) (going before (Some fault.TooMany))
 
 -- what an answer to a read makes of it: bytes are a window more, and none is the end of the log; a signal changes nothing; a failure is no end. An answer to a write, which
 -- no read gets, changes nothing either
 abbrev pub heard_by : SoFar → Reply → Going
 heard_by f (run.Came bytes) = counted f (onward (eqb (length bytes) 0) f bytes)
-heard_by f (run.Took n) = going f fault.None
-heard_by f run.Again = going f fault.None
-heard_by f run.Failed = going f fault.Reading
+heard_by f (run.Took n) = going f None
+heard_by f run.Again = going f None
+heard_by f run.Failed = going f (Some fault.Reading)
 
 -- one answer more; a replay that is over stays as it is
 abbrev pub further : Going → Reply → Going
@@ -128,12 +127,12 @@ is_running r = is_none r.fault && is_open r.verdict
 
 -- the code's replay, kept from its verdict
 abbrev pub with_fault : Replaying → Fault → Replaying
-with_fault r fault = record { left = r.left; entries = r.entries; stream = r.stream; verdict = r.verdict; fault = fault }
+with_fault r fault = record { left = r.left; entries = r.entries; stream = r.stream; verdict = r.verdict; fault = Some fault }
 
 -- and behind a stretch of so many bytes
 abbrev pub stretched : Replaying → ℕ → Stretch → Replaying
 stretched r filled stretch =
-    record { left = filled - stretch.taken; entries = r.entries + stretch.entries; stream = stretch.stream; verdict = stretch.verdict; fault = fault.None }
+    record { left = filled - stretch.taken; entries = r.entries + stretch.entries; stream = stretch.stream; verdict = stretch.verdict; fault = None }
 
 -- what the buffer shows of a replay
 abbrev pub so_far : Replaying → List ℕ → SoFar
@@ -150,9 +149,9 @@ pub record HeardBytes (r : Replaying) (before : List ℕ) (count : ℕ) (s : Rep
 
 -- what the answer to a read says, of a buffer that it came into behind what is left
 abbrev pub reply_of : ℕ → List ℕ → Heard → Reply
-reply_of left buffer (Moved count) = run.Came (take count (drop left buffer))
-reply_of left buffer Again = run.Again
-reply_of left buffer Failed = run.Failed
+reply_of left buffer (Ok count) = run.Came (take count (drop left buffer))
+reply_of left buffer (Err Again) = run.Again
+reply_of left buffer (Err Failed) = run.Failed
 
 -- this answer
 pub record HeardAs (r : Replaying) (before : List ℕ) (heard : Heard) (s : Replaying) (after : List ℕ) : Type 0 where
@@ -179,13 +178,13 @@ pub record ReplayedAll (s : Replaying) (after : List ℕ) : Type 0 where
 pub record ReplaysInput : Type 0 where
   -- a verdict that is told is that of the whole log that the answers come from, and so is the number of its entry
   pub verdict : (replies : List Reply) (log : List ℕ) → LogOf replies log → let g = replayed_on begun replies in
-      g.fault ≡ fault.None → is_open g.so_far.verdict ≡ false → told g.so_far.entries g.so_far.verdict ≡ replay_of log
+      g.fault ≡ None → is_open g.so_far.verdict ≡ false → told g.so_far.entries g.so_far.verdict ≡ replay_of log
   -- at the end of the log it does not go on: a verdict is told, or something keeps it from one
   pub ends : (replies : List Reply) → end_told begun replies ≡ true → goes_on (replayed_on begun replies) ≡ false
   -- all agree is told only where the end of the log was
   pub at_end : (replies : List Reply) → (replayed_on begun replies).so_far.verdict ≡ Agrees → end_told begun replies ≡ true
   -- a read that fails before a verdict is told leaves none
-  pub failure : (before after : List Reply) → goes_on (replayed_on begun before) ≡ true → (replayed_on begun (before ++ run.Failed ∷ after)).fault ≡ fault.Reading
+  pub failure : (before after : List Reply) → goes_on (replayed_on begun before) ≡ true → (replayed_on begun (before ++ run.Failed ∷ after)).fault ≡ Some fault.Reading
   -- the words, spelled out: all agree, an empty log, each difference, an entry that is unread
   pub agreed : report_words 3 Agrees ≡ ascii "entry=3\nverdict=agrees\nfield=none\n"
   pub empty : report_words 0 Agrees ≡ ascii "entry=0\nverdict=agrees\nfield=none\n"

@@ -1,18 +1,21 @@
 -- All of the input read, moved and written, by what the operating system answers call by call.
-use Rattle.std.specs.Prelude.{Bool, true, false, cond, List, [], ◌∷◌, ◌++◌, ◌⊎◌, ◌≡◌, ℕ, ◌+◌, ◌≤◌, eqb, length, take}
+use Rattle.std.specs.Prelude.{Bool, true, false, cond, Option, Some, None, Result, Ok, Err, List, [], ◌∷◌, ◌++◌, ◌⊎◌, ◌≡◌, ℕ, ◌+◌, ◌≤◌, eqb, length, take}
+use Rattle.moving.specs.declared.all.MovingAll.{MovingAll}
 use Rattle.moving.specs.declared.route.Route.{Route}
 use Rattle.moving.specs.Moves.{move_all_call}
 use Rattle.turns.specs.Tallies.{largest}
 use Rattle.turns.specs.Run as run
 use Rattle.turns.specs.Run.{Reply}
-use Rattle.bench.specs.declared.progress.Heard.{Heard}
-use Rattle.bench.specs.declared.progress.Heard.TheVariants.{Moved, Again, Failed}
-use Rattle.bench.specs.declared.whole.Input.{Input}
-use Rattle.bench.specs.declared.whole.Input.TheVariants as input
-use Rattle.bench.specs.declared.whole.Output.{Output}
-use Rattle.bench.specs.declared.whole.Output.TheVariants as output
-use Rattle.bench.specs.declared.moves.Carried.{Carried}
-use Rattle.bench.specs.declared.moves.Carried.TheVariants as carried
+use Rattle.bench.specs.declared.progress.Unmoved.TheVariants.{Again, Failed}
+use Rattle.bench.specs.declared.whole.Unread.{Unread}
+use Rattle.bench.specs.declared.whole.Unread.TheVariants as unread
+use Rattle.bench.specs.declared.whole.Unwritten.{Unwritten}
+use Rattle.bench.specs.declared.whole.Unwritten.TheVariants as unwritten
+use Rattle.bench.specs.Input.{Input}
+use Rattle.bench.specs.Input as input
+use Rattle.bench.specs.Output.{Output}
+use Rattle.bench.specs.Output as output
+use Rattle.bench.specs.Progress.{Heard}
 
 -- ---- reading
 
@@ -53,30 +56,35 @@ read_on room g (reply ∷ later) = read_on room (further room g.content g.input 
 
 -- what a moving of all of the input leaves: how it ended, and what the place of the output then holds
 pub record CarryLeaves : Type 0 where
-  pub ended : Carried
+  pub ended : Result MovingAll Unread
   pub out : List ℕ
 
-abbrev pub carry_leaves : Carried → List ℕ → CarryLeaves
+abbrev pub carry_leaves : Result MovingAll Unread → List ℕ → CarryLeaves
 carry_leaves ended out = record { ended = ended; out = out }
 
 -- all that was read is moved, if that was all of the input; else the output is left as it was
 abbrev pub carried_by : Route → List ℕ → Input → List ℕ → CarryLeaves
-carried_by route content (input.Part filled) out = carry_leaves carried.Endless out
-carried_by route content (input.Whole size) out = let leaves = move_all_call route content out in carry_leaves (carried.Moved leaves.outcome) leaves.out
-carried_by route content input.TooLong out = carry_leaves carried.TooLong out
-carried_by route content input.Failed out = carry_leaves carried.Unread out
+carried_by route content (input.Part filled) out = carry_leaves (Err unread.Endless) out
+carried_by route content (input.Whole size) out = let leaves = move_all_call route content out in carry_leaves (Ok leaves.outcome) leaves.out
+carried_by route content input.TooLong out = carry_leaves (Err unread.TooLong) out
+carried_by route content input.Failed out = carry_leaves (Err unread.Failed) out
 
 -- ---- writing
 
 -- what an answer makes of so many bytes: none taken is a failure
-abbrev pub wrote_by : ℕ → Heard → Output
-wrote_by from (Moved count) = cond (eqb count 0) output.Failed (output.Part (from + count))
-wrote_by from Again = output.Part from
-wrote_by from Failed = output.Failed
+abbrev pub wrote_by : ℕ → Heard → Result ℕ Unwritten
+wrote_by from (Ok count) = cond (eqb count 0) (Err unwritten.Failed) (Ok (from + count))
+wrote_by from (Err Again) = Ok from
+wrote_by from (Err Failed) = Err unwritten.Failed
+
+-- how far the writing then is
+abbrev pub output_by : Result ℕ Unwritten → Output
+output_by (Ok from) = output.Part from
+output_by (Err why) = output.Failed
 
 -- one answer more, of a text of so many bytes: where all were taken, the writing is over
 abbrev pub part_written : ℕ → Output → Heard → Output
-part_written size (output.Part from) heard = cond (eqb from size) output.Whole (wrote_by from heard)
+part_written size (output.Part from) heard = cond (eqb from size) output.Whole (output_by (wrote_by from heard))
 part_written size output.Whole heard = output.Whole
 part_written size output.Failed heard = output.Failed
 
@@ -85,19 +93,13 @@ abbrev pub written_on : ℕ → Output → List Heard → Output
 written_on size so_far [] = so_far
 written_on size so_far (heard ∷ later) = written_on size (part_written size so_far heard) later
 
--- how many bytes were taken, where there are more
-abbrev pub taken_of : Output → ℕ
-taken_of (output.Part from) = from
-taken_of output.Whole = 0
-taken_of output.Failed = 0
-
 -- ---- what the code's functions promise
 
--- of the count that a read moved: no byte more is the end of the input
-abbrev pub read_by : ℕ → Heard → Input
-read_by filled (Moved count) = cond (eqb count 0) (input.Whole filled) (input.Part (filled + count))
-read_by filled Again = input.Part filled
-read_by filled Failed = input.Failed
+-- of the count that a read moved: how many bytes there are then; no byte more is the end of the input
+abbrev pub read_by : ℕ → Heard → Result (Option ℕ) Unread
+read_by filled (Ok count) = cond (eqb count 0) (Ok None) (Ok (Some (filled + count)))
+read_by filled (Err Again) = Ok (Some filled)
+read_by filled (Err Failed) = Err unread.Failed
 
 -- how many bytes of the place were read; none where that does not matter any more
 abbrev pub size_of : Input → ℕ
@@ -117,30 +119,27 @@ is_part input.Failed = false
 abbrev pub shown : Input → List ℕ → Got
 shown r place = got (take (size_of r) place) r
 
--- one answer
-pub record ReadOne (before : List ℕ) (filled : ℕ) (r : Input) (after : List ℕ) : Type 0 where
-  pub reply : Reply
-  pub is : shown r after ≡ further (length before) (take filled before) (input.Part filled) reply
-  pub inside : size_of r ≤ length before
+-- how many bytes the input is, or why not all of it was read: where there may be more, the turns are used up
+abbrev pub read_end : Input → Result ℕ Unread
+read_end (input.Part filled) = Err unread.Endless
+read_end (input.Whole size) = Ok size
+read_end input.TooLong = Err unread.TooLong
+read_end input.Failed = Err unread.Failed
 
 -- some answers, one after another from the beginning on, led to this; the reading goes on until it is over, or until the turns are used up
-pub record ReadAll (before : List ℕ) (r : Input) (after : List ℕ) : Type 0 where
+pub record ReadAll (before : List ℕ) (r : Result ℕ Unread) (after : List ℕ) : Type 0 where
   pub replies : List Reply
-  pub is : shown r after ≡ read_on (length before) nothing replies
-  pub inside : size_of r ≤ length before
-  pub over : (is_part r ≡ false) ⊎ (length replies ≡ largest)
+  pub so_far : Input
+  pub is : shown so_far after ≡ read_on (length before) nothing replies
+  pub inside : size_of so_far ≤ length before
+  pub ended : r ≡ read_end so_far
+  pub over : (is_part so_far ≡ false) ⊎ (length replies ≡ largest)
 
 -- what some answers delivered was moved, or not, by how the reading ended
-pub record Carries (route : Route) (place : List ℕ) (r : Carried) (before after : List ℕ) : Type 0 where
+pub record Carries (route : Route) (place : List ℕ) (r : Result MovingAll Unread) (before after : List ℕ) : Type 0 where
   pub replies : List Reply
   pub is : let g = read_on (length place) nothing replies in carry_leaves r after ≡ carried_by route g.content g.input before
-  pub over : (r ≡ carried.Endless → ⊥) ⊎ (length replies ≡ largest)
-
--- one answer to a write
-pub record WroteOne (size from : ℕ) (r : Output) : Type 0 where
-  pub heard : Heard
-  pub is : r ≡ part_written size (output.Part from) heard
-  pub inside : taken_of r ≤ size
+  pub over : (r ≡ Err unread.Endless → ⊥) ⊎ (length replies ≡ largest)
 
 -- there may be more to write
 abbrev pub is_left : Output → Bool
@@ -148,8 +147,16 @@ is_left (output.Part from) = true
 is_left output.Whole = false
 is_left output.Failed = false
 
+-- why not all of a text was written: where there may be more to write, the turns are used up
+abbrev pub write_end : Output → Result Unit Unwritten
+write_end (output.Part from) = Err unwritten.Endless
+write_end output.Whole = Ok tt
+write_end output.Failed = Err unwritten.Failed
+
 -- some answers, one after another from the beginning on, led to this; the writing goes on until it is over, or until the turns are used up
-pub record WroteAll (size : ℕ) (r : Output) : Type 0 where
+pub record WroteAll (size : ℕ) (r : Result Unit Unwritten) : Type 0 where
   pub answers : List Heard
-  pub is : r ≡ written_on size (output.Part 0) answers
-  pub over : (is_left r ≡ false) ⊎ (length answers ≡ largest)
+  pub so_far : Output
+  pub is : so_far ≡ written_on size (output.Part 0) answers
+  pub ended : r ≡ write_end so_far
+  pub over : (is_left so_far ≡ false) ⊎ (length answers ≡ largest)

@@ -4,9 +4,9 @@ ghost use Rattle.bench.specs.Lines.{Follows};
 ghost use Rattle.bench.specs.Moves.{Places, written_in, record_words, place_words, moved_words};
 ghost use Rattle.bench.specs.Whole.{Carries};
 
-use crate::system::{STDERR_FILENO, STDOUT_FILENO, System};
-use crate::whole::{Input, Output};
-use crate::{tally, whole};
+use crate::system::{Sink, System};
+use crate::whole::Unread;
+use crate::{system, tally, whole};
 use moving::{MovingAll, Route};
 
 // The bytes of the place for the input: those that may come, and one more, so that the end is seen.
@@ -15,27 +15,11 @@ const HELD: usize = 1048577;
 // The bytes of the place for the new text: twice as many, which is always enough.
 const ROOM: usize = 2097154;
 
-// The place for the input.
-fn input_place() -> [u8; HELD]
-    ensures { Places 1048577 result }
+// A place of so many bytes.
+fn place<const N: usize>() -> [u8; N]
+    ensures { Places N result }
 {
-    [0; HELD]
-}
-
-// The place for the new text.
-fn output_place() -> [u8; ROOM]
-    ensures { Places 2097154 result }
-{
-    [0; ROOM]
-}
-
-// How a moving of all of the input ended: with an answer on its records; the input was too long; a read failed; or the turns were used up.
-#[derive(Clone, Copy)]
-pub enum Carried {
-    Moved(MovingAll),
-    TooLong,
-    Unread,
-    Endless,
+    [0; N]
 }
 
 // Puts the number of the record that is refused, if there is one, straight behind the first `at` bytes of a place that has room for it, and gives where it ends.
@@ -70,12 +54,16 @@ fn put_words(moved: MovingAll, out: &mut [u8]) -> usize
     requires { 256 ≤ length out.old }
     ensures { Follows 0 (moved_words moved) result out.old out.new }
 {
-    let answer = moved.answer;
-    if answers::is_done(answer) {
+    if answers::is_done(moved.answer) {
         let next = tally::put_numbered(0, b"bench: done: records=", moved.records, out);
         return tally::put_piece(next, b"\n", out);
     }
-    let one = tally::put_numbered(0, b"bench: refused: answer=", answers::number(answer), out);
+    let one = tally::put_numbered(
+        0,
+        b"bench: refused: answer=",
+        answers::number(moved.answer),
+        out,
+    );
     let two = put_record(one, moved, out);
     let three = put_place(two, moved, out);
     tally::put_piece(three, b"\n", out)
@@ -85,52 +73,45 @@ fn put_words(moved: MovingAll, out: &mut [u8]) -> usize
 fn say(system: &mut System, moved: MovingAll) {
     let mut words = [0; 256];
     let size = put_words(moved, &mut words);
-    if let Output::Whole = whole::write_all(system, STDERR_FILENO, &words[..size]) {
-        return;
+    if whole::write_all(system, Sink::Messages, &words[..size]).is_err() {
+        system.fail(b"bench: writing failed");
     }
-    system.fail(b"bench: writing failed");
 }
 
 // Writes as much of a text as the moving wrote to standard output, and then says how the moving ended.
 fn hand_out(system: &mut System, moved: MovingAll, text: &[u8])
     requires { moved.written ≤ length text.now }
 {
-    let size = moved.written;
-    if let Output::Whole = whole::write_all(system, STDOUT_FILENO, &text[..size]) {
-        say(system, moved);
-        return;
+    match whole::write_all(system, Sink::Output, &text[..moved.written]) {
+        Ok(()) => say(system, moved),
+        Err(_) => system.fail(b"bench: writing failed"),
     }
-    system.fail(b"bench: writing failed");
 }
 
 // Reads all of standard input into a place, and moves its records on a route into the output.
-fn move_input(system: &mut System, route: Route, place: &mut [u8], out: &mut [u8]) -> Carried
+fn move_input(
+    system: &mut System,
+    route: Route,
+    place: &mut [u8],
+    out: &mut [u8],
+) -> Result<MovingAll, Unread>
     ensures carries { Carries route place.old result out.old out.new }
     ensures result_in_bounds { written_in result ≤ length out.new }
 {
-    match whole::read_all(system, &mut *place) {
-        Input::Whole(size) => Carried::Moved(moving::move_all(route, &place[..size], out)),
-        Input::TooLong => Carried::TooLong,
-        Input::Failed => Carried::Unread,
-        Input::Part(_) => Carried::Endless,
-    }
+    let size = whole::read_all(system, place)?;
+    Ok(moving::move_all(route, &place[..size], out))
 }
 
 // Moves all records on standard input on a route, and says how that ended.
 pub(crate) fn carry(system: &mut System, route: Route) {
-    let mut text = input_place();
-    let mut out = output_place();
-    match move_input(&mut *system, route, &mut text, &mut out) {
-        Carried::Moved(moved) => hand_out(system, moved, &out),
-        Carried::TooLong => {
-            io::write_all(
-                STDERR_FILENO,
-                b"bench: the input has more than 1048576 bytes\n",
-            );
+    let mut text = place::<HELD>();
+    let mut out = place::<ROOM>();
+    match move_input(system, route, &mut text, &mut out) {
+        Ok(moved) => hand_out(system, moved, &out),
+        Err(Unread::TooLong) => {
+            system::complain(b"bench: the input has more than 1048576 bytes\n");
         }
-        Carried::Unread => system.fail(b"bench: reading failed"),
-        Carried::Endless => {
-            io::write_all(STDERR_FILENO, b"bench: too many turns\n");
-        }
+        Err(Unread::Failed) => system.fail(b"bench: reading failed"),
+        Err(Unread::Endless) => system::complain(b"bench: too many turns\n"),
     }
 }

@@ -2,9 +2,9 @@
 ghost use Rattle.std.specs.Prelude.{◌≡◌, ◌+◌, ◌≤◌, ◌<◌};
 ghost use Rattle.turns.specs.Tallies.{records_of, largest};
 ghost use Rattle.turns.specs.Run.{behind, failed};
-ghost use Rattle.bench.specs.Progress.{descriptor_of, doing, heard_of, failing, reporting, stepped, read_more, wrote_more, Takes, moved_by};
+ghost use Rattle.bench.specs.Progress.{sink_of, heard_of, failing, reporting, stepped, read_more, wrote_more, Takes, moved_by};
 
-use crate::system::{STDERR_FILENO, STDOUT_FILENO};
+use crate::system::Sink;
 use crate::tally;
 use judge::Step;
 use report::Verdict;
@@ -13,10 +13,9 @@ use turns::{Ending, Stage, Tally};
 // The number of the error by which a call says that a signal came before it moved any byte.
 const EINTR: i32 = 4;
 
-// What the operating system answered a read or a write: it moved so many bytes, a signal came before it moved any, or it failed.
+// Why a read or a write moved no byte: a signal came before it moved any, or it failed.
 #[derive(Clone, Copy)]
-pub enum Heard {
-    Moved(usize),
+pub enum Unmoved {
     Again,
     Failed,
 }
@@ -35,42 +34,24 @@ pub struct Progress {
 }
 
 // Where a stage writes: the last words to standard error, all else to standard output.
-pub(crate) fn descriptor(stage: Stage) -> i32
-    ensures { result ≡ descriptor_of stage }
+pub(crate) fn sink_of(stage: Stage) -> Sink
+    ensures { result ≡ sink_of stage }
 {
     match stage {
-        Stage::Say => STDERR_FILENO,
-        _ => STDOUT_FILENO,
+        Stage::Say => Sink::Messages,
+        _ => Sink::Output,
     }
 }
 
-// The same progress, with another thing to do next.
-pub(crate) fn at_stage(p: Progress, stage: Stage) -> Progress
-    ensures { result ≡ doing stage p }
+// What the raw answer of a call says: how many bytes it moved, or, by the number of its error, why it moved none.
+pub(crate) fn hear(answer: Result<usize, i32>) -> Result<usize, Unmoved>
+    ensures { result ≡ heard_of answer }
 {
-    let tally = p.tally;
-    Progress {
-        start: p.start,
-        filled: p.filled,
-        ended: p.ended,
-        tally,
-        from: p.from,
-        size: p.size,
-        stage,
+    match answer {
+        Ok(count) => Ok(count),
+        Err(EINTR) => Err(Unmoved::Again),
+        Err(_) => Err(Unmoved::Failed),
     }
-}
-
-// What the raw answer of a call says: how many bytes it moved, or, where that is negative, why it moved none.
-pub(crate) fn hear(count: isize, error: i32) -> Heard
-    ensures { result ≡ heard_of count error }
-{
-    if 0 <= count {
-        return Heard::Moved(count as usize);
-    }
-    if error == EINTR {
-        return Heard::Again;
-    }
-    Heard::Failed
 }
 
 // What is next after all of a text is written.
@@ -100,8 +81,10 @@ fn after_failure(stage: Stage) -> Stage
 fn fail(p: Progress) -> Progress
     ensures { result ≡ failing p }
 {
-    let stage = p.stage;
-    at_stage(p, after_failure(stage))
+    Progress {
+        stage: after_failure(p.stage),
+        ..p
+    }
 }
 
 // The progress behind a record with its verdict, that took so many bytes of the window and has a report of so many bytes.
@@ -110,16 +93,13 @@ fn count_record(p: Progress, verdict: Verdict, taken: usize, written: usize) -> 
     requires tally_bound { records_of p.tally < largest }
     ensures { result ≡ reporting p verdict taken written }
 {
-    let before = p.tally;
-    let tally = tally::counted(before, verdict);
     Progress {
         start: p.start + taken,
-        filled: p.filled,
-        ended: p.ended,
-        tally,
+        tally: tally::counted(p.tally, verdict),
         from: 0,
         size: written,
         stage: Stage::Write,
+        ..p
     }
 }
 
@@ -139,47 +119,56 @@ pub(crate) fn after_step(p: Progress, step: Step) -> Progress
             column,
             written,
         } => count_record(p, Verdict::Unread { line, column }, 0, written),
-        Step::Wait => at_stage(p, Stage::Read),
-        Step::End => at_stage(p, Stage::Close),
+        Step::Wait => Progress {
+            stage: Stage::Read,
+            ..p
+        },
+        Step::End => Progress {
+            stage: Stage::Close,
+            ..p
+        },
         // It never comes: the text has room for every report.
-        Step::Short => at_stage(p, Stage::Over(Ending::TooMany)),
+        Step::Short => Progress {
+            stage: Stage::Over(Ending::TooMany),
+            ..p
+        },
     }
 }
 
 // What the answer to a read makes of the progress: bytes join the window, and none is the end of the input; a signal changes nothing; a failure is no end.
-pub(crate) fn after_read(mut p: Progress, heard: Heard) -> Progress
+pub(crate) fn after_read(p: Progress, heard: Result<usize, Unmoved>) -> Progress
     requires { p.filled + moved_by heard ≤ 18446744073709551615 }
     ensures { result ≡ read_more p heard }
 {
     match heard {
-        Heard::Moved(count) => {
-            p.filled += count;
-            p.ended = count == 0;
-            at_stage(p, Stage::Judge)
-        }
-        Heard::Again => p,
-        Heard::Failed => fail(p),
+        Ok(count) => Progress {
+            filled: p.filled + count,
+            ended: count == 0,
+            stage: Stage::Judge,
+            ..p
+        },
+        Err(Unmoved::Again) => p,
+        Err(Unmoved::Failed) => fail(p),
     }
 }
 
 // What the answer to a write makes of the progress: a write that took no byte counts as failed.
-pub(crate) fn after_write(mut p: Progress, heard: Heard) -> Progress
+#[tactic(auto, unfolding(crate::specs::Progress::wrote))]
+pub(crate) fn after_write(p: Progress, heard: Result<usize, Unmoved>) -> Progress
     requires { p.from + moved_by heard ≤ p.size }
     ensures { result ≡ wrote_more p heard }
 {
     match heard {
-        Heard::Moved(count) => {
-            if count == 0 {
-                return fail(p);
-            }
-            p.from += count;
-            if p.from == p.size {
-                let stage = p.stage;
-                return at_stage(p, after(stage));
-            }
-            p
+        Ok(0) | Err(Unmoved::Failed) => fail(p),
+        Ok(count) => {
+            let from = p.from + count;
+            let stage = if from == p.size {
+                after(p.stage)
+            } else {
+                p.stage
+            };
+            Progress { from, stage, ..p }
         }
-        Heard::Again => p,
-        Heard::Failed => fail(p),
+        Err(Unmoved::Again) => p,
     }
 }

@@ -2,84 +2,49 @@
 ghost use Rattle.std.specs.Prelude.{◌≡◌, true, ◌+◌, ◌≤◌, ◌<◌, length};
 ghost use Rattle.chip_log.specs.Laws.{most_bytes};
 ghost use Rattle.replay.specs.Replays.{told};
-ghost use Rattle.replay.specs.Laws.{is_open};
 ghost use Rattle.turns.specs.Tallies.{largest};
 ghost use Rattle.bench.specs.Lines.{Follows};
 ghost use Rattle.bench.specs.Progress.{moved_by};
-ghost use Rattle.bench.specs.Replays.{is_none, is_running, with_fault, stretched, HeardBytes, HeardAs, HeardOne, ReplayedAll, verdict_words, report_words, end_line, last_words};
+ghost use Rattle.bench.specs.Replays.{is_running, with_fault, stretched, HeardBytes, HeardAs, HeardOne, ReplayedAll, verdict_words, report_words, end_line, last_words};
 
-use crate::progress::Heard;
-use crate::system::{STDERR_FILENO, STDOUT_FILENO, System};
-use crate::whole::Output;
-use crate::{tally, whole};
+use crate::progress::Unmoved;
+use crate::system::{Sink, System};
+use crate::{system, tally, whole};
 use replay::{Stretch, Verdict};
 use stream::Stream;
 
-// What keeps a replay from its verdict: nothing; a read failed; there are more entries than a number of 64 bits can count.
+// What keeps a replay from its verdict: a read failed; there are more entries than a number of 64 bits can count.
 #[derive(Clone, Copy)]
 pub enum Fault {
-    None,
     Reading,
     TooMany,
 }
 
 // How far a replay is: the bytes at the front of the buffer that were not replayed yet, how many entries agreed, the stream's state behind them, the verdict, and what
-// keeps it from one.
+// keeps it from one, if anything does.
 #[derive(Clone, Copy)]
 pub struct Replaying {
     pub left: usize,
     pub entries: u64,
     pub stream: Stream,
     pub verdict: Verdict,
-    pub fault: Fault,
+    pub fault: Option<Fault>,
 }
 
-// Whether nothing keeps a replay from its verdict.
-fn is_none(fault: Fault) -> bool
-    ensures { result ≡ is_none fault }
-{
-    match fault {
-        Fault::None => true,
-        Fault::Reading => false,
-        Fault::TooMany => false,
-    }
-}
-
-// Whether a verdict is still open.
-fn is_open(verdict: Verdict) -> bool
-    ensures { result ≡ is_open verdict }
-{
-    match verdict {
-        Verdict::Agrees => false,
-        Verdict::Answer => false,
-        Verdict::Out => false,
-        Verdict::Rounds => false,
-        Verdict::Unread { line: _, column: _ } => false,
-        Verdict::Open => true,
-    }
-}
-
-// Whether a replay goes on.
+// Whether a replay goes on: nothing keeps it from its verdict, and that is still open.
 fn goes_on(state: Replaying) -> bool
     ensures { result ≡ is_running state }
 {
-    let fault = state.fault;
-    let verdict = state.verdict;
-    is_none(fault) & is_open(verdict)
+    state.fault.is_none() && matches!(state.verdict, Verdict::Open)
 }
 
 // A replay that something keeps from its verdict.
 fn at_fault(state: Replaying, fault: Fault) -> Replaying
     ensures { result ≡ with_fault state fault }
 {
-    let stream = state.stream;
-    let verdict = state.verdict;
     Replaying {
-        left: state.left,
-        entries: state.entries,
-        stream,
-        verdict,
-        fault,
+        fault: Some(fault),
+        ..state
     }
 }
 
@@ -89,14 +54,12 @@ fn behind(state: Replaying, filled: usize, stretch: Stretch) -> Replaying
     requires entries_bound { state.entries + stretch.entries < largest }
     ensures { result ≡ stretched state filled stretch }
 {
-    let stream = stretch.stream;
-    let verdict = stretch.verdict;
     Replaying {
         left: filled - stretch.taken,
         entries: state.entries + stretch.entries as u64,
-        stream,
-        verdict,
-        fault: Fault::None,
+        stream: stretch.stream,
+        verdict: stretch.verdict,
+        fault: None,
     }
 }
 
@@ -108,8 +71,7 @@ fn replay_bytes(buffer: &mut [u8], state: Replaying, count: usize) -> Replaying
     ensures { HeardBytes state buffer.old count result buffer.new }
 {
     let filled = state.left + count;
-    let stream = state.stream;
-    let stretch = replay::replay_window(&buffer[..filled], count == 0, stream);
+    let stretch = replay::replay_window(&buffer[..filled], count == 0, state.stream);
     if u64::MAX - state.entries <= stretch.entries as u64 {
         return at_fault(state, Fault::TooMany);
     }
@@ -118,7 +80,11 @@ fn replay_bytes(buffer: &mut [u8], state: Replaying, count: usize) -> Replaying
 }
 
 // What the answer to a read behind what is left makes of the replay: bytes are replayed, and none is the end of the log; a signal changes nothing; a failure is no end.
-pub(crate) fn after_read(buffer: &mut [u8], state: Replaying, heard: Heard) -> Replaying
+pub(crate) fn after_read(
+    buffer: &mut [u8],
+    state: Replaying,
+    heard: Result<usize, Unmoved>,
+) -> Replaying
     requires heard_in_bounds { state.left + moved_by heard ≤ length buffer.old }
     requires left_lt_most_bytes { state.left < most_bytes }
     requires state_value { is_running state ≡ true }
@@ -126,9 +92,9 @@ pub(crate) fn after_read(buffer: &mut [u8], state: Replaying, heard: Heard) -> R
     ensures { HeardAs state buffer.old heard result buffer.new }
 {
     match heard {
-        Heard::Moved(count) => replay_bytes(buffer, state, count),
-        Heard::Again => state,
-        Heard::Failed => at_fault(state, Fault::Reading),
+        Ok(count) => replay_bytes(buffer, state, count),
+        Err(Unmoved::Again) => state,
+        Err(Unmoved::Failed) => at_fault(state, Fault::Reading),
     }
 }
 
@@ -140,8 +106,7 @@ fn replay_more(system: &mut System, buffer: &mut [u8], state: Replaying) -> Repl
     requires entries_lt_largest { state.entries < largest }
     ensures { HeardOne state buffer.old result buffer.new }
 {
-    let left = state.left;
-    let heard = crate::read_some(system, &mut buffer[left..]);
+    let heard = system.read(&mut buffer[state.left..]);
     after_read(buffer, state, heard)
 }
 
@@ -150,22 +115,18 @@ fn replay_all(system: &mut System, buffer: &mut [u8]) -> Replaying
     requires { most_bytes < length buffer.old }
     ensures { ReplayedAll result buffer.new }
 {
-    let stream = Stream::ended();
     let mut state = Replaying {
         left: 0,
         entries: 0,
-        stream,
+        stream: Stream::ended(),
         verdict: Verdict::Open,
-        fault: Fault::None,
+        fault: None,
     };
-    let mut turns = u64::MAX;
-    while 0 < turns {
+    for _ in 0..u64::MAX {
         if !goes_on(state) {
             return state;
         }
-        let next = replay_more(&mut *system, &mut *buffer, state);
-        state = next;
-        turns -= 1;
+        state = replay_more(system, buffer, state);
     }
     state
 }
@@ -177,11 +138,7 @@ pub(crate) fn entry_of(agreed: u64, verdict: Verdict) -> u64
 {
     match verdict {
         Verdict::Agrees => agreed,
-        Verdict::Answer => agreed + 1,
-        Verdict::Out => agreed + 1,
-        Verdict::Rounds => agreed + 1,
-        Verdict::Unread { line: _, column: _ } => agreed + 1,
-        Verdict::Open => agreed + 1,
+        _ => agreed + 1,
     }
 }
 
@@ -239,40 +196,29 @@ fn put_last(entry: u64, verdict: Verdict, out: &mut [u8]) -> usize
 fn say(system: &mut System, entry: u64, verdict: Verdict) {
     let mut words = [0; 256];
     let size = put_last(entry, verdict, &mut words);
-    if let Output::Whole = whole::write_all(system, STDERR_FILENO, &words[..size]) {
-        return;
+    if whole::write_all(system, Sink::Messages, &words[..size]).is_err() {
+        system.fail(b"bench: writing failed");
     }
-    system.fail(b"bench: writing failed");
 }
 
 // Writes the report of a replay to standard output, and then says how it ended.
 fn hand_out(system: &mut System, entry: u64, verdict: Verdict) {
     let mut report = [0; 256];
     let size = put_report(entry, verdict, &mut report);
-    if let Output::Whole = whole::write_all(system, STDOUT_FILENO, &report[..size]) {
-        say(system, entry, verdict);
-        return;
+    match whole::write_all(system, Sink::Output, &report[..size]) {
+        Ok(()) => say(system, entry, verdict),
+        Err(_) => system.fail(b"bench: writing failed"),
     }
-    system.fail(b"bench: writing failed");
 }
 
 // Replays the log on standard input, and says how that ended.
 pub(crate) fn replay(system: &mut System) {
     let mut space = io::large_buffer();
-    let state = replay_all(&mut *system, &mut space);
-    let fault = state.fault;
-    let verdict = state.verdict;
-    match fault {
-        Fault::None => {
-            if is_open(verdict) {
-                io::write_all(STDERR_FILENO, b"bench: too many turns\n");
-                return;
-            }
-            hand_out(system, entry_of(state.entries, verdict), verdict);
-        }
-        Fault::Reading => system.fail(b"bench: reading failed"),
-        Fault::TooMany => {
-            io::write_all(STDERR_FILENO, b"bench: too many entries\n");
-        }
+    let state = replay_all(system, &mut space);
+    match (state.fault, state.verdict) {
+        (Some(Fault::Reading), _) => system.fail(b"bench: reading failed"),
+        (Some(Fault::TooMany), _) => system::complain(b"bench: too many entries\n"),
+        (None, Verdict::Open) => system::complain(b"bench: too many turns\n"),
+        (None, verdict) => hand_out(system, entry_of(state.entries, verdict), verdict),
     }
 }

@@ -3,15 +3,20 @@ ghost use Rattle.std.specs.Prelude.{◌≤◌, length};
 ghost use Rattle.bench.specs.Progress.{moved_by};
 
 use crate::progress;
-use crate::progress::Heard;
+use crate::progress::Unmoved;
 use std::env::{Env, FillError};
 use std::fmt;
 use std::io::{Error, Read, Stderr, Stdin, Stdout, Write};
 
-// The numbers of standard output and of standard error.
-pub(crate) const STDOUT_FILENO: i32 = 1;
+// The number of standard error.
+const STDERR_FILENO: i32 = 2;
 
-pub(crate) const STDERR_FILENO: i32 = 2;
+// Where a text is written: to standard output, or to standard error.
+#[derive(Clone, Copy)]
+pub enum Sink {
+    Output,
+    Messages,
+}
 
 // The three streams, and the number of the last error that a call on one of them gave, which is 0 before the first.
 #[derive(Drop)]
@@ -32,29 +37,24 @@ impl System {
         }
     }
 
-    // What standard input answers one read into a place.
-    pub(crate) fn read(&mut self, room: &mut [u8]) -> Heard
+    // What standard input answers one read into a place that has room, so that a read of no byte means the end of the input.
+    pub(crate) fn read(&mut self, room: &mut [u8]) -> Result<usize, Unmoved>
+        requires { 1 ≤ length room.old }
         ensures { moved_by result ≤ length room.new }
     {
-        match self.input.read(room) {
-            Ok(count) => progress::hear(count as isize, 0),
-            Err(error) => progress::hear(-1, self.keep(error)),
-        }
+        let answer = self.input.read(room);
+        progress::hear(answer.map_err(|error| self.keep(error)))
     }
 
-    // What standard error, where this is its number, or else standard output answers one write.
-    pub(crate) fn write(&mut self, to: i32, bytes: &[u8]) -> Heard
+    // What a stream answers one write of bytes.
+    pub(crate) fn write(&mut self, to: Sink, bytes: &[u8]) -> Result<usize, Unmoved>
         ensures { moved_by result ≤ length bytes.now }
     {
-        let answer = if to == STDERR_FILENO {
-            self.messages.write(bytes)
-        } else {
-            self.output.write(bytes)
+        let answer = match to {
+            Sink::Output => self.output.write(bytes),
+            Sink::Messages => self.messages.write(bytes),
         };
-        match answer {
-            Ok(count) => progress::hear(count as isize, 0),
-            Err(error) => progress::hear(-1, self.keep(error)),
-        }
+        progress::hear(answer.map_err(|error| self.keep(error)))
     }
 
     // Keeps the number of an error, and gives it.
@@ -70,11 +70,16 @@ impl System {
             size: 0,
         };
         let _ = fmt::Write::write(&mut words, Error::from_raw_os_error(self.error));
-        io::write_all(STDERR_FILENO, what);
-        io::write_all(STDERR_FILENO, b": ");
-        io::write_all(STDERR_FILENO, words.reason());
-        io::write_all(STDERR_FILENO, b"\n");
+        complain(what);
+        complain(b": ");
+        complain(words.reason());
+        complain(b"\n");
     }
+}
+
+// Writes words to standard error, as many as it takes.
+pub(crate) fn complain(words: &[u8]) {
+    let _ = io::write_all(STDERR_FILENO, words);
 }
 
 // The words for an error, with its number in brackets behind them.

@@ -1,5 +1,5 @@
 -- `bench::look` meets its contract.
-use mathlib.Core.Path.{◌≡◌, sym, ap, subst⁻¹, ◌∙◌}
+use mathlib.Core.Path.{◌≡◌, refl, sym, ap, subst⁻¹, ◌∙◌}
 use mathlib.Core.List.{List}
 use Prim.Native.Nat.{ℕ, ◌+◌}
 use Rattle.turns.specs.declared.Stage.TheVariants.{Judge}
@@ -18,24 +18,24 @@ to_out p buffer text {after} judging q e places =
     subst⁻¹ (λ (r : Progress). Sound r buffer after × (view r buffer after ≡ judged (view p buffer text))) e
     (places.0, rw (ap is_judging judging) places.1)
 
-pub returns-then-tally-ne0 : goal.returns-then-tally-ne0
-returns-then-tally-ne0 c =
-    let out = to_out c.args.p c.args.buffer.now c.args.text.now c.in-Judge.is _ c.at_stage.ensures (closes c.args.p _ _ c.requires c.if-tally-ne0.true) in
+pub returns-then-p-ne0 : goal.returns-then-p-ne0
+returns-then-p-ne0 c =
+    let out = to_out c.args.p c.args.buffer.now c.args.text.now c.in-Judge.is _ refl (closes c.args.p _ _ c.requires c.if-p-ne0.true) in
     record { sound = out.0; text_after = out.1 }
 
 pub returns-then-number : goal.returns-then-number
 returns-then-number c =
     let numbers = ap (λ (n : ℕ). n + 1) (sym c.records-number.ensures) ∙ c.if-number.true in
     let out =
-    to_out c.args.p c.args.buffer.now c.args.text.now c.in-Judge.is _ c.at_stage-then-number.ensures
-    (gives_up c.args.p _ _ c.requires c.if-tally-ne0.false numbers) in
+    to_out c.args.p c.args.buffer.now c.args.text.now c.in-Judge.is _ refl
+    (gives_up c.args.p _ _ c.requires c.if-p-ne0.false numbers) in
     record { sound = out.0; text_after = out.1 }
 
 pub after_step-requires : goal.after_step-requires
 after_step-requires c =
     let number = c.records-number.ensures in
     let by_window =
-    looks c.args.p c.args.buffer.now c.args.text.now c.requires c.if-tally-ne0.false
+    looks c.args.p c.args.buffer.now c.args.text.now c.requires c.if-p-ne0.false
     (λ (e : records_of c.args.p.tally + 1 ≡ largest). c.if-number.false (ap (λ (n : ℕ). n + 1) number ∙ e))
     _
     _
@@ -46,7 +46,7 @@ pub returns : goal.returns
 returns c =
     let number = c.records-number.ensures in
     let by_window =
-    looks c.args.p c.args.buffer.now c.args.text.now c.requires c.if-tally-ne0.false
+    looks c.args.p c.args.buffer.now c.args.text.now c.requires c.if-p-ne0.false
     (λ (e : records_of c.args.p.tally + 1 ≡ largest). c.if-number.false (ap (λ (n : ℕ). n + 1) number ∙ e))
     _
     _

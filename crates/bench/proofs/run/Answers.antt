@@ -1,6 +1,6 @@
 use mathlib.Core.Path.{refl, ap, ◌∙◌}
 use mathlib.Core.List.{List, [], ◌∷◌, ◌++◌}
-use mathlib.Core.Logic.{inl, inr}
+use mathlib.Core.Logic.{inl}
 use Prim.Native.Nat.{ℕ, ◌≤◌, ◌<◌}
 use native.Mathlib.Omega.{arith}
 use lib.ListN.{length, length-append}
@@ -25,11 +25,10 @@ fresh-sound buffer text wide long =
       few = omega arith;
     }
 
-pub loop-turns-init : goal.loop-turns-init
-loop-turns-init c =
-    let s = c in
+pub loop-init : goal.loop-init
+loop-init c =
     record {
-      sound = fresh-sound s.args.buffer.now s.args.text.now s.requires.most_bytes_in_bounds s.requires.in_bounds;
+      sound = fresh-sound c.args.buffer.now c.args.text.now c.requires.most_bytes_in_bounds c.requires.in_bounds;
       replies = [];
       is = refl;
       count = refl;
@@ -39,24 +38,18 @@ loop-turns-init c =
 
 pub returns-in-Over : goal.returns-in-Over
 returns-in-Over c =
-    let inv = c.loop-turns.invariant in
+    let inv = c.loop.invariant in
     record { replies = inv.replies; is = inv.is; over = inl (ap is_over c.in-Over.is) }
 
-pub loop-turns-preserved : goal.loop-turns-preserved
-loop-turns-preserved c =
-    let began = c in
-    let inv = began.loop-turns.invariant in
+pub loop-preserved : goal.loop-preserved
+loop-preserved c =
+    let inv = c.loop.invariant in
     let turned = c.turn-p.ensures in
     record {
       sound = turned.sound;
       replies = inv.replies ++ turned.turned.reply ∷ [];
       is = ran_more _ _ inv.replies inv.is turned.turned;
-      count = omega (arith, inv.count, length-append inv.replies (turned.turned.reply ∷ []), began.loop-turns-test.true);
+      count = omega (arith, inv.count, length-append inv.replies (turned.turned.reply ∷ []));
       same-buffer = c.turn-p.auto.buffer ∙ inv.same-buffer;
       same_text = c.turn-p.auto.text ∙ inv.same_text;
     }
-
-pub returns : goal.returns
-returns c =
-    let l = c.loop-turns in
-    record { replies = l.invariant.replies; is = l.invariant.is; over = inr (omega (arith, l.invariant.count, c.loop-turns-test.false)) }

@@ -4,5 +4,5 @@ use Rattle.digits.specs.Ascii.{ascii}
 use Rattle.bench.proofs.Words.{same_as}
 use Rattle.bench.proofs.set_task.Goals as goal
 
-pub returns-then-not-same : goal.returns-then-not-same
-returns-then-not-same c = rw (same_as _ (ascii "import") _ c.same.ensures ∙ c.if-not-same.true)
+pub returns-else-eq : goal.returns-else-eq
+returns-else-eq c = rw (same_as c.args.word.now (ascii "import") c.as_slice.ensures c.eq.ensures ∙ c.if-eq.false)

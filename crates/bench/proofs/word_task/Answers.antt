@@ -4,14 +4,12 @@ use Rattle.digits.specs.Ascii.{ascii}
 use Rattle.bench.proofs.Words.{same_as}
 use Rattle.bench.proofs.word_task.Goals as goal
 
-pub returns : goal.returns
-returns c =
-    let g = c in
-    let f = g in
-    let e = f in
+pub returns-else-eq-4 : goal.returns-else-eq-4
+returns-else-eq-4 c =
+    let word = c.args.word.now in
     rw (
-      same_as _ (ascii "forward") _ e.same.ensures ∙ e.if-same.false,
-      same_as _ (ascii "back") _ f.same-2.ensures ∙ f.if-same-2.false,
-      same_as _ (ascii "export") _ g.same-3.ensures ∙ g.if-same-3.false,
-      same_as _ (ascii "replay") _ c.same-4.ensures ∙ c.if-same-4.false,
+      same_as word (ascii "forward") c.as_slice.ensures c.eq.ensures ∙ c.if-eq.false,
+      same_as word (ascii "back") c.as_slice-else-eq.ensures c.eq-else-eq.ensures ∙ c.if-eq-2.false,
+      same_as word (ascii "export") c.as_slice-else-eq-2.ensures c.eq-else-eq-2.ensures ∙ c.if-eq-3.false,
+      same_as word (ascii "replay") c.as_slice-else-eq-3.ensures c.eq-else-eq-3.ensures ∙ c.if-eq-4.false,
     )

@@ -1,42 +1,84 @@
 -- `bench::moves::move_input` meets its contract.
 use mathlib.Core.Path.{◌≡◌, sym, ap, ◌∙◌}
-use mathlib.Core.Bool.{false}
+use mathlib.Core.Bool.{false, true≢false}
 use mathlib.Core.List.{List}
 use mathlib.Core.Logic.{inl, inr, ⊎_elim}
 use Prim.Native.Nat.{ℕ}
 use native.Mathlib.Omega.{arith}
 use lib.ListN.{take}
+use Rattle.std.proofs.Common.{Result, Ok, Err}
+use Rattle.std.proofs.lemmas.Result.{err_from_is_err_and}
+use Rattle.moving.specs.declared.all.MovingAll.{MovingAll}
 use Rattle.moving.specs.declared.route.Route.{Route}
 use Rattle.moving.specs.Moves.{AllLeaves}
 use Rattle.moving.proofs.Places.{written_inside}
-use Rattle.bench.specs.declared.whole.Input.{Input}
-use Rattle.bench.specs.declared.moves.Carried.{Carried}
-use Rattle.bench.specs.declared.moves.Carried.TheVariants as carried
-use Rattle.bench.specs.Whole.{Got, carry_leaves, carried_by, size_of, is_part, ReadAll, Carries}
+use Rattle.bench.specs.declared.whole.Unread.{Unread}
+use Rattle.bench.specs.declared.whole.Unread.TheVariants as unread
+use Rattle.bench.specs.Input.{Input}
+use Rattle.bench.specs.Input as input
+use Rattle.bench.specs.Whole.{Got, carry_leaves, carried_by, size_of, is_part, read_end, ReadAll, Carries}
 use Rattle.bench.proofs.moves.move_input.Goals as goal
 
--- no number is another
-no : ◌≡◌ {A = ℕ} 0 1 → ⊥
-no e = omega arith
-
 -- what a reading of all of the input comes to, moved
-carries : (route : Route) (place after out out' : List ℕ) (r : Input) (ended : Carried) → ReadAll place r after → (is_part r ≡ false → ended ≡ carried.Endless → ⊥)
-    → carry_leaves ended out' ≡ carried_by route (take (size_of r) after) r out → Carries route place ended out out'
-carries route place after out out' r ended a n e =
+carries : (route : Route) (place after out out' : List ℕ) (read : Result ℕ Unread) (ended : Result MovingAll Unread) (a : ReadAll place read after)
+    → (is_part a.so_far ≡ false → ended ≡ Err unread.Endless → ⊥)
+    → carry_leaves ended out' ≡ carried_by route (take (size_of a.so_far) after) a.so_far out → Carries route place ended out out'
+carries route place after out out' read ended a n e =
     record {
       replies = a.replies;
       is = e ∙ ap (λ (g : Got). carried_by route g.content g.input out) a.is;
       over = ⊎_elim (λ p. inl (n p)) inr a.over;
     }
 
-pub returns-in-Whole : goal.returns-in-Whole
-returns-in-Whole c =
-    let m = c in
-    let z = m in
-    let r = z.read_all in
-    let s = c in
-    let route = s.args.route in
-    let out = s.args.out.now in
-    let is = z.in-Whole.is in
-    let moved = ap (λ (l : AllLeaves). carry_leaves (carried.Moved l.outcome) l.out) m.move_all.ensures in
-    let written = ap (λ (l : AllLeaves). l.outcome.written) m.move_all.ensures in record { carries = carries route _ r.new.place out _ r.result _ r.ensures (λ p q. no (cc q)) (moved ∙ ap (λ (i : Input). carried_by route (take (size_of i) r.new.place) i out) (sym is)); result_in_bounds = omega (arith, written, written_inside route (take z.in-Whole.size r.new.place) out, m.move_all.auto.out) }
+-- so many bytes are all of the input
+all_read : (i : Input) (size : ℕ) → Ok size ≡ read_end i → i ≡ input.Whole size
+all_read (input.Part filled) size e = absurd (cc)
+all_read (input.Whole all) size e = let same : size ≡ all = cc in ap input.Whole (sym same)
+all_read input.TooLong size e = absurd (cc)
+all_read input.Failed size e = absurd (cc)
+
+-- input that was not all read leaves the output as it was, and says why
+not_read : (route : Route) (content out : List ℕ) (i : Input) (why : Unread) → Err why ≡ read_end i → carry_leaves (Err why) out ≡ carried_by route content i out
+not_read route content out (input.Part filled) why e = ap (λ (w : Unread). carry_leaves (Err w) out) (cc)
+not_read route content out (input.Whole size) why e = absurd (cc)
+not_read route content out input.TooLong why e = ap (λ (w : Unread). carry_leaves (Err w) out) (cc)
+not_read route content out input.Failed why e = ap (λ (w : Unread). carry_leaves (Err w) out) (cc)
+
+-- the turns are used up only where there may be more
+not_endless : (i : Input) (why : Unread) → Err why ≡ read_end i → is_part i ≡ false → why ≡ unread.Endless → ⊥
+not_endless (input.Part filled) why e part same = true≢false part
+not_endless (input.Whole size) why e part same = cc
+not_endless input.TooLong why e part same = cc
+not_endless input.Failed why e part same = cc
+
+pub returns : goal.returns
+returns c =
+    let after = c.read_all.new.place in
+    let route = c.args.route in
+    let out = c.args.out.now in
+    let size = c.in_ok-size.size in
+    let a = rw c.in_ok-size.was at c.read_all.ensures in
+    let moved = ap (λ (l : AllLeaves). carry_leaves (Ok l.outcome) l.out) c.move_all.ensures in
+    let written = ap (λ (l : AllLeaves). l.outcome.written) c.move_all.ensures in
+    record {
+      carries =
+          carries route _ after out _ (Ok size) _ a (λ part e. cc)
+          (moved ∙ ap (λ (i : Input). carried_by route (take (size_of i) after) i out) (sym (all_read a.so_far size a.ended)));
+      result_in_bounds = omega (arith, written, written_inside route (take size after) out, c.move_all.auto.out);
+    }
+
+pub returns-in_err-size : goal.returns-in_err-size
+returns-in_err-size c =
+    let after = c.read_all.new.place in
+    let route = c.args.route in
+    let out = c.args.out.now in
+    let why = c.in_err-size.field-0.0 in
+    let a = rw c.in_err-size.was at c.read_all.ensures in
+    let p = err_from_is_err_and c.from_residual.result c.from_residual.ensures.1 in
+    rw (p.1, p.2)
+    (record {
+      carries =
+          carries route _ after out out (Err why) (Err why) a (λ part e. not_endless a.so_far why a.ended part (cc))
+          (not_read route (take (size_of a.so_far) after) out a.so_far why a.ended);
+      result_in_bounds = omega arith;
+    })

@@ -1,62 +1,107 @@
 use mathlib.Core.Path.{◌≡◌, refl, sym, ap, ◌∙◌}
-use mathlib.Core.Bool.{false}
+use mathlib.Core.Bool.{Bool, true, false, cond}
 use mathlib.Core.List.{List, [], ◌∷◌, ◌++◌}
-use mathlib.Core.Logic.{inl, inr}
+use mathlib.Core.Logic.{inl}
 use Prim.Native.Nat.{ℕ, ◌+◌, ◌≤◌}
 use native.Mathlib.Omega.{arith}
+use lib.Dec.{eqb}
 use lib.ListN.{length, take, length-append}
-use Rattle.bench.specs.declared.whole.Input.{Input}
-use Rattle.bench.specs.declared.whole.Input.TheVariants as input
-use Rattle.bench.specs.Whole.{Got, nothing, further, read_on, size_of, is_part, shown, ReadOne}
-use Rattle.bench.proofs.Answers.{read_more_lem}
+use borrow.Author.Tests.{eq-eqb}
+use Rattle.std.proofs.Common.{Option, Some, None, Result, Ok, Err}
+use Rattle.std.proofs.lemmas.Result.{err_from_is_err_and}
+use Rattle.turns.specs.Run as run
+use Rattle.turns.specs.Run.{Reply}
+use Rattle.bench.specs.declared.progress.Unmoved.TheVariants.{Again, Failed}
+use Rattle.bench.specs.declared.whole.Unread.{Unread}
+use Rattle.bench.specs.declared.whole.Unread.TheVariants as unread
+use Rattle.bench.specs.Input.{Input}
+use Rattle.bench.specs.Input as input
+use Rattle.bench.specs.Progress.{Heard}
+use Rattle.bench.specs.Whole.{Got, nothing, further, read_on, read_by, size_of, shown}
+use Rattle.bench.proofs.Answers.{read_more_lem, input_by, Answered, answered}
 use Rattle.bench.proofs.whole.read_all.Invariants.{Going}
 use Rattle.bench.proofs.whole.read_all.Goals as goal
 
--- one answer more
-one_more : (place₀ place after : List ℕ) (filled turns : ℕ) (so_far next : Input) → so_far ≡ input.Part filled → 1 ≤ turns
-    → Going place₀ place so_far turns → ReadOne place filled next after → length after ≡ length place → (left : ℕ) → left + 1 ≡ turns → Going place₀ after next left
-one_more place₀ place after filled turns so_far next e h g o kept left l =
-    let stood : shown (input.Part filled) place ≡ read_on (length place₀) nothing g.replies = ap (λ (i : Input). shown i place) (sym e) ∙ g.is in
+module _ (place₀ place : List ℕ) (filled turn : ℕ) (g : Going place₀ place filled turn) (same : length place ≡ length place₀) where
+  -- one answer more
+  more : (next : Input) (after : List ℕ) (reply : Reply) → shown next after ≡ further (length place) (take filled place) (input.Part filled) reply
+      → shown next after ≡ read_on (length place₀) nothing (g.replies ++ reply ∷ [])
+  more next after reply is =
+      is
+      ∙ ap (λ (n : ℕ). further n (take filled place) (input.Part filled) reply) same
+      ∙ ap (λ (v : Got). further (length place₀) v.content v.input reply) g.is
+      ∙ sym (read_more_lem (length place₀) nothing g.replies reply)
+
+  -- where there was room
+  module _ (after : List ℕ) (heard : Heard) (a : Answered place after filled heard) (step : Result (Option ℕ) Unread) (e : step ≡ read_by filled heard) where
+    goes_on : shown (input_by filled step) after ≡ read_on (length place₀) nothing (g.replies ++ a.reply ∷ [])
+    goes_on = more (input_by filled step) after a.reply (ap (λ (s : Result (Option ℕ) Unread). shown (input_by filled s) after) e ∙ a.is)
+
+    inside : size_of (input_by filled step) ≤ length place₀
+    inside = omega (arith, ap (λ (s : Result (Option ℕ) Unread). size_of (input_by filled s)) e, a.inside, same)
+
+-- an answer that ends the reading otherwise than by the end of the input is a failure
+fails : (filled : ℕ) (why : Unread) (heard : Heard) → Err why ≡ read_by filled heard → why ≡ unread.Failed
+fails filled why (Ok count) e = go (eqb count 0) e
+  where
+    go : (b : Bool) → Err why ≡ cond b (Ok None) (Ok (Some (filled + count))) → why ≡ unread.Failed
+    go true e = absurd (cc)
+    go false e = absurd (cc)
+fails filled why (Err Again) e = absurd (cc)
+fails filled why (Err Failed) e = cc
+
+pub returns-then-filled-place : goal.returns-then-filled-place
+returns-then-filled-place c =
+    let g = c.loop.invariant in
+    let place = c.loop.place in
     record {
-      replies = g.replies ++ o.reply ∷ [];
-      is =
-          o.is
-          ∙ ap (λ (n : ℕ). further n (take filled place) (input.Part filled) o.reply) g.same
-          ∙ ap (λ (v : Got). further (length place₀) v.content v.input o.reply) stood
-          ∙ sym (read_more_lem (length place₀) nothing g.replies o.reply);
-      inside = omega (arith, o.inside, g.same);
-      count = omega (arith, g.count, length-append g.replies (o.reply ∷ []));
-      same = omega (arith, g.same);
+      replies = g.replies ++ run.Again ∷ [];
+      so_far = input.TooLong;
+      is = more c.args.place.now place c.loop.filled c.loop.counter g c.loop.auto.place input.TooLong place run.Again (sym (rw (eq-eqb c.loop.filled (length place) c.if-filled-place.true) refl));
+      inside = omega arith;
+      ended = refl;
+      over = inl refl;
     }
 
--- what is no part is over
-no_part : (i : Input) → ((filled : ℕ) → i ≡ input.Part filled → ⊥) → is_part i ≡ false
-no_part (input.Part filled) n = absurd (n filled refl)
-no_part (input.Whole size) n = refl
-no_part input.TooLong n = refl
-no_part input.Failed n = refl
+pub returns-in_err-more : goal.returns-in_err-more
+returns-in_err-more c =
+    let g = c.loop.invariant in
+    let heard = c.read-heard.result in
+    let a = answered c.loop.place c.read-heard.new.room c.loop.filled heard (omega (arith, g.inside, c.loop.auto.place)) c.if-filled-place.false c.read-heard.auto.room c.read-heard.ensures in
+    let failed = fails c.loop.filled _ heard c.in_err-more.ensures in
+    let p = err_from_is_err_and c.from_residual.result c.from_residual.ensures.1 in
+    record {
+      replies = g.replies ++ a.reply ∷ [];
+      so_far = input.Failed;
+      is = goes_on c.args.place.now c.loop.place c.loop.filled c.loop.counter g c.loop.auto.place _ heard a _ c.in_err-more.ensures;
+      inside = omega arith;
+      ended = p.1 ∙ ap (λ (why : Unread). Err why) (p.2 ∙ failed);
+      over = inl refl;
+    }
 
-pub loop-turns-init : goal.loop-turns-init
-loop-turns-init c = record { replies = []; is = refl; inside = omega arith; count = refl; same = refl }
+pub returns-in-None : goal.returns-in-None
+returns-in-None c =
+    let g = c.loop.invariant in
+    let heard = c.read-heard.result in
+    let a = answered c.loop.place c.read-heard.new.room c.loop.filled heard (omega (arith, g.inside, c.loop.auto.place)) c.if-filled-place.false c.read-heard.auto.room c.read-heard.ensures in
+    record {
+      replies = g.replies ++ a.reply ∷ [];
+      so_far = input.Whole c.loop.filled;
+      is = goes_on c.args.place.now c.loop.place c.loop.filled c.loop.counter g c.loop.auto.place _ heard a (Ok None) (rw c.in-None.is at c.in_ok-more.ensures);
+      inside = g.inside;
+      ended = refl;
+      over = inl refl;
+    }
 
-pub returns-in_default : goal.returns-in_default
-returns-in_default c =
-    let l = c.loop-turns in
-    let g = l.invariant in
-    record { replies = g.replies; is = g.is; inside = g.inside; over = inl (no_part l.input c.in_default.not-Part) }
-
-pub read_one-input-requires : goal.read_one-input-requires
-read_one-input-requires c =
-    let g = c.loop-turns.invariant in
-    omega (arith, ap size_of c.in-Part.is, g.inside, g.same)
-
-pub loop-turns-preserved : goal.loop-turns-preserved
-loop-turns-preserved c =
-    let o = c.read_one-input in
-    let l = c.loop-turns in
-    one_more _ l.place o.new.place _ l.turns l.input o.result c.in-Part.is (omega arith) l.invariant o.ensures o.auto.place _ (omega arith)
-
-pub returns : goal.returns
-returns c =
-    let g = c.loop-turns.invariant in
-    record { replies = g.replies; is = g.is; inside = g.inside; over = inr (omega (arith, g.count, c.loop-turns-test.false)) }
+pub loop-preserved : goal.loop-preserved
+loop-preserved c =
+    let g = c.loop.invariant in
+    let heard = c.read-heard.result in
+    let a = answered c.loop.place c.read-heard.new.room c.loop.filled heard (omega (arith, g.inside, c.loop.auto.place)) c.if-filled-place.false c.read-heard.auto.room c.read-heard.ensures in
+    let step : Ok (Some c.in-Some.more) ≡ read_by c.loop.filled heard = rw c.in-Some.is at c.in_ok-more.ensures in
+    record {
+      replies = g.replies ++ a.reply ∷ [];
+      is = goes_on c.args.place.now c.loop.place c.loop.filled c.loop.counter g c.loop.auto.place _ heard a _ step;
+      inside = inside c.args.place.now c.loop.place c.loop.filled c.loop.counter g c.loop.auto.place _ heard a _ step;
+      count = omega (arith, g.count, length-append g.replies (a.reply ∷ []));
+    }
