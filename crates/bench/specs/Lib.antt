@@ -1,5 +1,4 @@
 -- The program's places, and how they show its run.
-pub mod Lines
 pub mod Progress
 pub mod Input
 pub mod Output

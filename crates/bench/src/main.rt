@@ -11,6 +11,7 @@ mod replays;
 mod system;
 mod tally;
 mod whole;
+mod words;
 
 ghost use Rattle.std.specs.Prelude.{◌≡◌, ◌-◌, ◌≤◌, ◌<◌, length, take, drop};
 ghost use Rattle.record.specs.declared.form.Form.TheVariants.{Two};
@@ -110,9 +111,10 @@ fn close(text: &mut [u8], p: Progress) -> Progress
     let Stage::Close = p.stage else {
         return p;
     };
+    let words = tally::last_words(p.tally);
     Progress {
         from: 0,
-        size: tally::put_last(p.tally, text),
+        size: digits::put_text(words.bytes(), text),
         stage: Stage::Say,
         ..p
     }

@@ -1,14 +1,14 @@
 // Replaying the log on standard input, window by window, and saying how that ended.
-ghost use Rattle.std.specs.Prelude.{◌≡◌, true, ◌+◌, ◌≤◌, ◌<◌, length};
+ghost use Rattle.std.specs.Prelude.{◌≡◌, true, ◌++◌, ◌+◌, ◌≤◌, ◌<◌, length};
 ghost use Rattle.chip_log.specs.Laws.{most_bytes};
 ghost use Rattle.replay.specs.Replays.{told};
 ghost use Rattle.turns.specs.Tallies.{largest};
-ghost use Rattle.bench.specs.Lines.{Follows};
 ghost use Rattle.bench.specs.Progress.{moved_by};
 ghost use Rattle.bench.specs.Replays.{is_running, with_fault, stretched, HeardBytes, HeardAs, HeardOne, ReplayedAll, verdict_words, report_words, end_line, last_words};
 
 use crate::progress::Unmoved;
-use crate::system::{Sink, System};
+use crate::system::System;
+use crate::words::Words;
 use crate::{system, tally, whole};
 use replay::{Stretch, Verdict};
 use stream::Stream;
@@ -142,73 +142,55 @@ pub(crate) fn entry_of(agreed: u64, verdict: Verdict) -> u64
     }
 }
 
-// Puts a verdict and its field straight behind the first `at` bytes of a place that has room for them, and gives where they end.
-fn put_verdict(at: usize, verdict: Verdict, out: &mut [u8]) -> usize
-    requires at_bound { at ≤ 32 }
-    requires in_bounds { 256 ≤ length out.old }
-    ensures { Follows at (verdict_words verdict) result out.old out.new }
+// Puts a verdict and its field behind words.
+fn put_verdict(words: &mut Words<256>, verdict: Verdict)
+    requires { length words.old ≤ 32 }
+    ensures { words.new ≡ words.old ++ verdict_words verdict }
 {
     match verdict {
-        Verdict::Agrees => tally::put_piece(at, b"\nverdict=agrees\nfield=none\n", out),
-        Verdict::Answer => tally::put_piece(at, b"\nverdict=differs\nfield=answer\n", out),
-        Verdict::Out => tally::put_piece(at, b"\nverdict=differs\nfield=out\n", out),
-        Verdict::Rounds => tally::put_piece(at, b"\nverdict=differs\nfield=rounds\n", out),
+        Verdict::Agrees => words.text(b"\nverdict=agrees\nfield=none\n"),
+        Verdict::Answer => words.text(b"\nverdict=differs\nfield=answer\n"),
+        Verdict::Out => words.text(b"\nverdict=differs\nfield=out\n"),
+        Verdict::Rounds => words.text(b"\nverdict=differs\nfield=rounds\n"),
         Verdict::Unread { line, column: _ } => {
-            let next = tally::put_numbered(at, b"\nverdict=unread\nfield=", line as u64, out);
-            tally::put_piece(next, b"\n", out)
+            words.numbered(b"\nverdict=unread\nfield=", line as u64);
+            words.text(b"\n");
         }
-        Verdict::Open => tally::put_piece(at, b"\n", out),
+        Verdict::Open => words.text(b"\n"),
     }
 }
 
-// Puts the three lines of a report at the beginning of a place that has room for them, and gives where they end.
-fn put_report(entry: u64, verdict: Verdict, out: &mut [u8]) -> usize
-    requires { 256 ≤ length out.old }
-    ensures { Follows 0 (report_words entry verdict) result out.old out.new }
+// The three lines of a report.
+fn report_words(entry: u64, verdict: Verdict) -> Words<256>
+    ensures { result ≡ report_words entry verdict }
 {
-    let at = tally::put_numbered(0, b"entry=", entry, out);
-    put_verdict(at, verdict, out)
+    let mut words = Words::new();
+    words.numbered(b"entry=", entry);
+    put_verdict(&mut words, verdict);
+    words
 }
 
-// Puts the last line straight behind the first `at` bytes of a place that has room for it, and gives where it ends.
-fn put_end(at: usize, entry: u64, out: &mut [u8]) -> usize
-    requires at_bound { at ≤ 128 }
-    requires in_bounds { 256 ≤ length out.old }
-    ensures { Follows at (end_line entry) result out.old out.new }
+// Puts the last line behind words.
+fn put_end(words: &mut Words<256>, entry: u64)
+    requires { length words.old ≤ 128 }
+    ensures { words.new ≡ words.old ++ end_line entry }
 {
-    let next = tally::put_numbered(at, b"bench: done: entries=", entry, out);
-    tally::put_piece(next, b"\n", out)
+    words.numbered(b"bench: done: entries=", entry);
+    words.text(b"\n");
 }
 
-// Puts the last words at the beginning of a place that has room for them, and gives where they end.
-fn put_last(entry: u64, verdict: Verdict, out: &mut [u8]) -> usize
-    requires { 256 ≤ length out.old }
-    ensures { Follows 0 (last_words entry verdict) result out.old out.new }
+// The last words of a replay.
+fn last_words(entry: u64, verdict: Verdict) -> Words<256>
+    ensures { result ≡ last_words entry verdict }
 {
-    if let Verdict::Unread { line, column } = verdict {
-        let at = tally::put_fault(b"bench: entry ", entry, line, column, out);
-        return put_end(at, entry, out);
-    }
-    put_end(0, entry, out)
-}
-
-// Says how a replay ended, on standard error.
-fn say(system: &mut System, entry: u64, verdict: Verdict) {
-    let mut words = [0; 256];
-    let size = put_last(entry, verdict, &mut words);
-    if whole::write_all(system, Sink::Messages, &words[..size]).is_err() {
-        system.fail(b"bench: writing failed");
-    }
-}
-
-// Writes the report of a replay to standard output, and then says how it ended.
-fn hand_out(system: &mut System, entry: u64, verdict: Verdict) {
-    let mut report = [0; 256];
-    let size = put_report(entry, verdict, &mut report);
-    match whole::write_all(system, Sink::Output, &report[..size]) {
-        Ok(()) => say(system, entry, verdict),
-        Err(_) => system.fail(b"bench: writing failed"),
-    }
+    let mut words = match verdict {
+        Verdict::Unread { line, column } => {
+            tally::fault_line(b"bench: entry ", entry, line, column)
+        }
+        _ => Words::new(),
+    };
+    put_end(&mut words, entry);
+    words
 }
 
 // Replays the log on standard input, and says how that ended.
@@ -219,6 +201,11 @@ pub(crate) fn replay(system: &mut System) {
         (Some(Fault::Reading), _) => system.fail(b"bench: reading failed"),
         (Some(Fault::TooMany), _) => system::complain(b"bench: too many entries\n"),
         (None, Verdict::Open) => system::complain(b"bench: too many turns\n"),
-        (None, verdict) => hand_out(system, entry_of(state.entries, verdict), verdict),
+        (None, verdict) => {
+            let entry = entry_of(state.entries, verdict);
+            let report = report_words(entry, verdict);
+            let words = last_words(entry, verdict);
+            whole::hand_out(system, report.bytes(), words.bytes());
+        }
     }
 }

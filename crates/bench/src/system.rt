@@ -4,6 +4,7 @@ ghost use Rattle.bench.specs.Progress.{moved_by};
 
 use crate::progress;
 use crate::progress::Unmoved;
+use crate::words::Words;
 use std::env::{Env, FillError};
 use std::fmt;
 use std::io::{Error, Read, Stderr, Stdin, Stdout, Write};
@@ -65,14 +66,11 @@ impl System {
 
     // Writes a line to standard error: what failed, a colon, and the words for the last error.
     pub(crate) fn fail(&self, what: &[u8]) {
-        let mut words = Words {
-            bytes: [0; 128],
-            size: 0,
-        };
+        let mut words = Words::<128>::new();
         let _ = fmt::Write::write(&mut words, Error::from_raw_os_error(self.error));
         complain(what);
         complain(b": ");
-        complain(words.reason());
+        complain(reason(words.bytes()));
         complain(b"\n");
     }
 }
@@ -82,35 +80,11 @@ pub(crate) fn complain(words: &[u8]) {
     let _ = io::write_all(STDERR_FILENO, words);
 }
 
-// The words for an error, with its number in brackets behind them.
-#[derive(Drop)]
-struct Words {
-    bytes: [u8; 128],
-    size: usize,
-    ghost inside: { size ≤ 128 },
-}
-
-impl fmt::Write for Words {
-    fn write_str(&mut self, s: &str) -> fmt::Result {
-        for byte in s.as_bytes() {
-            if self.size == 128 {
-                return Ok(());
-            }
-            self.bytes[self.size] = *byte;
-            self.size += 1;
-        }
-        Ok(())
-    }
-}
-
-impl Words {
-    // The words without the number.
-    fn reason(&self) -> &[u8] {
-        let text = &self.bytes[..self.size];
-        match text.iter().rposition(|byte| *byte == b'(') {
-            Some(0) | None => text,
-            Some(at) => &text[..at - 1],
-        }
+// The words for an error, without its number, which stands in brackets behind them.
+fn reason(words: &[u8]) -> &[u8] {
+    match words.iter().rposition(|byte| *byte == b'(') {
+        Some(0) | None => words,
+        Some(at) => &words[..at - 1],
     }
 }
 

@@ -81,3 +81,16 @@ pub(crate) fn write_all(system: &mut System, to: Sink, text: &[u8]) -> Result<()
     }
     Err(Unwritten::Endless)
 }
+
+// Writes a text to standard output, and then words to standard error.
+fn write_both(system: &mut System, text: &[u8], words: &[u8]) -> Result<(), Unwritten> {
+    write_all(system, Sink::Output, text)?;
+    write_all(system, Sink::Messages, words)
+}
+
+// Writes a text to standard output, and then says with these words how that came about; or says that writing failed.
+pub(crate) fn hand_out(system: &mut System, text: &[u8], words: &[u8]) {
+    if write_both(system, text, words).is_err() {
+        system.fail(b"bench: writing failed");
+    }
+}

@@ -1,7 +1,7 @@
 -- `bench::word_task` meets its contract.
 use mathlib.Core.Path.{◌∙◌}
 use Rattle.digits.specs.Ascii.{ascii}
-use Rattle.bench.proofs.Words.{same_as}
+use Rattle.bench.proofs.Same.{same_as}
 use Rattle.bench.proofs.word_task.Goals as goal
 
 pub returns-else-eq-4 : goal.returns-else-eq-4

@@ -1,20 +1,15 @@
 -- `bench::moves::put_place` meets its contract.
-use native.Mathlib.Omega.{arith}
+use mathlib.Core.Path.{sym}
+use mathlib.Core.List.{append-nil, append_assoc}
 use borrow.Author.Tests.{eq-eqb, ne_eqb}
 use Rattle.bench.specs.Moves.{place_words}
-use Rattle.bench.proofs.Lines.{follows_more}
 use Rattle.bench.proofs.moves.put_place.Goals as goal
 
-pub returns-then-moved-eq0 : goal.returns-then-moved-eq0
+pub returns-then-moved-ne0-clause-words : goal.returns-then-moved-ne0-clause-words
 unfolding place_words
-returns-then-moved-eq0 c =
-    let p = c in
-    let t = p in
-    record { follows = rw (eq-eqb _ 0 t.if-moved-eq0.true) p.put_piece.ensures; upper_bound = omega (arith, p.put_piece.ensures.ends, t.requires.at_bound) }
+returns-then-moved-ne0-clause-words c =
+    rw (ne_eqb _ 0 c.if-moved-ne0.true) (simp (c.numbered-then-moved-ne0.ensures.words, c.numbered.ensures.words, append_assoc))
 
-pub returns : goal.returns
+pub returns-else-moved-ne0-clause-words : goal.returns-else-moved-ne0-clause-words
 unfolding place_words
-returns c =
-    let two = c in
-    let one = two in
-    let e = one in record { follows = rw (ne_eqb _ 0 e.if-moved-eq0.false) (follows_more one.put_numbered-next.ensures.follows two.put_numbered.ensures.follows); upper_bound = omega (arith, one.put_numbered-next.ensures.upper_bound, two.put_numbered.ensures.upper_bound, e.requires.at_bound) }
+returns-else-moved-ne0-clause-words c = rw (eq-eqb _ 0 c.if-moved-ne0.false) (sym (append-nil c.args.words.now))

@@ -1,19 +1,14 @@
 -- `bench::moves::put_record` meets its contract.
-use native.Mathlib.Omega.{arith}
+use mathlib.Core.Path.{sym}
+use mathlib.Core.List.{append-nil}
 use borrow.Author.Tests.{eq-eqb, ne_eqb}
 use Rattle.bench.specs.Moves.{record_words}
 use Rattle.bench.proofs.moves.put_record.Goals as goal
 
-pub returns-then-moved-eq0 : goal.returns-then-moved-eq0
+pub returns-then-moved-ne0-clause-words : goal.returns-then-moved-ne0-clause-words
 unfolding record_words
-returns-then-moved-eq0 c =
-    let p = c in
-    let t = p in
-    record { follows = rw (eq-eqb _ 0 t.if-moved-eq0.true) p.put_piece.ensures; upper_bound = omega (arith, p.put_piece.ensures.ends, t.requires.at_bound) }
+returns-then-moved-ne0-clause-words c = rw (ne_eqb _ 0 c.if-moved-ne0.true) c.numbered.ensures.words
 
-pub returns : goal.returns
+pub returns-else-moved-ne0-clause-words : goal.returns-else-moved-ne0-clause-words
 unfolding record_words
-returns c =
-    let p = c in
-    let e = p in
-    record { follows = rw (ne_eqb _ 0 e.if-moved-eq0.false) p.put_numbered.ensures.follows; upper_bound = omega (arith, p.put_numbered.ensures.upper_bound, e.requires.at_bound) }
+returns-else-moved-ne0-clause-words c = rw (eq-eqb _ 0 c.if-moved-ne0.false) (sym (append-nil c.args.words.now))
