@@ -38,20 +38,20 @@ pub record Kept (before after : List ℕ) (left : ℕ) : Type 0 where
   pub front : take left after ≡ take left before
   pub same : length after ≡ length before
 
-pub kept_front : (before brought : List ℕ) (left : ℕ) → left ≤ length before → length brought ≡ length (take (length before - left) (drop left before))
-    → Kept before (take left before ++ (brought ++ drop (length before - left) (drop left before))) left
-kept_front before brought left h e =
-    let rest = drop (length before - left) (drop left before) in
+pub kept_front : (before brought : List ℕ) (left rest : ℕ) → left + rest ≡ length before → length brought ≡ length (take rest (drop left before))
+    → Kept before (take left before ++ (brought ++ drop rest (drop left before))) left
+kept_front before brought left rest h e =
+    let behind = drop rest (drop left before) in
     record {
-      front = take_at (take left before) (brought ++ rest) left (length-take-le left before h);
+      front = take_at (take left before) (brought ++ behind) left (length-take-le left before (omega arith));
       same = omega (
         arith,
-        length-append (take left before) (brought ++ rest),
-        length-append brought rest,
-        length-take-le left before h,
+        length-append (take left before) (brought ++ behind),
+        length-append brought behind,
+        length-take-le left before (omega arith),
         length-drop left before,
-        length-drop (length before - left) (drop left before),
-        length-take (length before - left) (drop left before),
+        length-drop rest (drop left before),
+        length-take rest (drop left before),
         e,
       );
     }
@@ -118,7 +118,7 @@ pub answered : (before brought : List ℕ) (filled : ℕ) (heard : Heard) → fi
 answered before brought filled heard h room size fits =
     let moved : filled + moved_by heard ≤ length before = omega (arith, fits, size, length-take (length before - filled) (drop filled before), h) in
     let after = take filled before ++ (brought ++ drop (length before - filled) (drop filled before)) in
-    let kept = kept_front before brought filled h size in
+    let kept = kept_front before brought filled (length before - filled) (omega arith) size in
     let a = answer_of_lem before after filled heard h kept.front (omega (arith, moved, kept.same)) in
     record { reply = a.reply; is = rw (ne_eqb filled (length before) room) a.is; inside = omega (arith, sized filled heard, moved) }
 

@@ -1,5 +1,4 @@
 -- Laws of the places.
-pub mod Stages
 pub mod Views
 pub mod Looks
 pub mod Behind

@@ -15,7 +15,7 @@ returns c =
     let place = a.buffer.now in
     take a.state.left place ++ (c.read-heard.new.room ++ drop (length place - a.state.left) (drop a.state.left place)) in
     let kept : (Kept c.args.buffer.now brought c.args.state.left) = let s = c in
-    kept_front s.args.buffer.now c.read-heard.new.room s.args.state.left (omega (arith, s.requires.most_bytes_in_bounds, s.requires.left_lt_most_bytes)) c.read-heard.auto.room in
+    kept_front s.args.buffer.now c.read-heard.new.room s.args.state.left (length s.args.buffer.now - s.args.state.left) (omega (arith, s.requires.most_bytes_in_bounds, s.requires.left_lt_most_bytes)) c.read-heard.auto.room in
     let same-so-far : (let a = c.args in so_far a.state brought ≡ so_far a.state a.buffer.now) = let r = c.args.state in
     λ j. record { left = kept.front j; entries = r.entries; stream = r.stream; verdict = r.verdict } in
     let h = c.after_read.ensures in

@@ -1,0 +1,23 @@
+use mathlib.Core.Path.{sym, ap, ◌∙◌}
+use mathlib.Core.List.{[], ◌∷◌, ◌++◌}
+use mathlib.Core.Logic.{inl}
+use native.Mathlib.Omega.{arith}
+use lib.ListN.{length-append}
+use Rattle.turns.specs.Run.{Standing, is_over}
+use Rattle.turns.proofs.Turns.{ran_more}
+use Rattle.bench.proofs.judging.run.Goals as goal
+
+pub returns-in-Over : goal.returns-in-Over
+returns-in-Over c =
+    let inv = c.loop.invariant in
+    record { replies = inv.replies; is = inv.is; over = inl (ap (λ (s : Standing). is_over s.stage) (sym c.judging.view_is) ∙ ap is_over c.in-Over.is) }
+
+pub loop-preserved : goal.loop-preserved
+loop-preserved c =
+    let inv = c.loop.invariant in
+    let turned = c.turn.ensures in
+    record {
+      replies = inv.replies ++ turned.reply ∷ [];
+      is = ran_more _ _ inv.replies inv.is turned;
+      count = omega (arith, inv.count, length-append inv.replies (turned.reply ∷ []));
+    }
