@@ -3,14 +3,28 @@ use Rattle.std.specs.Prelude.{cond, Result, Ok, Err, List, [], ◌++◌, ◌≡�
 use Rattle.answers.specs.declared.Answer.TheVariants.{Done, UnknownSet, BrokenRecord, ChipLost}
 use Rattle.answers.specs.Numbers.{number_of, is_done}
 use Rattle.digits.specs.Ascii.{ascii}
-use Rattle.moving.specs.declared.all.MovingAll.{MovingAll}
-use Rattle.moving.specs.Moves.{refused_all}
+use Rattle.moving.specs.declared.all.MovedAll.{MovedAll}
+use Rattle.moving.specs.Moves.{MovingAll, moving_all_of, Numbered, refused_all}
 use Rattle.turns.specs.Tallies.{numbered}
+use Rattle.bench.specs.declared.moves.NotCarried.{NotCarried}
+use Rattle.bench.specs.declared.moves.NotCarried.TheVariants as not_carried
 use Rattle.bench.specs.declared.whole.Unread.{Unread}
 
 -- a place of so many bytes. The checker must not count a million of them one by one, and so does not look inside
 unfoldable pub Places : ℕ → List ℕ → Type 0
 Places n place = n ≡ length place
+
+-- how a moving of all of the input ended, as the code says it: with an answer on its records, or input that was not all read
+abbrev pub carried_of : Result MovedAll NotCarried → Result MovingAll Unread
+carried_of (Ok moved) = Ok (moving_all_of (Ok moved))
+carried_of (Err (not_carried.Unmoved refused)) = Ok (moving_all_of (Err refused))
+carried_of (Err (not_carried.Unread why)) = Err why
+
+-- a record that is refused has a number and, where it is wrong, a line from 1 on
+abbrev pub NumberedIn : Result MovedAll NotCarried → Type 0
+NumberedIn (Ok moved) = Unit {0}
+NumberedIn (Err (not_carried.Unmoved refused)) = Numbered (Err refused)
+NumberedIn (Err (not_carried.Unread why)) = Unit {0}
 
 -- how many bytes of the output were written
 abbrev pub written_in : Result MovingAll Unread → ℕ

@@ -1,8 +1,7 @@
 -- All of the input read, moved and written, by what the operating system answers call by call.
 use Rattle.std.specs.Prelude.{Bool, true, false, cond, Option, Some, None, Result, Ok, Err, List, [], ◌∷◌, ◌++◌, ◌⊎◌, ◌≡◌, ℕ, ◌+◌, ◌≤◌, eqb, length, take}
-use Rattle.moving.specs.declared.all.MovingAll.{MovingAll}
 use Rattle.moving.specs.declared.route.Route.{Route}
-use Rattle.moving.specs.Moves.{move_all_call}
+use Rattle.moving.specs.Moves.{MovingAll, move_all_call}
 use Rattle.turns.specs.Tallies.{largest}
 use Rattle.turns.specs.Run as run
 use Rattle.turns.specs.Run.{Reply}

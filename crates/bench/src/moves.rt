@@ -1,13 +1,16 @@
 // Moving all records on standard input from one kind of text to another, and saying how that ended.
-ghost use Rattle.std.specs.Prelude.{◌≡◌, ◌++◌, ◌≤◌, length};
-ghost use Rattle.bench.specs.Moves.{Places, written_in, record_words, place_words, moved_words};
+ghost use Rattle.std.specs.Prelude.{◌≡◌, ◌++◌, ◌≤◌, Ok, Err, length};
+ghost use Rattle.moving.specs.Moves.{moving_all_of, Numbered};
+ghost use Rattle.bench.specs.declared.moves.NotCarried.TheVariants.{Unread, Unmoved};
+ghost use Rattle.bench.specs.Moves.{Places, written_in, record_words, place_words, moved_words, carried_of, NumberedIn};
 ghost use Rattle.bench.specs.Whole.{Carries};
 
 use crate::system::System;
 use crate::whole::Unread;
 use crate::words::Words;
 use crate::{system, whole};
-use moving::{MovingAll, Route};
+use answers::Answer;
+use moving::{MovedAll, Route, UnmovedAll};
 
 // The bytes of the place for the input: those that may come, and one more, so that the end is seen.
 const HELD: usize = 1048577;
@@ -22,42 +25,72 @@ fn place<const N: usize>() -> [u8; N]
     [0; N]
 }
 
-// Puts the number of the record that is refused, if there is one, behind words.
-fn put_record(words: &mut Words<256>, moved: MovingAll)
-    requires { length words.old ≤ 64 }
-    ensures words { words.new ≡ words.old ++ record_words moved }
-    ensures room { length words.new ≤ 128 }
-{
-    if moved.records != 0 {
-        words.numbered(b" record=", moved.records);
+// Why the records on standard input were not moved: not all of the input was read, or a record is refused.
+#[derive(Clone, Copy)]
+pub enum NotCarried {
+    Unread(Unread),
+    Unmoved(UnmovedAll),
+}
+
+impl From<Unread> for NotCarried {
+    ghost from_gives = { λ why refused. refused ≡ Unread why };
+
+    fn from(why: Unread) -> NotCarried {
+        NotCarried::Unread(why)
     }
 }
 
-// Puts the line and column of a refusal, if it has any, behind words.
-fn put_place(words: &mut Words<256>, moved: MovingAll)
-    requires { length words.old ≤ 128 }
-    ensures words { words.new ≡ words.old ++ place_words moved }
-    ensures room { length words.new ≤ 200 }
-{
-    if moved.line != 0 {
-        words.numbered(b" line=", moved.line as u64);
-        words.numbered(b" column=", moved.column as u64);
+impl From<UnmovedAll> for NotCarried {
+    ghost from_gives = { λ why refused. refused ≡ Unmoved why };
+
+    fn from(why: UnmovedAll) -> NotCarried {
+        NotCarried::Unmoved(why)
     }
 }
 
-// What is said of a moving.
-fn moved_words(moved: MovingAll) -> Words<256>
-    ensures { result ≡ moved_words moved }
+// What is said of records that were moved.
+fn moved_words(moved: MovedAll) -> Words<256>
+    ensures { result ≡ moved_words (moving_all_of (Ok moved)) }
 {
     let mut words = Words::new();
-    if answers::is_done(moved.answer) {
-        words.numbered(b"bench: done: records=", moved.records);
-        words.text(b"\n");
-        return words;
+    words.numbered(b"bench: done: records=", moved.records);
+    words.text(b"\n");
+    words
+}
+
+// Puts the number of the record that is refused, if it is for a single one, and the line and column at which that is wrong, if it is, behind words.
+fn put_place(words: &mut Words<256>, refused: UnmovedAll)
+    requires numbered { Numbered (Err refused) }
+    requires room { length words.old ≤ 64 }
+    ensures words { let r = moving_all_of (Err refused) in words.new ≡ words.old ++ (record_words r ++ place_words r) }
+    ensures room { length words.new ≤ 200 }
+{
+    match refused {
+        UnmovedAll::Broken {
+            record,
+            line,
+            column,
+        } => {
+            words.numbered(b" record=", record);
+            words.numbered(b" line=", line as u64);
+            words.numbered(b" column=", column as u64);
+        }
+        UnmovedAll::ChipLost { record } => words.numbered(b" record=", record),
+        UnmovedAll::UnknownSet | UnmovedAll::NoRoom => {}
     }
-    words.numbered(b"bench: refused: answer=", answers::number(moved.answer));
-    put_record(&mut words, moved);
-    put_place(&mut words, moved);
+}
+
+// What is said where none is moved.
+fn refused_words(refused: UnmovedAll) -> Words<256>
+    requires { Numbered (Err refused) }
+    ensures { result ≡ moved_words (moving_all_of (Err refused)) }
+{
+    let mut words = Words::new();
+    words.numbered(
+        b"bench: refused: answer=",
+        answers::number(Answer::from(refused)),
+    );
+    put_place(&mut words, refused);
     words.text(b"\n");
     words
 }
@@ -68,12 +101,14 @@ fn move_input(
     route: Route,
     place: &mut [u8],
     out: &mut [u8],
-) -> Result<MovingAll, Unread>
-    ensures carries { Carries route place.old result out.old out.new }
-    ensures result_in_bounds { written_in result ≤ length out.new }
+) -> Result<MovedAll, NotCarried>
+    ensures carries { Carries route place.old (carried_of result) out.old out.new }
+    ensures result_in_bounds { written_in (carried_of result) ≤ length out.new }
+    ensures numbered { NumberedIn result }
 {
     let size = whole::read_all(system, place)?;
-    Ok(moving::move_all(route, &place[..size], out))
+    let moved = moving::move_all(route, &place[..size], out)?;
+    Ok(moved)
 }
 
 // Moves all records on standard input on a route, and says how that ended.
@@ -85,10 +120,14 @@ pub(crate) fn carry(system: &mut System, route: Route) {
             let words = moved_words(moved);
             whole::hand_out(system, &out[..moved.written], words.bytes());
         }
-        Err(Unread::TooLong) => {
+        Err(NotCarried::Unmoved(refused)) => {
+            let words = refused_words(refused);
+            whole::hand_out(system, b"", words.bytes());
+        }
+        Err(NotCarried::Unread(Unread::TooLong)) => {
             system::complain(b"bench: the input has more than 1048576 bytes\n");
         }
-        Err(Unread::Failed) => system.fail(b"bench: reading failed"),
-        Err(Unread::Endless) => system::complain(b"bench: too many turns\n"),
+        Err(NotCarried::Unread(Unread::Failed)) => system.fail(b"bench: reading failed"),
+        Err(NotCarried::Unread(Unread::Endless)) => system::complain(b"bench: too many turns\n"),
     }
 }

@@ -3,14 +3,16 @@ use mathlib.Core.Path.{◌≡◌, sym, ap, ◌∙◌}
 use mathlib.Core.Bool.{false, true≢false}
 use mathlib.Core.List.{List}
 use mathlib.Core.Logic.{inl, inr, ⊎_elim}
-use Prim.Native.Nat.{ℕ}
+use Prim.Native.Nat.{ℕ, ◌≤◌}
 use native.Mathlib.Omega.{arith}
-use lib.ListN.{take}
+use lib.ListN.{length, take, length-take}
 use Rattle.std.proofs.Common.{Result, Ok, Err}
 use Rattle.std.proofs.lemmas.Result.{err_from_is_err_and}
-use Rattle.moving.specs.declared.all.MovingAll.{MovingAll}
 use Rattle.moving.specs.declared.route.Route.{Route}
-use Rattle.moving.specs.Moves.{AllLeaves}
+use Rattle.moving.specs.declared.route.Route.TheVariants.{Forward, Back, Import, Export}
+use Rattle.moving.specs.Laws.{Counts}
+use Rattle.moving.specs.Moves.{MovingAll, AllLeaves, all_leaves, move_all_call}
+use Rattle.moving.proofs.Numbered.{numbered}
 use Rattle.moving.proofs.Places.{written_inside}
 use Rattle.bench.specs.declared.whole.Unread.{Unread}
 use Rattle.bench.specs.declared.whole.Unread.TheVariants as unread
@@ -51,21 +53,43 @@ not_endless (input.Whole size) why e part same = cc
 not_endless input.TooLong why e part same = cc
 not_endless input.Failed why e part same = cc
 
+-- what moving all of the input left is what is left of its moving, and no more than the output is written
+moved : (route : Route) (place after out new : List ℕ) (size : ℕ) (r : MovingAll) → ReadAll place (Ok size) after → all_leaves r new ≡ move_all_call route (take size after) out
+    → length new ≡ length out → Carries route place (Ok r) out new × (r.written ≤ length new)
+moved route place after out new size r a leaves same =
+    let ended = ap (λ (l : AllLeaves). carry_leaves (Ok l.outcome) l.out) leaves in (
+      carries route place after out new (Ok size) (Ok r) a (λ part e. cc)
+          (ended ∙ ap (λ (i : Input). carried_by route (take (size_of i) after) i out) (sym (all_read a.so_far size a.ended))),
+      omega (arith, ap (λ (l : AllLeaves). l.outcome.written) leaves, written_inside route (take size after) out),
+    )
+
+-- a text in memory has few enough bytes for its records to be counted
+counts : (route : Route) (n : ℕ) → n ≤ 18_446_744_073_709_551_615 → Counts route n
+counts Forward n h = tt
+counts Back n h = tt
+counts (Import set) n h = h
+counts Export n h = h
+
 pub returns : goal.returns
 returns c =
-    let after = c.read_all.new.place in
+    let leaves = rw c.in_ok-moved.was at c.move_all.ensures in
+    let m = moved c.args.route _ c.read_all.new.place c.args.out.now _ c.in_ok-size.size _ (rw c.in_ok-size.was at c.read_all.ensures) leaves c.move_all.auto.out in
+    record { carries = m.0; result_in_bounds = m.1; numbered = tt }
+
+pub returns-in_err-moved : goal.returns-in_err-moved
+returns-in_err-moved c =
     let route = c.args.route in
-    let out = c.args.out.now in
-    let size = c.in_ok-size.size in
-    let a = rw c.in_ok-size.was at c.read_all.ensures in
-    let moved = ap (λ (l : AllLeaves). carry_leaves (Ok l.outcome) l.out) c.move_all.ensures in
-    let written = ap (λ (l : AllLeaves). l.outcome.written) c.move_all.ensures in
-    record {
-      carries =
-          carries route _ after out _ (Ok size) _ a (λ part e. cc)
-          (moved ∙ ap (λ (i : Input). carried_by route (take (size_of i) after) i out) (sym (all_read a.so_far size a.ended)));
-      result_in_bounds = omega (arith, written, written_inside route (take size after) out, c.move_all.auto.out);
-    }
+    let text = take c.in_ok-size.size c.read_all.new.place in
+    let leaves = c.in_err-moved.ensures in
+    let m = moved route _ c.read_all.new.place c.args.out.now _ c.in_ok-size.size _ (rw c.in_ok-size.was at c.read_all.ensures) leaves c.move_all.auto.out in
+    let fits = counts route (length text) (omega (arith, length-take c.in_ok-size.size c.read_all.new.place)) in
+    let p = err_from_is_err_and c.from_residual-in_err-moved.result c.from_residual-in_err-moved.ensures.1 in
+    rw (p.1, p.2)
+    (record {
+      carries = m.0;
+      result_in_bounds = m.1;
+      numbered = numbered route text c.args.out.now (Err c.in_err-moved.field-0.0) (ap (λ (l : AllLeaves). l.outcome) leaves) fits;
+    })
 
 pub returns-in_err-size : goal.returns-in_err-size
 returns-in_err-size c =
@@ -81,4 +105,5 @@ returns-in_err-size c =
           carries route _ after out out (Err why) (Err why) a (λ part e. not_endless a.so_far why a.ended part (cc))
           (not_read route (take (size_of a.so_far) after) out a.so_far why a.ended);
       result_in_bounds = omega arith;
+      numbered = tt;
     })
