@@ -12,11 +12,11 @@ use Rattle.sponge.specs.Sponge.{started, absorbed, ad_closed, crypted_of, Crypte
 use Rattle.sets.proofs.Rows.{row_fits, row_sizes}
 use Rattle.tags.proofs.Compared.{sixteen_is}
 use Rattle.message.proofs.Whole.{started_is, before_is, crypted_is, tagged_is}
-use Rattle.message.proofs.process.Goals as goal
+use Rattle.message.proofs.Message.process.Goals as goal
 
 pub returns : goal.returns
 returns c =
-    let a = c.args in
+    let a = c.args.self in
     let pre = c.requires in
     let row = row_of a.set in
     let fits = row_fits a.set in
@@ -26,9 +26,9 @@ returns c =
     let X = a.text.now in
     let key : length K ≡ row.key = pre.key_len in
     let nonce : length N ≡ row.key = pre.nonce_len in
-    let kb : Bytes K = record { at = λ i. omega (arith, c.type_inv.key i) } in
-    let ab : Bytes A = record { at = λ i. omega (arith, c.type_inv.ad i) } in
-    let xb : Bytes X = record { at = λ i. omega (arith, c.type_inv.text i) } in
+    let kb : Bytes K = pre.bytes.0 in
+    let ab : Bytes A = pre.bytes.1.0 in
+    let xb : Bytes X = pre.bytes.1.1 in
     let k : c.sixteen-key16.result ≡ K ++ zeros (16 - length K) =
     c.sixteen-key16.ensures ∙ sixteen_is K (omega (arith, key, (row_sizes a.set).key)) in
     let n : c.sixteen.result ≡ N ++ zeros (16 - length N) =
@@ -43,10 +43,10 @@ returns c =
     ∙ before_is row fits K N key nonce kb A ab in
     let text =
     c.crypt-after.ensures
-    ∙ ap (λ (w : List ℕ). crypted_of row a.way w 0 X a.out.now) before
-    ∙ crypted_is row fits K N key nonce kb a.way A X a.out.now pre.text_in_bounds in
+    ∙ ap (λ (w : List ℕ). crypted_of row c.args.way w 0 X c.args.out.now) before
+    ∙ crypted_is row fits K N key nonce kb c.args.way A X c.args.out.now pre.text_in_bounds in
     let tag =
     c.finish.ensures.value
     ∙ ap₂ (λ (w x : List ℕ). finished row w (length X) x) (ap (λ (z : Crypted). z.words) text) k
-    ∙ ap (λ (t : List ℕ). t ++ zeros (16 - row.key)) (tagged_is row fits K N key nonce kb a.way A X xb) in
+    ∙ ap (λ (t : List ℕ). t ++ zeros (16 - row.key)) (tagged_is row fits K N key nonce kb c.args.way A X xb) in
     record { value = tag; out_after = ap (λ (z : Crypted). z.out) text }
