@@ -6,6 +6,7 @@ ghost use Rattle.judge.specs.Difference.{first_difference, differ, difference_of
 use record::Field;
 
 // The place at which two texts differ first; where they are the same, their length.
+// No Option: `difference_tail` begins there either way, with an empty part where they are the same.
 fn first_place(wanted: &[u8], found: &[u8]) -> usize
     ensures { result ≡ (first_difference wanted.now found.now).place }
 {
