@@ -162,6 +162,7 @@ impl Record {
 }
 
 // The name of a part, with which its line begins; that of the form is its whole line.
+#[tactic(auto, unfolding(crate::specs::Text::name, crate::specs::Text::names))]
 pub(crate) fn name_of(part: usize) -> Name
     ensures { result ≡ named (name part) }
 {

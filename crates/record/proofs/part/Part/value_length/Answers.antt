@@ -8,7 +8,7 @@ use Rattle.digits.proofs.Spelling.{length_hex}
 use Rattle.digits.proofs.Numerals.{length_numeral}
 use Rattle.record.specs.Form.{held, is_field, number_at, field_at}
 use Rattle.record.specs.Text.{value_text}
-use Rattle.record.proofs.Fields.{field_most, held_most}
+use Rattle.record.proofs.Fields.{field_most}
 use Rattle.record.proofs.Rules.{bytes_field}
 use Rattle.record.proofs.part.Part.value_length.Goals as goal
 use Rattle.record.proofs.part.Part.value_length.Goals.{After-field_at}
@@ -21,9 +21,6 @@ in-form c =
 
 pub held-requires : goal.held-requires
 held-requires c = field_most _ (in-form (goal.at.held-requires c).After-field_at)
-
-pub overflow_mul-result : goal.overflow_mul-result
-overflow_mul-result c = record { fits = omega (arith, ap length c.held.ensures, held_most _ (in-form (goal.at.overflow_mul-result c).After-field_at)) }
 
 pub returns-in-Fixed : goal.returns-in-Fixed
 unfolding value_text
