@@ -31,7 +31,7 @@ enum Change {
     Last,
 }
 
-// Writes a name and a number.
+// Writes a name and a number. Kept on `io`, since the program rests on `read` and `write` alone (docs/ANSWERS.md): std's `print!` would trust more of the C library.
 fn say(name: &[u8], n: u64) {
     io::write_all(STDOUT_FILENO, name);
     io::print_decimal(STDOUT_FILENO, n);
