@@ -1,7 +1,7 @@
 -- Lines of a form one after another: their text, and the first that breaks its rule.
 use mathlib.Core.Path.{◌≡◌, refl}
 use mathlib.Core.Bool.{Bool, true, false, cond}
-use mathlib.Core.List.{List, []}
+use mathlib.Core.List.{List}
 use Prim.Native.Nat.{ℕ, zero, suc, ◌+◌, ◌-◌, ◌≤◌, ◌<◌}
 use native.Mathlib.Omega.{arith}
 use lib.Dec.{ltb}
@@ -29,10 +29,6 @@ module _ (form : Form) where
   pub text_all : (r : Record) → text_left 1 r ≡ text_of form r
   unfolding text_of
   text_all r = let all : lines_in form + 1 - 1 ≡ lines_in form = omega arith in rw all
-
-  -- and behind the last there is none
-  pub text_none : (r : Record) (line : ℕ) → lines_in form ≤ line → text_left (line + 1) r ≡ []
-  text_none r line h = let none : lines_in form + 1 - (line + 1) ≡ 0 = omega arith in rw none
 
   -- k lines, from a line on, keep their rules
   abbrev pub Sound : ℕ → ℕ → Record → Type 0

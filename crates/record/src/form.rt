@@ -191,6 +191,7 @@ pub(crate) fn value_of(part: usize, set: u64) -> Value
         3 => Value::Number(0, 65535),
         10 => Value::Number(0, 9999999),
         4 | 5 | 9 => {
+            // A cast, since a length always fits: `try_from` would make a refusal that never comes.
             let key = sets::key_length(set) as u16;
             Value::Bytes(key, key, Case::Lower)
         }
