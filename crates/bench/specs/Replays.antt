@@ -141,11 +141,16 @@ so_far r buffer = record { left = take r.left buffer; entries = r.entries; strea
 abbrev pub shown : Replaying → List ℕ → Going
 shown r buffer = going (so_far r buffer) r.fault
 
+-- the buffer has room for more than the most bytes of an entry; where the replay goes on, what is left is shorter than that; the entries can be counted
+pub record Ready (r : Replaying) (buffer : List ℕ) : Type 0 where
+  pub wide : most_bytes < length buffer
+  pub room : is_running r ≡ true → r.left < most_bytes
+  pub number : r.entries < largest
+
 -- so many bytes behind what is left were replayed
 pub record HeardBytes (r : Replaying) (before : List ℕ) (count : ℕ) (s : Replaying) (after : List ℕ) : Type 0 where
   pub is : shown s after ≡ heard_by (so_far r before) (run.Came (take count (drop r.left before)))
-  pub room : is_running s ≡ true → s.left < most_bytes
-  pub number : s.entries < largest
+  pub ready : Ready s after
 
 -- what the answer to a read says, of a buffer that it came into behind what is left
 abbrev pub reply_of : ℕ → List ℕ → Heard → Reply
@@ -156,22 +161,18 @@ reply_of left buffer (Err Failed) = run.Failed
 -- this answer
 pub record HeardAs (r : Replaying) (before : List ℕ) (heard : Heard) (s : Replaying) (after : List ℕ) : Type 0 where
   pub is : shown s after ≡ heard_by (so_far r before) (reply_of r.left before heard)
-  pub room : is_running s ≡ true → s.left < most_bytes
-  pub number : s.entries < largest
+  pub ready : Ready s after
 
 -- some answer
-pub record HeardOne (r : Replaying) (before : List ℕ) (s : Replaying) (after : List ℕ) : Type 0 where
+pub record HeardOne (g h : Going) : Type 0 where
   pub reply : Reply
-  pub is : shown s after ≡ heard_by (so_far r before) reply
-  pub room : is_running s ≡ true → s.left < most_bytes
-  pub number : s.entries < largest
+  pub is : h ≡ further g reply
 
 -- some answers, one after another from the beginning on, led to this; the replay goes on until it is over, or until the turns are used up
-pub record ReplayedAll (s : Replaying) (after : List ℕ) : Type 0 where
+pub record ReplayedAll (g : Going) : Type 0 where
   pub replies : List Reply
-  pub is : shown s after ≡ replayed_on begun replies
-  pub number : s.entries < largest
-  pub over : (is_running s ≡ false) ⊎ (length replies ≡ largest)
+  pub is : g ≡ replayed_on begun replies
+  pub over : (goes_on g ≡ false) ⊎ (length replies ≡ largest)
 
 -- ---- what is promised of it
 

@@ -82,12 +82,10 @@ fn main(rt: HostRuntime) {
     let mut system = System::new(rt.stdin(), rt.stdout(), rt.stderr());
     let mut word = [0; 16];
     let mut set = [0; 32];
-    let word_size = system::read_word(&rt, 1, &mut word);
-    let set_size = system::read_word(&rt, 2, &mut set);
     match task_of(
         system::count_words(&rt),
-        &word[..word_size],
-        &set[..set_size],
+        system::read_word(&rt, 1, &mut word),
+        system::read_word(&rt, 2, &mut set),
     ) {
         Some(Task::Judge) => judging::judge(&mut system),
         Some(Task::Move(route)) => moves::carry(&mut system, route),

@@ -1,16 +1,16 @@
 // Replaying the log on standard input, window by window, and saying how that ended.
 ghost use Rattle.std.specs.Prelude.{◌≡◌, true, ◌++◌, ◌+◌, ◌≤◌, ◌<◌, length};
-ghost use Rattle.chip_log.specs.Laws.{most_bytes};
 ghost use Rattle.replay.specs.Replays.{told};
 ghost use Rattle.turns.specs.Tallies.{largest};
 ghost use Rattle.bench.specs.Progress.{moved_by};
-ghost use Rattle.bench.specs.Replays.{is_running, with_fault, stretched, HeardBytes, HeardAs, HeardOne, ReplayedAll, verdict_words, report_words, end_line, last_words};
+ghost use Rattle.bench.specs.Replays.{begun, goes_on, is_running, Ready, HeardBytes, HeardAs, HeardOne, ReplayedAll, verdict_words, report_words, end_line, last_words};
 
 use crate::progress::Unmoved;
 use crate::system::System;
 use crate::words::Words;
 use crate::{system, tally, whole};
 use replay::{Stretch, Verdict};
+use std::marker::Model;
 use stream::Stream;
 
 // What keeps a replay from its verdict: a read failed; there are more entries than a number of 64 bits can count.
@@ -31,29 +31,22 @@ pub struct Replaying {
     pub fault: Option<Fault>,
 }
 
-// Whether a replay goes on: nothing keeps it from its verdict, and that is still open.
-fn goes_on(state: Replaying) -> bool
-    ensures { result ≡ is_running state }
+// Replays what is left and so many bytes behind it, where no byte is the end of the log, and moves what is left then to the front of the buffer.
+fn replay_bytes(buffer: &mut [u8], state: Replaying, count: usize) -> Replaying
+    requires ready { Ready state buffer.old }
+    requires running { is_running state ≡ true }
+    requires count_in_bounds { state.left + count ≤ length buffer.old }
+    ensures { HeardBytes state buffer.old count result buffer.new }
 {
-    state.fault.is_none() && matches!(state.verdict, Verdict::Open)
-}
-
-// A replay that something keeps from its verdict.
-fn at_fault(state: Replaying, fault: Fault) -> Replaying
-    ensures { result ≡ with_fault state fault }
-{
-    Replaying {
-        fault: Some(fault),
-        ..state
+    let filled = state.left + count;
+    let stretch = replay::replay_window(&buffer[..filled], count == 0, state.stream);
+    if u64::MAX - state.entries <= stretch.entries as u64 {
+        return Replaying {
+            fault: Some(Fault::TooMany),
+            ..state
+        };
     }
-}
-
-// The replay behind a stretch of the buffer's first `filled` bytes.
-fn behind(state: Replaying, filled: usize, stretch: Stretch) -> Replaying
-    requires taken_le_filled { stretch.taken ≤ filled }
-    requires entries_bound { state.entries + stretch.entries < largest }
-    ensures { result ≡ stretched state filled stretch }
-{
+    crate::move_to_front(buffer, stretch.taken, filled);
     Replaying {
         left: filled - stretch.taken,
         entries: state.entries + stretch.entries as u64,
@@ -63,72 +56,90 @@ fn behind(state: Replaying, filled: usize, stretch: Stretch) -> Replaying
     }
 }
 
-// Replays what is left and so many bytes behind it, where no byte is the end of the log, and moves what is left then to the front of the buffer.
-fn replay_bytes(buffer: &mut [u8], state: Replaying, count: usize) -> Replaying
-    requires count_in_bounds { state.left + count ≤ length buffer.old }
-    requires state_value { is_running state ≡ true }
-    requires entries_lt_largest { state.entries < largest }
-    ensures { HeardBytes state buffer.old count result buffer.new }
-{
-    let filled = state.left + count;
-    let stretch = replay::replay_window(&buffer[..filled], count == 0, state.stream);
-    if u64::MAX - state.entries <= stretch.entries as u64 {
-        return at_fault(state, Fault::TooMany);
-    }
-    crate::move_to_front(buffer, stretch.taken, filled);
-    behind(state, filled, stretch)
-}
-
 // What the answer to a read behind what is left makes of the replay: bytes are replayed, and none is the end of the log; a signal changes nothing; a failure is no end.
 pub(crate) fn after_read(
     buffer: &mut [u8],
     state: Replaying,
     heard: Result<usize, Unmoved>,
 ) -> Replaying
+    requires ready { Ready state buffer.old }
+    requires running { is_running state ≡ true }
     requires heard_in_bounds { state.left + moved_by heard ≤ length buffer.old }
-    requires left_lt_most_bytes { state.left < most_bytes }
-    requires state_value { is_running state ≡ true }
-    requires entries_lt_largest { state.entries < largest }
     ensures { HeardAs state buffer.old heard result buffer.new }
 {
     match heard {
         Ok(count) => replay_bytes(buffer, state, count),
         Err(Unmoved::Again) => state,
-        Err(Unmoved::Failed) => at_fault(state, Fault::Reading),
+        Err(Unmoved::Failed) => Replaying {
+            fault: Some(Fault::Reading),
+            ..state
+        },
     }
 }
 
-// One read behind what is left, and the replay of what it brought.
-fn replay_more(system: &mut System, buffer: &mut [u8], state: Replaying) -> Replaying
-    requires most_bytes_in_bounds { most_bytes < length buffer.old }
-    requires left_lt_most_bytes { state.left < most_bytes }
-    requires state_value { is_running state ≡ true }
-    requires entries_lt_largest { state.entries < largest }
-    ensures { HeardOne state buffer.old result buffer.new }
-{
-    let heard = system.read(&mut buffer[state.left..]);
-    after_read(buffer, state, heard)
+// The log's bytes in a buffer, and how far their replay is. Its clauses see the replay so far.
+#[derive(Drop)]
+struct LogReplay {
+    buffer: [u8; 65536],
+    state: Replaying,
 }
 
-// Replays the log on standard input, read by read, until a verdict is told. Its turns are counted down from a number that no run uses up.
-fn replay_all(system: &mut System, buffer: &mut [u8]) -> Replaying
-    requires { most_bytes < length buffer.old }
-    ensures { ReplayedAll result buffer.new }
-{
-    let mut state = Replaying {
-        left: 0,
-        entries: 0,
-        stream: Stream::ended(),
-        verdict: Verdict::Open,
-        fault: None,
-    };
-    for _ in 0..u64::MAX {
-        if !goes_on(state) {
-            return state;
+impl Model for LogReplay {
+    ghost use Rattle.bench.specs.Replays.{Going, shown, Ready};
+
+    ghost Value = { Going };
+
+    ghost view = { λ r. shown r.state r.buffer };
+
+    ghost invariant = { λ r. Ready r.state r.buffer };
+}
+
+impl LogReplay {
+    // Nothing is read.
+    fn new() -> LogReplay
+        ensures { result ≡ begun }
+    {
+        LogReplay {
+            buffer: io::large_buffer(),
+            state: Replaying {
+                left: 0,
+                entries: 0,
+                stream: Stream::ended(),
+                verdict: Verdict::Open,
+                fault: None,
+            },
         }
-        state = replay_more(system, buffer, state);
     }
-    state
+
+    // Whether it goes on: nothing keeps it from its verdict, and that is still open.
+    fn goes_on(&self) -> bool
+        ensures { result ≡ goes_on self.now }
+    {
+        self.state.fault.is_none() && self.state.verdict == Verdict::Open
+    }
+
+    // One read behind what is left, and the replay of what it brought.
+    fn replay_more(&mut self, system: &mut System)
+        requires { goes_on self.old ≡ true }
+        ensures { HeardOne self.old self.new }
+    {
+        let heard = system.read(&mut self.buffer[self.state.left..]);
+        self.state = after_read(&mut self.buffer, self.state, heard);
+    }
+}
+
+// Replays the log on standard input, read by read, until a verdict is told, in as many turns as no run uses up.
+fn replay_all(system: &mut System) -> LogReplay
+    ensures { ReplayedAll result }
+{
+    let mut replay = LogReplay::new();
+    for _ in 0..u64::MAX {
+        if !replay.goes_on() {
+            return replay;
+        }
+        replay.replay_more(system);
+    }
+    replay
 }
 
 // The number of the entry that decides, where so many agreed before; where all agree, how many there are.
@@ -195,8 +206,7 @@ fn last_words(entry: u64, verdict: Verdict) -> Words<256>
 
 // Replays the log on standard input, and says how that ended.
 pub(crate) fn replay(system: &mut System) {
-    let mut space = io::large_buffer();
-    let state = replay_all(system, &mut space);
+    let state = replay_all(system).state;
     match (state.fault, state.verdict) {
         (Some(Fault::Reading), _) => system.fail(b"bench: reading failed"),
         (Some(Fault::TooMany), _) => system::complain(b"bench: too many entries\n"),

@@ -99,12 +99,8 @@ pub(crate) fn count_words(env: &impl Env) -> usize {
     4
 }
 
-// Puts one of the words at the beginning of a place, and gives its size. One that is missing, or too long for the place, has none.
-pub(crate) fn read_word(env: &impl Env, i: usize, place: &mut [u8]) -> usize
-    ensures { result ≤ length place.new }
-{
-    match env.arg(i, place) {
-        Ok(size) => size,
-        Err(_) => 0,
-    }
+// One of the words, put into a place. One that is missing, or too long for the place, is empty.
+pub(crate) fn read_word<'a>(env: &impl Env, i: usize, place: &'a mut [u8]) -> &'a [u8] {
+    let size = env.arg(i, place).unwrap_or(0);
+    &place[..size]
 }

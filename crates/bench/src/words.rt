@@ -74,13 +74,9 @@ impl<const N: usize> Words<N> {
 // What has no room is left out.
 impl<const N: usize> fmt::Write for Words<N> {
     fn write_str(&mut self, s: &str) -> fmt::Result {
-        for byte in s.as_bytes() {
-            if self.size == N {
-                return Ok(());
-            }
-            self.place[self.size] = *byte;
-            self.size += 1;
-        }
+        let bytes = s.as_bytes();
+        let room = N - self.size;
+        self.text(&bytes[..bytes.len().min(room)]);
         Ok(())
     }
 }
