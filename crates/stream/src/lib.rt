@@ -51,7 +51,7 @@ pub struct Outcome {
     pub next: Stream,
 }
 
-// The rank of a direction: 0, 1 or 2.
+// The rank of a direction: 0, 1 or 2, the byte that C keeps (`stream_rank` of `every_call`).
 pub fn rank(direction: Direction) -> u64
     ensures { result ≡ rank_of direction }
 {
