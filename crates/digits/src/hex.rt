@@ -137,6 +137,7 @@ fn spelled(case: Case, value: u8) -> u8
 }
 
 // Puts bytes at the beginning of a place, two digits each, and gives how many digits; a place too short for them stays as it is, and the number is 0.
+// No Option, as at `put_text`.
 #[tactic(auto, using(crate::proofs::Room::put_short, crate::proofs::Spelling::length_hex))]
 pub fn put_bytes(case: Case, bytes: &[u8], out: &mut [u8]) -> usize
     ensures { laid result out.new ≡ put (hex_in case bytes.now) out.old }

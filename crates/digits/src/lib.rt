@@ -24,6 +24,7 @@ pub fn put_text(text: &[u8], out: &mut [u8]) -> usize
 }
 
 // Puts a line, a name, a value and a line feed, at the beginning of a place, and gives its length; a place too short for it stays as it is, and the length is 0.
+// No Option, as at `put_text`.
 #[tactic(auto, using(crate::proofs::Room::put_short, crate::proofs::Room::length_line))]
 pub fn put_line(name: &[u8], value: &[u8], out: &mut [u8]) -> usize
     ensures { laid result out.new ≡ put (line_of name.now value.now) out.old }

@@ -15,6 +15,7 @@ pub fn number_length(n: u64) -> usize
 }
 
 // Puts the numeral of a number at the beginning of a place, and gives its length; a place too short for it stays as it is, and the length is 0.
+// No Option, as at `put_text`.
 #[tactic(auto, using(crate::proofs::Room::put_short, crate::proofs::Room::put_is, crate::proofs::Numerals::length_numeral), unfolding(crate::specs::Numbers::numeral))]
 pub fn put_number(n: u64, out: &mut [u8]) -> usize
     ensures { laid result out.new ≡ put (numeral n) out.old }

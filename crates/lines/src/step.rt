@@ -7,6 +7,7 @@ use digits::Case;
 
 // Where a walk stands in a line: how many characters of the name were passed; how many digits of bytes, or, of a number, 1 if any was; the number that they say; and
 // whether the line feed was passed.
+// No Option for `ended`, and `digits` is a count or a flag: the definitions `standing` and `counted` (specs/Steps.antt) and `Wrong.advance_behind` have a state so.
 #[derive(Clone, Copy)]
 pub struct State {
     pub place: usize,

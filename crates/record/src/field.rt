@@ -44,6 +44,7 @@ impl Field {
 }
 
 // The field of digits, two a byte; the empty one where they are no bytes, or more than 256.
+// No Option: row `record_read_field` of `every_call` and the definition `fitted` have the empty field there.
 pub fn read_field(case: Case, text: &[u8]) -> Field
     ensures { result ≡ fitted (from_hex_in case text.now) }
 {

@@ -71,6 +71,7 @@ pub fn is_set(set: u64) -> bool
 }
 
 // Where a set's row stands; an unknown set has the first.
+// No Option: the definition `row_of` (ascon/specs/Sets.antt) gives an unknown set this row too.
 #[tactic(auto, using(crate::proofs::Rows::known_set, crate::proofs::Rows::unknown_set), unfolding(ascon::specs::Sets::table, ascon::specs::Sets::row_of))]
 fn index_of(set: u64) -> usize
     ensures ascon128_value { get_or table result ascon128 ≡ row_of set }
@@ -142,7 +143,8 @@ pub fn message_rounds(set: u64, ad: u32, text: u32) -> u64
     24 + rounds_between(set) * blocks
 }
 
-// The first tests of a start: set, key length, nonce length. An Answer and no Result, as `sets_start_test` of `every_call` has it.
+// The first tests of a start: set, key length, nonce length.
+// An Answer and no Result: row `sets_start_test` of `every_call` has it so, and `Answer::Done` is its number 0.
 #[tactic(auto, unfolding(crate::specs::Start::start_test))]
 pub fn start_test(set: u64, key: usize, nonce: usize) -> Answer
     ensures { result ≡ start_test set key nonce }
