@@ -132,6 +132,7 @@ impl Judging {
     }
 
     // One turn: a call to the operating system, and what follows from its answer.
+    #[tactic(auto, unfolding(turns::specs::Run::turned))]
     fn turn(&mut self, system: &mut System)
         ensures { Turned self.old self.new }
     {

@@ -49,6 +49,7 @@ impl From<UnmovedAll> for NotCarried {
 }
 
 // What is said of records that were moved.
+#[tactic(auto, unfolding(crate::specs::Moves::moved_words))]
 fn moved_words(moved: MovedAll) -> Words<256>
     ensures { result ≡ moved_words (moving_all_of (Ok moved)) }
 {

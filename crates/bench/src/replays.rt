@@ -172,6 +172,7 @@ fn put_verdict(words: &mut Words<256>, verdict: Verdict)
 }
 
 // The three lines of a report.
+#[tactic(auto, unfolding(crate::specs::Replays::report_words))]
 fn report_words(entry: u64, verdict: Verdict) -> Words<256>
     ensures { result ≡ report_words entry verdict }
 {
@@ -182,6 +183,7 @@ fn report_words(entry: u64, verdict: Verdict) -> Words<256>
 }
 
 // Puts the last line behind words.
+#[tactic(auto, unfolding(crate::specs::Replays::end_line))]
 fn put_end(words: &mut Words<256>, entry: u64)
     requires { length words.old ≤ 128 }
     ensures { words.new ≡ words.old ++ end_line entry }

@@ -32,6 +32,7 @@ pub(crate) fn counted(mut tally: Tally, verdict: Verdict) -> Tally
 }
 
 // Puts the line that ends a run behind words.
+#[tactic(auto, unfolding(turns::specs::Tallies::end_line))]
 fn put_end(words: &mut Words<256>, tally: Tally)
     requires tally_bound { records_of tally ≤ largest }
     requires room { length words.old ≤ 128 }
@@ -45,6 +46,7 @@ fn put_end(words: &mut Words<256>, tally: Tally)
 }
 
 // The line that says where a record or an entry broke, by this word for it.
+#[tactic(auto, unfolding(turns::specs::Tallies::fault_line))]
 pub(crate) fn fault_line(word: &[u8], number: u64, line: usize, column: usize) -> Words<256>
     requires { length word.now ≤ 32 }
     ensures words { result ≡ fault_line word.now number line column }
@@ -59,6 +61,7 @@ pub(crate) fn fault_line(word: &[u8], number: u64, line: usize, column: usize) -
 }
 
 // The last words of a run.
+#[tactic(auto, unfolding(turns::specs::Tallies::last_words))]
 pub(crate) fn last_words(tally: Tally) -> Words<256>
     requires { records_of tally ≤ largest }
     ensures { result ≡ last_words tally }

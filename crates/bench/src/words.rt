@@ -61,6 +61,7 @@ impl<const N: usize> Words<N> {
     }
 
     // Puts a text and a number behind them.
+    #[tactic(auto, unfolding(turns::specs::Tallies::numbered))]
     pub(crate) fn numbered(&mut self, text: &[u8], number: u64)
         requires { length self.old + length text.now + 20 ≤ N }
         ensures words { self.new ≡ self.old ++ numbered text.now number }

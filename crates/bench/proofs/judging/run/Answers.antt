@@ -7,11 +7,6 @@ use Rattle.turns.specs.Run.{Standing, is_over}
 use Rattle.turns.proofs.Turns.{ran_more}
 use Rattle.bench.proofs.judging.run.Goals as goal
 
-pub returns-in-Over : goal.returns-in-Over
-returns-in-Over c =
-    let inv = c.loop.invariant in
-    record { replies = inv.replies; is = inv.is; over = inl (ap (λ (s : Standing). is_over s.stage) (sym c.judging.view_is) ∙ ap is_over c.in-Over.is) }
-
 pub loop-preserved : goal.loop-preserved
 loop-preserved c =
     let inv = c.loop.invariant in

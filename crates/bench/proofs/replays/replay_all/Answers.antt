@@ -7,10 +7,6 @@ use Rattle.bench.specs.Replays.{Going, begun, further}
 use Rattle.bench.proofs.Replayed.{replayed_more}
 use Rattle.bench.proofs.replays.replay_all.Goals as goal
 
-pub returns-then-not-goes_on : goal.returns-then-not-goes_on
-returns-then-not-goes_on c =
-    let g = c.loop.invariant in record { replies = g.replies; is = g.is; over = inl (sym c.goes_on.ensures ∙ c.if-not-goes_on.true) }
-
 pub loop-preserved : goal.loop-preserved
 loop-preserved c =
     let g = c.loop.invariant in
