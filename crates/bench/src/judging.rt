@@ -108,6 +108,7 @@ impl Judging {
             self.p.stage = Stage::Over(Ending::TooMany);
             return;
         }
+        // A copy is written to: no proof is made for a field that is lent to be written beside one that is lent to be read.
         let mut text = self.text;
         let window = &self.buffer[self.p.start..self.p.filled];
         let step = judge::judge_window(window, self.p.ended, number, &mut text);

@@ -38,9 +38,11 @@ pub enum Task {
 }
 
 // The task that one word names, if it names one.
+#[tactic(auto, using(crate::proofs::Same::same_as))]
 fn word_task(word: &[u8]) -> Option<Task>
     ensures { result ≡ word_task word.now }
 {
+    // No match: in the arm of a byte string a proof knows the word's length alone.
     if word == b"forward".as_slice() {
         Some(Task::Move(Route::Forward))
     } else if word == b"back".as_slice() {
@@ -55,6 +57,7 @@ fn word_task(word: &[u8]) -> Option<Task>
 }
 
 // The task that a word and a set behind it name, if they name one.
+#[tactic(auto, using(crate::proofs::Same::same_as))]
 fn set_task(word: &[u8], set: &[u8]) -> Option<Task>
     ensures { result ≡ set_task word.now set.now }
 {

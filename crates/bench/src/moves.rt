@@ -19,6 +19,7 @@ const HELD: usize = 1048577;
 const ROOM: usize = 2097154;
 
 // A place of so many bytes.
+#[tactic(auto, using(crate::proofs::Rooms::places_repeated))]
 fn place<const N: usize>() -> [u8; N]
     ensures { Places N result }
 {
@@ -60,6 +61,7 @@ fn moved_words(moved: MovedAll) -> Words<256>
 }
 
 // Puts the number of the record that is refused, if it is for a single one, and the line and column at which that is wrong, if it is, behind words.
+#[tactic(auto, unfolding(moving::specs::Moves::refused_all, crate::specs::Moves::record_words, crate::specs::Moves::place_words))]
 fn put_place(words: &mut Words<256>, refused: UnmovedAll)
     requires numbered { Numbered (Err refused) }
     requires room { length words.old ≤ 64 }

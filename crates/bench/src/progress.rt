@@ -10,7 +10,7 @@ use judge::Step;
 use report::Verdict;
 use turns::{Ending, Stage, Tally};
 
-// The number of the error by which a call says that a signal came before it moved any byte.
+// The number of the error by which a call says that a signal came before it moved any byte. A number, since `RuledOut.signal` (specs/Wrong.antt) tells errors by it.
 const EINTR: i32 = 4;
 
 // Why a read or a write moved no byte: a signal came before it moved any, or it failed.

@@ -9,7 +9,7 @@ use std::env::{Env, FillError};
 use std::fmt;
 use std::io::{Error, Read, Stderr, Stdin, Stdout, Write};
 
-// The number of standard error.
+// The number of standard error, by which `io::write_all` takes it.
 const STDERR_FILENO: i32 = 2;
 
 // Where a text is written: to standard output, or to standard error.
@@ -20,6 +20,7 @@ pub enum Sink {
 }
 
 // The three streams, and the number of the last error that a call on one of them gave, which is 0 before the first.
+// No Option: std words a number, and before the first error it words that 0.
 #[derive(Drop)]
 pub(crate) struct System {
     input: Stdin,

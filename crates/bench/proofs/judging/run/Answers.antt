@@ -1,9 +1,6 @@
-use mathlib.Core.Path.{sym, ap, ◌∙◌}
 use mathlib.Core.List.{[], ◌∷◌, ◌++◌}
-use mathlib.Core.Logic.{inl}
 use native.Mathlib.Omega.{arith}
 use lib.ListN.{length-append}
-use Rattle.turns.specs.Run.{Standing, is_over}
 use Rattle.turns.proofs.Turns.{ran_more}
 use Rattle.bench.proofs.judging.run.Goals as goal
 
