@@ -1,14 +1,14 @@
 // A stretch of a log, entry by entry.
-ghost use Rattle.std.specs.Prelude.{◌≡◌, drop};
-ghost use Rattle.chip_log.specs.Calls.{reading_of, refused_at, read_entry};
+ghost use Rattle.std.specs.Prelude.{◌≡◌};
+ghost use Rattle.chip_log.specs.Calls.{refused_at};
 ghost use Rattle.chip_log.specs.Laws.{InForm};
 ghost use Rattle.replay.specs.Feeding.{as_given};
 ghost use Rattle.replay.specs.Replays.{is_agreed, compared, ComparedAs, step_on, SteppedAs, unread_of, at_end, step_of, stretch_of};
 
-use crate::feeding;
 use crate::feeding::Given;
+use crate::{cursor, feeding};
 use chip_log::Entry;
-use record::{Read, Unread};
+use record::Unread;
 use stream::Stream;
 
 // What is told of an entry, or of a log. Its six cases stay one enum: `IsWrong` and `FirstWrong` (specs/Laws.antt) go by them.
@@ -52,20 +52,6 @@ pub struct Stretch {
 pub struct Agreed {
     pub taken: usize,
     pub next: Stream,
-}
-
-// What stands in a log from a place on; nothing, where the place lies past its end.
-fn left(bytes: &[u8], place: usize) -> &[u8]
-    ensures { result.now ≡ drop place bytes.now }
-{
-    bytes.get(place..).unwrap_or(b"")
-}
-
-// Reads the entry at a place of a log.
-pub(crate) fn entry_at(bytes: &[u8], place: usize) -> Result<Read<Entry>, Unread>
-    ensures { reading_of result ≡ read_entry (drop place bytes.now) }
-{
-    chip_log::read(left(bytes, place))
 }
 
 // Whether an entry agrees with what our stream gives, or else the verdict.
@@ -114,12 +100,12 @@ fn unread(wrong: Unread, ended: bool) -> Verdict
     }
 }
 
-// The entry at a place of a log, from a stream's state: how far one that agrees goes, or else the verdict.
+// The entry at the beginning of a log, from a stream's state: how far one that agrees goes, or else the verdict.
 #[tactic(auto, unfolding(crate::specs::Replays::step_by, chip_log::specs::Calls::read_as, chip_log::specs::Calls::refused_at))]
-fn step_at(bytes: &[u8], place: usize, ended: bool, stream: Stream) -> Result<Agreed, Verdict>
-    ensures { SteppedAs result (step_of ended stream (drop place bytes.now)) }
+fn step_at(log: &[u8], ended: bool, stream: Stream) -> Result<Agreed, Verdict>
+    ensures { SteppedAs result (step_of ended stream log.now) }
 {
-    match entry_at(bytes, place) {
+    match chip_log::read(log) {
         Ok(read) => step_on(stream, read.content, read.taken),
         Err(wrong) => Err(unread(wrong, ended)),
     }
@@ -136,11 +122,10 @@ fn at_end(ended: bool) -> Verdict
     }
 }
 
-// Replays a log from a place on, from a stream's state.
-pub(crate) fn stretch_at(bytes: &[u8], place: usize, ended: bool, stream: Stream) -> Stretch
-    ensures { result ≡ stretch_of ended stream (drop place bytes.now) }
+// Replays a window of a log from a stream's state on, entry after entry. `ended` says that nothing of the log stands behind the window.
+pub fn replay_window(window: &[u8], ended: bool, stream: Stream) -> Stretch
+    ensures { result ≡ stretch_of ended stream window.now }
 {
-    let log = left(bytes, place);
     let mut stretch = Stretch {
         entries: 0,
         taken: 0,
@@ -148,8 +133,8 @@ pub(crate) fn stretch_at(bytes: &[u8], place: usize, ended: bool, stream: Stream
         verdict: at_end(ended),
     };
     // No `for`: how far a turn goes only the entry that it reads can tell.
-    while stretch.taken < log.len() {
-        match step_at(log, stretch.taken, ended, stretch.stream) {
+    while stretch.taken < window.len() {
+        match step_at(cursor::left(window, stretch.taken), ended, stretch.stream) {
             Ok(agreed) => {
                 stretch.entries += 1;
                 stretch.taken += agreed.taken;
