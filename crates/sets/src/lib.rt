@@ -144,7 +144,8 @@ pub fn message_rounds(set: u64, ad: u32, text: u32) -> u64
 }
 
 // The first tests of a start: set, key length, nonce length.
-// An Answer and no Result: row `sets_start_test` of `every_call` has it so, and `Answer::Done` is its number 0.
+// An Answer and no Result: row `sets_start_test` of `every_call` has it so, with `Done` where no test refuses. Each of its two callers makes a Result
+// of it in three lines; a function for both would be public, with a row and an edit of its own.
 #[tactic(auto, unfolding(crate::specs::Start::start_test))]
 pub fn start_test(set: u64, key: usize, nonce: usize) -> Answer
     ensures { result ≡ start_test set key nonce }

@@ -51,7 +51,7 @@ pub struct Outcome {
     pub next: Stream,
 }
 
-// The rank of a direction: 0, 1 or 2, the byte that C keeps (`stream_rank` of `every_call`).
+// The rank of a direction, a number as row `stream_rank` of `every_call` has it: 0, 1 or 2.
 pub fn rank(direction: Direction) -> u64
     ensures { result ≡ rank_of direction }
 {
