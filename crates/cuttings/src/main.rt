@@ -14,9 +14,6 @@ const CUTTINGS: usize = 216;
 // The largest limit of a stream's text.
 const LIMIT: u64 = 1048576;
 
-// How many calls follow a start.
-const CALLS: u64 = 18;
-
 // The points of a message: before each byte of its data and of its text, and behind the last.
 const POINTS: usize = 91;
 
@@ -69,15 +66,17 @@ struct Setting<'a> {
     nonce: &'a [u8],
 }
 
-// What a stream gave out, its tag, the rounds reported so far, how many of its answers were the expected ones, and the stream.
+// What a stream gave out, its tag, the rounds reported so far, or None once an answer was not the expected one, and the stream.
 #[derive(Clone, Copy)]
 struct Walk {
     out: [u8; 53],
     tag: [u8; 16],
-    rounds: u64,
-    right: u64,
+    rounds: Option<u64>,
     stream: Stream,
 }
+
+// `say`, `say_line`, `next_of` and the choices by direction, STDOUT_FILENO, KEY and NONCE stand in limits, walks or rewriting too: a crate for them would have public
+// functions, each with a contract and a row of `every_call`, which printing can't have.
 
 // Writes a name and a number. Kept on `io`, which rests on `write` alone (docs/ANSWERS.md): std's `print!` would trust two more declarations of the C library.
 fn say(name: &[u8], n: u64) {
@@ -149,8 +148,7 @@ impl Setting<'_> {
         Walk {
             out: [0; 53],
             tag: [0; 16],
-            rounds: o.rounds,
-            right: 0,
+            rounds: Some(o.rounds),
             stream: o.next,
         }
     }
@@ -159,9 +157,12 @@ impl Setting<'_> {
 impl Walk {
     // The walk after a call that has to get an answer.
     fn after(self, o: Outcome, answer: Answer) -> Walk {
+        let rounds = match self.rounds {
+            Some(so_far) if o.answer == answer => Some(so_far.wrapping_add(o.rounds)),
+            _ => None,
+        };
         Walk {
-            rounds: self.rounds.wrapping_add(o.rounds),
-            right: self.right.wrapping_add(u64::from(o.answer == answer)),
+            rounds,
             stream: o.next,
             ..self
         }
@@ -260,15 +261,6 @@ impl Walk {
             .finish(direction, n, Answer::OutOfPhase)
     }
 
-    // The walk with no rounds where not so many answers were the expected ones.
-    fn held(self, calls: u64) -> Walk {
-        if self.right == calls {
-            self
-        } else {
-            Walk { rounds: 0, ..self }
-        }
-    }
-
     // A message under the k-th cutting.
     fn walked(
         self,
@@ -283,7 +275,6 @@ impl Walk {
             .with_ad(direction, &message.ad, k % 38)
             .with_text(direction, &message.text, k)
             .with_finish(direction, n, answer)
-            .held(CALLS)
     }
 
     // A message up to a point: its data and its text up to there, and the finish, from the data phase where there is no text.
@@ -299,12 +290,11 @@ impl Walk {
         let a = p.min(message.ad.len());
         let begun = Walk { tag, ..self }.ad(&message.ad[..a]);
         if p == a {
-            return begun.finish(direction, n, answer).held(2);
+            return begun.finish(direction, n, answer);
         }
         begun
             .piece(direction, &message.text, 0, p - a)
             .finish(direction, n, answer)
-            .held(3)
     }
 }
 
@@ -417,14 +407,14 @@ impl Sealed<'_> {
                 || part(&yes.out, 0, t) == part(&TEXT, 0, t))
     }
 
-    // Writes what the sealing gave.
+    // Writes what the sealing gave, with 0 rounds if an answer was not the expected one.
     fn say(self) {
         say_bytes(b"cipher=", &self.walk.out);
         say_bytes(b"tag=", part(&self.walk.tag, 0, self.tag_size()));
-        say_line(b"rounds=", self.walk.rounds);
+        say_line(b"rounds=", self.walk.rounds.unwrap_or(0));
     }
 
-    // The finish at a point: the rounds and the tag of a sealing, and no rounds where a checking or an opening does not agree.
+    // The finish at a point: the rounds and the tag of a sealing, and 0 rounds where an answer was not the expected one, or a checking or an opening does not agree.
     fn try_point(self, p: usize) {
         let n = self.tag_size();
         let start = self.setting.start(Direction::Sealing);
@@ -432,7 +422,7 @@ impl Sealed<'_> {
         let agree = self.agrees_at(Direction::Checking, w, p)
             && self.agrees_at(Direction::Opening, w, p);
         say(b"point=", p as u64);
-        say(b" rounds=", if agree { w.rounds } else { 0 });
+        say(b" rounds=", w.rounds.filter(|_| agree).unwrap_or(0));
         say_bytes(b" tag=", part(&w.tag, 0, n));
     }
 }

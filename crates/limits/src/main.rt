@@ -63,6 +63,9 @@ struct Called {
     lent: u64,
 }
 
+// `say`, `next_of`, `mixed` and the choices by direction, STDOUT_FILENO, KEY and NONCE stand in cuttings, walks or rewriting too: a crate for them would have public
+// functions, each with a contract and a row of `every_call`, which printing can't have.
+
 // Writes a name and a number. Kept on `io`, which rests on `write` alone (docs/ANSWERS.md): std's `print!` would trust two more declarations of the C library.
 fn say(name: &[u8], n: u64) {
     io::write_all(STDOUT_FILENO, name);
@@ -91,29 +94,19 @@ fn next_of(direction: Direction) -> Direction {
 
 // ---- all that something holds, mixed
 
-// A number mixed in: the mixture turned left by 7 bits, and combined with it.
-fn mixed(mixture: u64, n: u64) -> u64 {
-    mixture.rotate_left(7) ^ n
-}
-
-// Numbers mixed in, one after the other.
-fn mixed_numbers(mixture: u64, numbers: &[u64]) -> u64 {
-    numbers.iter().fold(mixture, |so_far, n| mixed(so_far, *n))
-}
-
-// Bytes mixed, one after the other.
-fn mixed_bytes(bytes: &[u8]) -> u64 {
-    bytes
+// Numbers or bytes mixed in, one after the other: the mixture turned left by 7 bits, and combined with each.
+fn mixed<T: Copy + Into<u64>>(before: u64, numbers: &[T]) -> u64 {
+    numbers
         .iter()
-        .fold(0, |so_far, byte| mixed(so_far, u64::from(*byte)))
+        .fold(before, |mixture, n| mixture.rotate_left(7) ^ (*n).into())
 }
 
 // All of a state, mixed.
 fn mixed_state(s: Stream) -> u64 {
-    mixed_numbers(
-        mixed_numbers(0, &s.words),
+    mixed(
+        mixed(0, &s.words),
         &[
-            mixed_bytes(&s.key),
+            mixed(0, &s.key),
             s.set,
             stream::rank(s.direction),
             s.phase as u64,
@@ -138,7 +131,7 @@ impl Called {
 
     // All that the call gave, mixed, but for its answer.
     fn mixed(self) -> u64 {
-        mixed_numbers(
+        mixed(
             mixed_state(self.outcome.next),
             &[self.lent, self.outcome.rounds],
         )
@@ -165,7 +158,7 @@ fn text<const ROOM: usize>(direction: Direction, stream: Stream, piece: &[u8]) -
         Direction::Checking => return Called::placeless(stream.check(piece)),
         Direction::Opening => stream.open(piece, &mut out),
     };
-    let lent = mixed_bytes(&out);
+    let lent = mixed(0, &out);
     Called { outcome, lent }
 }
 
@@ -195,7 +188,7 @@ fn finish(direction: Direction, stream: Stream, change: u8) -> Called {
         Direction::Sealing => {
             let mut tag = [90; 16];
             let outcome = stream.finish_sealing(&mut tag[..n]);
-            let lent = mixed_bytes(&tag[..n]);
+            let lent = mixed(0, &tag[..n]);
             Called { outcome, lent }
         }
         Direction::Checking => {
@@ -298,7 +291,7 @@ fn try_calls(direction: Direction, s: Stream, bytes: &[u8]) {
     let mut mixture = 0;
     for call in calls {
         io::print_decimal(STDOUT_FILENO, call.answer());
-        mixture = mixed(mixture, call.mixed());
+        mixture = mixed(mixture, &[call.mixed()]);
     }
     say_word(b",", mixture);
 }

@@ -18,6 +18,13 @@ const STDOUT_FILENO: i32 = 1;
 // How many places a record is written in: more than any record takes.
 const PLACES: usize = 1710;
 
+// A record, and the form that it is written in.
+#[derive(Clone, Copy)]
+struct Task {
+    form: Form,
+    entry: Record,
+}
+
 // How a part of a record is changed.
 #[derive(Clone, Copy)]
 enum Change {
@@ -30,6 +37,9 @@ enum Change {
     // The largest number, or a 1 in the last place of the bytes.
     Last,
 }
+
+// `say`, `say_line` and STDOUT_FILENO stand in cuttings, limits or walks too: a crate for them would have public functions, each with a contract and a row of
+// `every_call`, which printing can't have.
 
 // Writes a name and a number. Kept on `io`, since the program rests on `read` and `write` alone (docs/ANSWERS.md): std's `print!` would trust more of the C library.
 fn say(name: &[u8], n: u64) {
@@ -84,27 +94,6 @@ fn say_writing(writing: Result<usize, Unwritten>, before: &[u8], places: &[u8])
     io::write_all(STDOUT_FILENO, &places[..written]);
 }
 
-// Writes a record in a form, in the first places, so many.
-fn write_in(form: Form, entry: Record, places: &mut [u8], room: usize) -> Result<usize, Unwritten>
-    requires { room ≤ length places.old }
-    ensures { IsPrefixLen (writing_of result).written places.new }
-{
-    record::write(form, entry, &mut places[..room])
-}
-
-// Writes a record in a form in so many marked places, says what came of it, and gives how many bytes were written.
-fn attempt(form: Form, entry: Record, room: usize) -> usize
-    requires { room ≤ 1710 }
-    ensures { result ≤ 1710 }
-{
-    let before = marked();
-    let mut places = before;
-    let writing = write_in(form, entry, &mut places, room);
-    say_count(b": room=", room);
-    say_writing(writing, &before, &places);
-    writing.unwrap_or(0)
-}
-
 // A number changed.
 fn change_number(n: u64, over: u64, change: Change) -> u64 {
     match change {
@@ -142,45 +131,78 @@ fn change_part(mut entry: Record, part: usize, change: Change) -> Record {
     entry
 }
 
-// Writes a record with a part changed, each of the nine in turn.
-fn try_parts(name: &[u8], form: Form, entry: Record, change: Change) {
-    for part in 2..=10 {
-        say_count(name, part);
-        attempt(form, change_part(entry, part, change), PLACES);
+impl Task {
+    // Writes the record, in the first places, so many.
+    fn write_in(self, places: &mut [u8], room: usize) -> Result<usize, Unwritten>
+        requires { room ≤ length places.old }
+        ensures { IsPrefixLen (writing_of result).written places.new }
+    {
+        record::write(self.form, self.entry, &mut places[..room])
     }
-}
 
-// Writes a record with its last parts over their limits, the last alone first and all nine in the end, in no room.
-fn try_several(form: Form, mut entry: Record) {
-    for part in (2..=10).rev() {
-        entry = change_part(entry, part, Change::Over);
-        say_count(b"over from part ", part);
-        attempt(form, entry, 0);
+    // Writes the record in so many marked places, and says what came of it.
+    fn attempt(self, room: usize) -> Result<usize, Unwritten>
+        requires { room ≤ 1710 }
+        ensures { (writing_of result).written ≤ 1710 }
+    {
+        let before = marked();
+        let mut places = before;
+        let writing = self.write_in(&mut places, room);
+        say_count(b": room=", room);
+        say_writing(writing, &before, &places);
+        writing
     }
-}
 
-// Writes a record as it was read, in so many places, and gives how many bytes were written.
-fn try_room(form: Form, entry: Record, room: usize) -> usize
-    requires { room ≤ 1710 }
-    ensures { result ≤ 1710 }
-{
-    io::write_all(STDOUT_FILENO, b"as read");
-    attempt(form, entry, room)
-}
-
-// Writes a record in a form in every way: in rooms around its length, and with parts changed.
-fn rewrite(form: Form, entry: Record) {
-    let size = try_room(form, entry, PLACES);
-    try_room(form, entry, size);
-    if size != 0 {
-        try_room(form, entry, size - 1);
+    // Writes the record as it was read, in so many places.
+    fn try_room(self, room: usize) -> Result<usize, Unwritten>
+        requires { room ≤ 1710 }
+        ensures { (writing_of result).written ≤ 1710 }
+    {
+        io::write_all(STDOUT_FILENO, b"as read");
+        self.attempt(room)
     }
-    try_room(form, entry, 0);
-    try_parts(b"over in part ", form, entry, Change::Over);
-    try_parts(b"more in part ", form, entry, Change::More);
-    try_parts(b"less in part ", form, entry, Change::Less);
-    try_parts(b"last in part ", form, entry, Change::Last);
-    try_several(form, entry);
+
+    // Writes the record as it was read in rooms around its length: all places, as many as it takes and one fewer, none.
+    fn try_rooms(self) {
+        match self.try_room(PLACES) {
+            Ok(size) => {
+                let _ = self.try_room(size);
+                let _ = self.try_room(size.saturating_sub(1));
+            }
+            Err(_) => {
+                let _ = self.try_room(0);
+            }
+        }
+        let _ = self.try_room(0);
+    }
+
+    // Writes the record with a part changed, each of the nine in turn.
+    fn try_parts(self, name: &[u8], change: Change) {
+        for part in 2..=10 {
+            say_count(name, part);
+            let entry = change_part(self.entry, part, change);
+            let _ = Task { entry, ..self }.attempt(PLACES);
+        }
+    }
+
+    // Writes the record with its last parts over their limits, the last alone first and all nine in the end, in no room.
+    fn try_several(mut self) {
+        for part in (2..=10).rev() {
+            self.entry = change_part(self.entry, part, Change::Over);
+            say_count(b"over from part ", part);
+            let _ = self.attempt(0);
+        }
+    }
+
+    // Writes the record in every way: in rooms around its length, and with parts changed.
+    fn rewrite(self) {
+        self.try_rooms();
+        self.try_parts(b"over in part ", Change::Over);
+        self.try_parts(b"more in part ", Change::More);
+        self.try_parts(b"less in part ", Change::Less);
+        self.try_parts(b"last in part ", Change::Last);
+        self.try_several();
+    }
 }
 
 // Writes again every record of a text, up to the first that can not be read.
@@ -199,10 +221,19 @@ fn rewrite_all(text: &[u8])
                 return;
             }
         };
+        let entry = reading.content;
         say_line(b"form=", 1);
-        rewrite(Form::One, reading.content);
+        Task {
+            form: Form::One,
+            entry,
+        }
+        .rewrite();
         say_line(b"form=", 2);
-        rewrite(Form::Two, reading.content);
+        Task {
+            form: Form::Two,
+            entry,
+        }
+        .rewrite();
         rest = &rest[reading.taken..];
         number = number.wrapping_add(1);
     }

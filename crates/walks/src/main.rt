@@ -30,6 +30,9 @@ struct Walk {
     handed: u64,
 }
 
+// `say`, `mixed`, STDOUT_FILENO, KEY and NONCE stand in cuttings, limits or rewriting too: a crate for them would have public functions, each with a contract and a row
+// of `every_call`, which printing can't have.
+
 // Writes a name and a number. Kept on `io`, which rests on `write` alone (docs/ANSWERS.md): std's `print!` would trust two more declarations of the C library.
 fn say(name: &[u8], n: u64) {
     io::write_all(STDOUT_FILENO, name);

@@ -1,4 +1,4 @@
--- `rewriting::write_in` meets its contract: no more is written than there is room.
+-- `rewriting::Task::write_in` meets its contract: no more is written than there is room.
 use Rattle.std.proofs.Common.{◌≡◌, ℕ, ◌≤◌, Bool, true, false, cond, not, eqb, leb, List, [], ◌∷◌, ◌++◌, length, take, drop, refl, ap, arith, length-take, rules, leb-true}
 use Rattle.io.proofs.Counting.{prefix_len_of_le}
 use Rattle.answers.specs.declared.Answer.TheVariants.{Done, NoRoom, BrokenRecord, ChipLost}
@@ -9,7 +9,7 @@ use Rattle.record.specs.declared.form.Record.{Record}
 use Rattle.record.specs.Form.{broken, loses_chip}
 use Rattle.record.specs.Text.{text_of}
 use Rattle.record.specs.Calls.{WriteLeaves, write_leaves, refused_with, write_call}
-use Rattle.rewriting.proofs.write_in.Goals as goal
+use Rattle.rewriting.proofs.Task.write_in.Goals as goal
 
 -- no more is written than there is room
 written_inside : (form : Form) (r : Record) (out : List ℕ) → (write_call form r out).outcome.written ≤ length out
@@ -35,4 +35,4 @@ returns c =
     let part = take a.room a.places.now in
     let written = ap (λ (l : WriteLeaves). l.outcome.written) c.write.ensures in
     let same_length : length c.write.new.out ≡ length part = search rules in
-    prefix_len_of_le _ _ (omega (arith, written, written_inside a.form a.entry part, length-take a.room a.places.now, same_length))
+    prefix_len_of_le _ _ (omega (arith, written, written_inside a.self.form a.self.entry part, length-take a.room a.places.now, same_length))
