@@ -9,6 +9,7 @@ pub mod FoundLaws
 pub mod Pairs
 pub mod Laws
 pub mod Walks
+pub mod Inside
 pub mod Tables
 pub mod Rows
 pub mod Texts

@@ -1,5 +1,5 @@
 -- The laws of every table: lines are read one after another; what stops a reading; what decides it; and that a text which only ended too early can go on.
-use mathlib.Core.Path.{◌≡◌, refl, sym, ap, ◌∙◌}
+use mathlib.Core.Path.{◌≡◌, refl, sym, ap, ◌∙◌, subst}
 use mathlib.Core.Bool.{Bool, true, false}
 use mathlib.Core.List.{List, [], ◌++◌, append_assoc}
 use Prim.Native.Nat.{ℕ, zero, suc, ◌+◌, ◌-◌, ◌≤◌, ◌<◌}
@@ -39,6 +39,22 @@ module _ {E : Type 0} (read_at : ℕ → E → List ℕ → Found) (given : ℕ 
           → go_on line (drop taken text) f (from (suc n)) ≡ and_line (line + suc n) text (go_on line (drop taken text) f (from n))
       go (Ok read) rest = rest read.size read.number ∙ ap (λ (m : ℕ). and_line m text (from n read.size read.number)) (sym there)
       go (Err stopped) rest = refl
+
+  -- what each line keeps, lines that were read keep
+  pub kept : (Kept : E → Type 0) → ((line : ℕ) (e : E) (says : ℕ) (text : List ℕ) → Kept e → Kept (given line e says text))
+      → (n line taken : ℕ) (e : E) (text : List ℕ) (end : ℕ) (last : E) → Kept e → lines_from read_at given n line taken e text ≡ whole end last → Kept last
+  kept Kept keeps zero line taken e text end last k is = let same : e ≡ last = cc in subst Kept same k
+  kept Kept keeps (suc n) line taken e text end last k is =
+      go (read_at line e (drop taken text)) (λ size says. kept Kept keeps n (line + 1) (taken + size) (given line e says (take size (drop taken text))) text end last) is
+    where
+      from : ℕ → ℕ → Outcome E
+      from size says = lines_from read_at given n (line + 1) (taken + size) (given line e says (take size (drop taken text))) text
+
+      go : (f : Found) → ((size says : ℕ) → Kept (given line e says (take size (drop taken text))) → from size says ≡ whole end last → Kept last)
+          → go_on line (drop taken text) f from ≡ whole end last
+          → Kept last
+      go (Ok read) rest is = rest read.size read.number (keeps line e read.number (take read.size (drop taken text)) k) is
+      go (Err stopped) rest is = absurd cc
 
   module _ (line : ℕ) (first : E) where
     -- the first n lines of a text

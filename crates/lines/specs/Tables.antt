@@ -1,5 +1,7 @@
 -- Lines one after another by a table: how each is read, from what those before it gave.
-use Rattle.std.specs.Prelude.{Bool, List, ℕ, zero, suc, ◌+◌, ltb, length, take, drop, Ok, Err}
+use Rattle.std.specs.Prelude.{Bool, List, ℕ, zero, suc, ◌+◌, ◌≤◌, ltb, length, take, drop, Result, Ok, Err}
+use Rattle.lines.specs.declared.table.Read.{Read}
+use Rattle.lines.specs.declared.table.Unread.{Unread}
 use Rattle.lines.specs.Steps.{Found}
 
 -- all lines, how many characters they have and what they gave; or the first that is wrong, by its number and column, and whether the text ended there
@@ -20,3 +22,13 @@ module _ {E : Type 0} (read_at : ℕ → E → List ℕ → Found) (given : ℕ 
   lines_from (suc count) line taken e text =
       go_on line (drop taken text) (read_at line e (drop taken text))
       (λ size says. lines_from count (line + 1) (taken + size) (given line e says (take size (drop taken text))) text)
+
+-- a line that was found lies in its text
+abbrev pub Inside : List ℕ → Found → Type 0
+Inside text (Ok line) = line.size ≤ length text
+Inside text (Err stopped) = Unit {0}
+
+-- the outcome of a reading that gives what the lines gave and how many characters they have, or where the text is wrong
+abbrev pub outcome_of : {E : Type 0} → Result (Read E) Unread → Outcome E
+outcome_of (Ok read) = whole read.taken read.content
+outcome_of (Err wrong) = broken_at wrong.line wrong.column wrong.early

@@ -1,6 +1,6 @@
 // The kinds of lines: what a line is called, and what may stand behind its name.
 ghost use Rattle.std.specs.Prelude.{◌≡◌};
-ghost use Rattle.lines.specs.Right.{named};
+ghost use Rattle.lines.specs.Right.{named, value_in};
 
 use digits::Case;
 
@@ -41,4 +41,12 @@ pub fn named(text: &[u8]) -> Name
         bytes,
         size: text.len(),
     }
+}
+
+// What stands between the name and the line feed of a line; nothing in a line too short for both.
+pub fn value_in(kind: Kind, line: &[u8]) -> &[u8]
+    ensures { result.now ≡ value_in kind line.now }
+{
+    line.get(kind.name.size..line.len().saturating_sub(1))
+        .unwrap_or(b"")
 }
