@@ -5,12 +5,12 @@ use Rattle.answers.specs.declared.Answer.TheVariants.{Done, BrokenRecord}
 use Rattle.digits.specs.declared.hex.Case.TheVariants.{Lower}
 use Rattle.digits.specs.Hex.{from_hex_in}
 use Rattle.lines.specs.declared.kinds.Kind.{Kind}
+use Rattle.lines.specs.declared.table.Read.{Read}
+use Rattle.lines.specs.declared.table.Unread.{Unread}
 use Rattle.lines.specs.Right.{value_in}
 use Rattle.lines.specs.Steps.{Found, read_of, either_of}
 use Rattle.lines.specs.Tables.{Outcome, whole, broken_at, lines_from}
 use Rattle.record.specs.declared.field.Field.{Field}
-use Rattle.record.specs.declared.outcome.Read.{Read}
-use Rattle.record.specs.declared.outcome.Unread.{Unread}
 use Rattle.record.specs.Calls.{fitted}
 use Rattle.chip_log.specs.declared.form.Call.{Call}
 use Rattle.chip_log.specs.declared.form.Call.TheVariants.{Start1, Start2, Ad, Text, Finish}

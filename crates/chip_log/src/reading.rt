@@ -1,25 +1,21 @@
 // Reading an entry of the log: line by line, by its table.
 ghost use Rattle.std.specs.Prelude.{◌≡◌};
 ghost use Rattle.chip_log.specs.Form.{blank};
-ghost use Rattle.chip_log.specs.Calls.{field_in, given, reading_of, read_entry};
+ghost use Rattle.chip_log.specs.Calls.{field_in, read_at, given, reading_of, read_entry};
+ghost use Rattle.chip_log.specs.Inside.{line_inside};
 
 use crate::form;
 use crate::form::{Call, Entry};
 use digits::Case;
-use lines::{Kind, Line, Stopped};
-use record::{Field, Read, Unread};
+use lines::{Kind, Line, Read, Stopped, Table, Unread};
+use record::Field;
 
 // The field of the digits between the name and the line feed of a line.
 #[tactic(auto, unfolding(crate::specs::Calls::field_in))]
 fn field_in(kind: Kind, line: &[u8]) -> Field
     ensures { result ≡ field_in kind line.now }
 {
-    let from = kind.name.size;
-    if line.len() <= from {
-        record::read_field(Case::Lower, b"")
-    } else {
-        record::read_field(Case::Lower, &line[from..line.len() - 1])
-    }
+    record::read_field(Case::Lower, lines::value_in(kind, line))
 }
 
 impl Entry {
@@ -37,59 +33,69 @@ impl Entry {
             rounds: 0,
         }
     }
+}
 
-    // The entry with what a line says.
+// The table of an entry's lines.
+#[derive(Clone, Copy)]
+struct EntryTable;
+
+impl Table for EntryTable {
+    type Content = Entry;
+
+    ghost count = { λ table. 5 };
+
+    ghost first = { λ table. blank };
+
+    ghost read_at = { λ table. read_at };
+
+    ghost given = { λ table. given };
+
+    ghost inside = { λ table line entry text. line_inside entry.call line text };
+
+    fn count(&self) -> usize {
+        5
+    }
+
+    fn first(&self) -> Entry {
+        Entry::blank()
+    }
+
+    fn read_line(&self, line: usize, entry: &Entry, text: &[u8]) -> Result<Line, Stopped> {
+        form::read_line(entry.call, line, text)
+    }
+
     #[tactic(auto, unfolding(crate::specs::Calls::given))]
-    fn with_line(self, line: usize, says: u64, text: &[u8]) -> Entry
-        ensures { result ≡ given line self says text.now }
-    {
+    fn with_line(&self, line: usize, entry: Entry, says: u64, text: &[u8]) -> Entry {
         match line {
             1 => Entry {
                 call: Call::from(says),
-                ..self
+                ..entry
             },
             2 => Entry {
-                input: field_in(self.call.kind_at(2), text),
-                ..self
+                input: field_in(entry.call.kind_at(2), text),
+                ..entry
             },
             3 => Entry {
                 answer: says,
-                ..self
+                ..entry
             },
             4 => Entry {
-                out: field_in(self.call.kind_at(4), text),
-                ..self
+                out: field_in(entry.call.kind_at(4), text),
+                ..entry
             },
             5 => Entry {
                 rounds: says,
-                ..self
+                ..entry
             },
-            _ => self,
+            _ => entry,
         }
     }
 }
 
 // Reads the entry that a text begins with.
+#[tactic(auto, unfolding(crate::specs::Calls::read_entry))]
 pub fn read(text: &[u8]) -> Result<Read<Entry>, Unread>
     ensures { reading_of result ≡ read_entry text.now }
 {
-    let mut content = Entry::blank();
-    let mut taken = 0;
-    for line in 1..=5 {
-        let rest = &text[taken..];
-        match form::read_line(content.call, line, rest) {
-            Ok(Line { size, number }) => {
-                content = content.with_line(line, number, &rest[..size]);
-                taken += size;
-            }
-            Err(Stopped { column }) => {
-                return Err(Unread {
-                    line,
-                    column,
-                    early: rest.len() < column,
-                });
-            }
-        }
-    }
-    Ok(Read { content, taken })
+    lines::read_table(&EntryTable, text)
 }

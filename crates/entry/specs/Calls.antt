@@ -12,7 +12,7 @@ use Rattle.record.specs.declared.field.Field.{Field}
 use Rattle.record.specs.declared.form.Form.TheVariants.{One}
 use Rattle.record.specs.declared.form.Record.{Record}
 use Rattle.record.specs.Form.{field_of, blank}
-use Rattle.record.specs.declared.outcome.Read.{Read}
+use Rattle.lines.specs.declared.table.Read.{Read}
 use Rattle.record.specs.Calls.{Reading, fitted, refused_at, read_as, WriteLeaves, write_as}
 use Rattle.entry.specs.declared.reading.Unread.{Unread}
 use Rattle.entry.specs.declared.reading.Unread.TheVariants as unread

@@ -2,11 +2,14 @@
 ghost use Rattle.std.specs.Prelude.{◌≡◌, ◌-◌, ◌*◌, ◌≤◌};
 ghost use Rattle.ascon.specs.Sets.{row_of};
 ghost use Rattle.entry.specs.declared.reading.Unread.TheVariants.{Broken};
-ghost use Rattle.entry.specs.Calls.{with_line, begun, rounded, reading_of, read_entry};
+ghost use Rattle.lines.proofs.Inside.{read_inside};
+ghost use Rattle.entry.specs.Form.{kind_at};
+ghost use Rattle.entry.specs.Calls.{with_line, begun, rounded, read_at, given, reading_of, read_entry};
 
 use crate::form;
 use digits::Case;
-use record::{Read, Record};
+use lines::{Line, Read, Stopped, Table};
+use record::Record;
 
 // Why no entry is read: the set is unknown; or the text is wrong, at a line and column.
 #[derive(Clone, Copy)]
@@ -98,6 +101,45 @@ fn with_rounds(entry: Record) -> Record
     }
 }
 
+// The table of the entry of a set and a number.
+#[derive(Clone, Copy)]
+struct EntryTable {
+    set: u64,
+    number: u64,
+}
+
+impl Table for EntryTable {
+    type Content = Record;
+
+    ghost count = { λ table. 7 };
+
+    ghost first = { λ table. begun table.set };
+
+    ghost read_at = { λ table. read_at table.set table.number };
+
+    ghost given = { λ table. given table.set table.number };
+
+    ghost inside = { λ table line entry text. read_inside (kind_at table.set table.number line) text };
+
+    fn count(&self) -> usize {
+        7
+    }
+
+    fn first(&self) -> Record {
+        begin(self.set)
+    }
+
+    fn read_line(&self, line: usize, _entry: &Record, text: &[u8]) -> Result<Line, Stopped> {
+        lines::read(form::kind_at(self.set, self.number, line), text)
+    }
+
+    #[tactic(auto, unfolding(crate::specs::Calls::given))]
+    fn with_line(&self, line: usize, entry: Record, _says: u64, text: &[u8]) -> Record {
+        let kind = form::kind_at(self.set, self.number, line);
+        with_line(line, entry, lines::value_in(kind, text))
+    }
+}
+
 // Reads the entry of a set and a number that a text begins with.
 #[tactic(auto, unfolding(crate::specs::Calls::read_entry))]
 pub fn read(set: u64, number: u64, text: &[u8]) -> Result<Read<Record>, Unread>
@@ -106,27 +148,9 @@ pub fn read(set: u64, number: u64, text: &[u8]) -> Result<Read<Record>, Unread>
     if !sets::is_set(set) {
         return Err(Unread::UnknownSet);
     }
-    let mut content = begin(set);
-    let mut taken = 0;
-    for line in 1..8 {
-        let kind = form::kind_at(set, number, line);
-        let rest = &text[taken..];
-        match lines::read(kind, rest) {
-            Ok(found) => {
-                content = with_line(line, content, &rest[kind.name.size..found.size - 1]);
-                taken += found.size;
-            }
-            Err(stopped) => {
-                return Err(Unread::Broken(record::Unread {
-                    line,
-                    column: stopped.column,
-                    early: rest.len() < stopped.column,
-                }));
-            }
-        }
-    }
+    let read = lines::read_table(&EntryTable { set, number }, text)?;
     Ok(Read {
-        content: with_rounds(content),
-        taken,
+        content: with_rounds(read.content),
+        ..read
     })
 }

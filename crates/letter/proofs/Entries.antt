@@ -11,7 +11,7 @@ use Rattle.answers.specs.Numbers.{number_of, is_done}
 use Rattle.ascon.specs.Sets.{is_set}
 use Rattle.record.specs.declared.form.Form.TheVariants.{One}
 use Rattle.record.specs.declared.form.Record.{Record}
-use Rattle.record.specs.declared.outcome.Read.{Read}
+use Rattle.lines.specs.declared.table.Read.{Read}
 use Rattle.entry.specs.declared.reading.Unread.{Unread}
 use Rattle.entry.specs.declared.reading.Unread.TheVariants as unread
 use Rattle.lines.specs.Tables.{Outcome, whole, broken_at}

@@ -1,7 +1,7 @@
 -- Records, their lines and digits: what is said of their calls holds.
-use mathlib.Core.Path.{◌≡◌, refl, sym, ap}
+use mathlib.Core.Path.{◌≡◌, refl, sym, ap, ◌∙◌}
 use mathlib.Core.Bool.{Bool, true, false, cond, not}
-use mathlib.Core.List.{List, [], ◌∷◌, ◌++◌}
+use mathlib.Core.List.{List, [], ◌∷◌, ◌++◌, Mem, not-mem-nil}
 use mathlib.Core.Logic.{◌⊎◌, inl, inr, ⊎_elim}
 use Prim.Native.Nat.{ℕ}
 use native.Mathlib.Omega.{arith}
@@ -15,8 +15,8 @@ use Rattle.answers.specs.Numbers.{number_of, is_done}
 use Rattle.answers.specs.Order.{first, ◌when◌}
 use Rattle.record.specs.declared.form.Form.{Form}
 use Rattle.record.specs.declared.form.Record.{Record}
-use Rattle.record.specs.declared.outcome.Read.{Read}
-use Rattle.record.specs.declared.outcome.Unread.{Unread}
+use Rattle.lines.specs.declared.table.Read.{Read}
+use Rattle.lines.specs.declared.table.Unread.{Unread}
 use Rattle.record.specs.declared.writing.Unwritten.{Unwritten}
 use Rattle.record.specs.declared.writing.Unwritten.TheVariants as unwritten
 use Rattle.record.specs.Form.{broken, loses_chip}
@@ -49,6 +49,10 @@ is_ours m k =
       write = λ form entry out. seen_as (λ w. write_leaves w (m.write form entry out).out) (k.write form entry (lent_mut out) (lifetimes 1)) j;
     }
 
+-- no lifetime is one of none
+none_last : {x : ℕ} {A : Type 0} → Mem x [] → A
+none_last m = absurd (not-mem-nil m)
+
 -- each is answered
 pub every_call : EveryCall
 every_call =
@@ -66,6 +70,14 @@ every_call =
       lines_advance = answered (λ M. lines.advance.Met.met) (λ κ a. tt) (λ κ a r e p. p);
       lines_read = answered (λ M. lines.read.Met.met) (λ κ a. tt) (λ κ a r e p. p);
       lines_either = answered (λ M. lines.either.Met.met) (λ κ a. tt) (λ κ a r e p. p);
+      lines_value_in = answered (λ M. lines.value_in.Met.met) (λ κ a. tt) (λ κ a r e p. p);
+      lines_read_table = λ Self Content laws content_laws copy members dict clones clone_dict.
+          record {
+            answers = λ M. lines.read_table.Met.met;
+            unasked = λ κ a free content_free. (λ x m. none_last (rw free at m), λ x m. none_last (rw content_free at m));
+            given = λ κ a r e p. p;
+            once = λ κ κ' a r r' e e' p q. p ∙ sym q;
+          };
       record_read_field = answered (λ M. record-crate.read_field.Met.met) (λ κ a. tt) (λ κ a r e p. p);
       record_first_broken = answered (λ M. record-crate.first_broken.Met.met) (λ κ a. tt) (λ κ a r e p. p);
       record_read = answered (λ M. record-crate.read.Met.met) (λ κ a. tt) (λ κ a r e p. p);

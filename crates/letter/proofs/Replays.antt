@@ -9,8 +9,8 @@ use lib.ListN.{drop}
 use Rattle.answers.specs.declared.Answer.TheVariants.{BrokenRecord}
 use Rattle.answers.specs.Numbers.{number_of, is_done}
 use Rattle.std.specs.Prelude.{Result, Ok, Err}
-use Rattle.record.specs.declared.outcome.Read.{Read}
-use Rattle.record.specs.declared.outcome.Unread as broken
+use Rattle.lines.specs.declared.table.Read.{Read}
+use Rattle.lines.specs.declared.table.Unread as broken
 use Rattle.chip_log.specs.declared.form.Entry.{Entry}
 use Rattle.chip_log.specs.Calls.{Reading, reading_of, read_as, refused_at, read_entry}
 use Rattle.chip_log.proofs.Laws.{reads_log}

@@ -1,13 +1,19 @@
 -- Records, their lines and digits: all that is said of their calls.
 use contract.Lifetimes.{Lfts}
-use Rattle.std.specs.Prelude.{◌≡◌, true, false, List, ◌++◌, ◌↔◌, ◌⊎◌, ℕ, ◌≤◌, length, drop, take}
+use denote.RattleType.{RattleType}
+use denote.Param.Laws.{Laws, IsCopy}
+use mir.Syntax.{Dict}
+use Rattle.std.specs.Prelude.{◌≡◌, true, false, List, [], ◌++◌, ◌↔◌, ◌⊎◌, ℕ, ◌≤◌, length, drop, take}
 use Rattle.answers.specs.declared.Answer.TheVariants.{Done, BrokenRecord}
 use Rattle.answers.specs.Order.{first}
 use Rattle.digits.specs.Hex.{digit_in, digit_of, is_value, pair_of, from_hex_in, hex_in}
 use Rattle.digits.specs.Numbers as decimals
 use Rattle.digits.specs.Room.{line_of, laid, put}
-use Rattle.lines.specs.Right.{named}
+use Rattle.std.specs.declared.clone.Clone as clone
+use Rattle.lines.specs.declared.table.Table as table
+use Rattle.lines.specs.Right.{named, value_in}
 use Rattle.lines.specs.Steps.{begin, step_of, read_of, either_of}
+use Rattle.lines.specs.Tables.{lines_from, outcome_of}
 use Rattle.record.specs.declared.form.Form.{Form}
 use Rattle.record.specs.declared.form.Record.{Record}
 use Rattle.record.specs.Calls.{Reading, Writing, reading_of, writing_of, line_found}
@@ -73,6 +79,17 @@ pub record EveryCall : Type 2 where
       (λ r e. r) (λ (kind, (state, (character, _))). step_of kind state character)
   pub lines_read : Answered lines.read.Statement.statement lines.read.Reads.Asked lines.read.Reads.Learnt (λ r e. r) (λ (kind, (text, _)). read_of kind text.now)
   pub lines_either : Answered lines.either.Statement.statement lines.either.Reads.Asked lines.either.Reads.Learnt (λ r e. r) (λ (one, (other, _)). either_of one other)
+  pub lines_value_in : Answered lines.value_in.Statement.statement lines.value_in.Reads.Asked lines.value_in.Reads.Learnt
+      (λ r e. r.now) (λ (kind, (line, _)). value_in kind line.now)
+  -- of every table: its type and that of what its lines give, as the kit has a type parameter, and the ghost members that its bounds bring. The kit counts among what is asked
+  -- that borrows inside these types still last, which no caller checks; so it is types without any of which it is said that nothing is asked
+  pub lines_read_table : (Self Content : RattleType) (laws : Laws Self) (content_laws : Laws Content) (copy : IsCopy Content)
+      (members : table.Ghosts Self.Denot Content.Denot) (dict : Dict) (clones : clone.Ghosts Content.Denot) (clone_dict : Dict)
+      → Answered lines.read_table.Statement.statement
+      (λ κ a. Self.lives ≡ [] → Content.lives ≡ [] → lines.read_table.Reads.Asked Self Content laws content_laws copy members dict clones clone_dict κ a)
+      (lines.read_table.Reads.Learnt Self Content laws content_laws copy members dict clones clone_dict)
+      (λ r e. outcome_of r)
+      (λ (table, (text, _)). lines_from (members.read_at table.now) (members.given table.now) (members.count table.now) 1 0 (members.first table.now) text.now)
   -- ---- record
   pub record_read_field : Answered record-crate.read_field.Statement.statement record-crate.read_field.Reads.Asked record-crate.read_field.Reads.Learnt
       (λ r e. r) (λ (case, (text, _)). fitted (from_hex_in case text.now))

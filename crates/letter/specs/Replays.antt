@@ -3,8 +3,8 @@ use Rattle.std.specs.Prelude.{◌≡◌, Bool, true, false, cond, List, [], ◌+
 use contract.Lifetimes.{Lfts}
 use Rattle.answers.specs.declared.Answer as answers
 use Rattle.answers.specs.declared.Answer.TheVariants.{Done, BrokenRecord}
-use Rattle.record.specs.declared.outcome.Read.{Read}
-use Rattle.record.specs.declared.outcome.Unread as broken
+use Rattle.lines.specs.declared.table.Read.{Read}
+use Rattle.lines.specs.declared.table.Unread as broken
 use Rattle.chip_log.specs.declared.form.Entry.{Entry}
 use Rattle.chip_log.specs.Form.{entry_text, blank}
 use Rattle.chip_log.specs.Calls.{Reading, reading_of, read_entry}

@@ -2,10 +2,10 @@
 use mathlib.Core.Path.{◌≡◌, refl, sym, ap, ◌∙◌}
 use mathlib.Core.Bool.{true}
 use mathlib.Core.List.{List, [], ◌∷◌, ◌++◌}
-use Prim.Native.Nat.{ℕ, zero, suc, ◌+◌, ◌-◌, ◌≤◌}
+use Prim.Native.Nat.{ℕ, ◌-◌, ◌≤◌}
 use native.Mathlib.Omega.{arith}
 use lib.ListN.{length, take, drop, length-append}
-use lib.Seq.{drop_at, drop-drop, take_at, take-take, take-append_seam, length-take-le}
+use lib.Seq.{drop_at, take_at, take-append_seam}
 use lib.Pow.{are_bytes}
 use Rattle.digits.specs.declared.hex.Case.{Case}
 use Rattle.digits.specs.Hex.{hex_in}
@@ -19,10 +19,6 @@ use Rattle.lines.specs.Laws.{Fit}
 use Rattle.lines.proofs.Grammar.{name_size}
 use Rattle.lines.proofs.Laws.{reads_lines}
 
--- a right line has its name and a line feed at the least
-pub line_size : (kind : Kind) (line : List ℕ) (says : ℕ) → Fit kind → Right kind line says → kind.name.size + 1 ≤ length line
-line_size kind line says fit r = omega (arith, ap length r.whole, length_line (name_of kind) r.value, name_size kind fit.named)
-
 -- what stands between the name and the line feed of a right line is its value
 pub value_in_lem : (kind : Kind) (line : List ℕ) (says : ℕ) → Fit kind → (r : Right kind line says) → value_in kind line ≡ r.value
 unfolding line_of
@@ -31,25 +27,6 @@ value_in_lem kind line says fit r =
     let size : length line - 1 - n ≡ length r.value = omega (arith, ap length r.whole, length_line (name_of kind) r.value, name_size kind fit.named) in
     let behind : drop n line ≡ r.value ++ 0x0a ∷ [] = ap (drop n) r.whole ∙ drop_at (name_of kind) (r.value ++ 0x0a ∷ []) n (name_size kind fit.named) in
     ap (take (length line - 1 - n)) behind ∙ take_at r.value (0x0a ∷ []) (length line - 1 - n) (sym size)
-
--- a part of a beginning is a part of the whole
-part_of-take : (j m s : ℕ) (x : List ℕ) → j + m ≤ s → take j (drop m (take s x)) ≡ take j (drop m x)
-part_of-take j zero s x h = take-take j s x (omega arith)
-part_of-take j (suc m) zero x h = absurd (omega arith)
-part_of-take j (suc m) (suc s) [] h = refl
-part_of-take j (suc m) (suc s) (c ∷ x) h = part_of-take j m s x (omega arith)
-
--- the value of a line that stands in a text
-pub value_there : (kind : Kind) (text : List ℕ) (at size : ℕ) → size ≤ length (drop at text) → kind.name.size + 1 ≤ size
-    → value_in kind (take size (drop at text)) ≡ take (at + size - 1 - (at + kind.name.size)) (drop (at + kind.name.size) text)
-value_there kind text at size h k =
-    let n : ℕ = kind.name.size in
-    let x : List ℕ = drop at text in
-    let count : size - 1 - n ≡ at + size - 1 - (at + n) = omega arith in
-    ap (λ (i : ℕ). take (i - 1 - n) (drop n (take size x))) (length-take-le size x h)
-    ∙ part_of-take (size - 1 - n) n size x (omega arith)
-    ∙ ap (take (size - 1 - n)) (drop-drop n at text)
-    ∙ ap (λ (i : ℕ). take i (drop (at + n) text)) count
 
 -- a right line that was written is read, whatever stands behind it
 pub written_read : (kind : Kind) (value more : List ℕ) (says : ℕ) → Fit kind → Spells kind.value says value

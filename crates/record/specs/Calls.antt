@@ -9,6 +9,8 @@ use Rattle.digits.specs.Ascii.{ascii}
 use Rattle.digits.specs.Hex.{from_hex_in}
 use Rattle.lines.specs.declared.kinds.Value.{Value}
 use Rattle.lines.specs.declared.kinds.Value.TheVariants.{Fixed, Number, Bytes}
+use Rattle.lines.specs.declared.table.Read.{Read}
+use Rattle.lines.specs.declared.table.Unread.{Unread}
 use Rattle.lines.specs.Right.{value_in}
 use Rattle.lines.specs.Steps.{Found, read_of}
 use Rattle.lines.specs.Tables.{Outcome, whole, broken_at, lines_from}
@@ -16,8 +18,6 @@ use Rattle.record.specs.declared.field.Field.{Field}
 use Rattle.record.specs.declared.form.Form.{Form}
 use Rattle.record.specs.declared.form.Form.TheVariants.{One, Two}
 use Rattle.record.specs.declared.form.Record.{Record}
-use Rattle.record.specs.declared.outcome.Read.{Read}
-use Rattle.record.specs.declared.outcome.Unread.{Unread}
 use Rattle.record.specs.declared.writing.Unwritten as unwritten
 use Rattle.record.specs.declared.writing.Unwritten.{Unwritten}
 use Rattle.record.specs.Form.{field_of, part_at, lines_in, with_number, with_field, blank, value_kind, broken, loses_chip}

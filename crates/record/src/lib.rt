@@ -4,13 +4,12 @@
 
 mod field;
 mod form;
-mod outcome;
 mod part;
 mod reading;
 mod writing;
 
 pub use field::{Field, read_field};
 pub use form::{Form, Record, first_broken};
-pub use outcome::{Read, Unread};
+pub use lines::{Read, Unread};
 pub use reading::{read, read_any};
 pub use writing::{Unwritten, write};

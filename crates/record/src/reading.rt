@@ -1,11 +1,13 @@
 // Reading a record: line by line, by the table of its form.
 ghost use Rattle.std.specs.Prelude.{◌≡◌};
-ghost use Rattle.record.specs.Calls.{with_value, reading_of, read_call, form_of, inside_mark, read_any};
+ghost use Rattle.lines.proofs.Inside.{read_inside};
+ghost use Rattle.record.specs.Form.{part_at, lines_in, blank};
+ghost use Rattle.record.specs.Text.{kind_of};
+ghost use Rattle.record.specs.Calls.{with_value, read_at, given, reading_of, read_call, form_of, inside_mark, read_any};
 
 use crate::form::{Form, Record};
-use crate::outcome::{Read, Unread};
 use crate::{field, form};
-use lines::Value;
+use lines::{Line, Read, Stopped, Table, Unread, Value};
 
 // A record with what a line says in a part: nothing, the number, or the bytes of the digits.
 #[tactic(auto, unfolding(crate::specs::Calls::with_value))]
@@ -19,26 +21,51 @@ fn with_value(part: usize, entry: Record, number: u64, digits: &[u8]) -> Record
     }
 }
 
+// The table of a form.
+#[derive(Clone, Copy)]
+struct FormTable {
+    form: Form,
+}
+
+impl Table for FormTable {
+    type Content = Record;
+
+    ghost count = { λ table. lines_in table.form };
+
+    ghost first = { λ table. blank };
+
+    ghost read_at = { λ table. read_at table.form };
+
+    ghost given = { λ table. given table.form };
+
+    ghost inside = { λ table line entry text. read_inside (kind_of (part_at table.form line) entry.set) text };
+
+    fn count(&self) -> usize {
+        self.form.lines()
+    }
+
+    fn first(&self) -> Record {
+        Record::blank()
+    }
+
+    fn read_line(&self, line: usize, entry: &Record, text: &[u8]) -> Result<Line, Stopped> {
+        lines::read(form::kind_of(self.form.part_at(line), entry.set), text)
+    }
+
+    #[tactic(auto, unfolding(crate::specs::Calls::given))]
+    fn with_line(&self, line: usize, entry: Record, says: u64, text: &[u8]) -> Record {
+        let part = self.form.part_at(line);
+        let kind = form::kind_of(part, entry.set);
+        with_value(part, entry, says, lines::value_in(kind, text))
+    }
+}
+
 // Reads the record of a form that a text begins with.
+#[tactic(auto, unfolding(crate::specs::Calls::read_call))]
 pub fn read(form: Form, text: &[u8]) -> Result<Read<Record>, Unread>
     ensures { reading_of result ≡ read_call form text.now }
 {
-    let mut content = Record::blank();
-    let mut taken = 0;
-    for line in 1..=form.lines() {
-        let part = form.part_at(line);
-        let kind = form::kind_of(part, content.set);
-        let rest = &text[taken..];
-        let found = lines::read(kind, rest).map_err(|stopped| Unread {
-            line,
-            column: stopped.column,
-            early: rest.len() < stopped.column,
-        })?;
-        let digits = &rest[kind.name.size..found.size - 1];
-        content = with_value(part, content, found.number, digits);
-        taken += found.size;
-    }
-    Ok(Read { content, taken })
+    lines::read_table(&FormTable { form }, text)
 }
 
 // The form that a text's first line is of.

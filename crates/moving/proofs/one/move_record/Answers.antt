@@ -7,7 +7,7 @@ use borrow.Author.Rules.{rules}
 use Rattle.std.proofs.Common.{Ok, Err}
 use Rattle.std.proofs.lemmas.Result.{err_from_is_err_and}
 use Rattle.answers.specs.Numbers.{is_done}
-use Rattle.record.specs.declared.outcome.Read.{Read}
+use Rattle.lines.specs.declared.table.Read.{Read}
 use Rattle.record.specs.declared.form.Record.{Record}
 use Rattle.record.specs.declared.writing.Unwritten.{Unwritten}
 use Rattle.record.specs.declared.writing.Unwritten.TheVariants as unwritten
