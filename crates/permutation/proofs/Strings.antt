@@ -4,14 +4,13 @@ use mathlib.Core.Bool.{Bool, true, false, ◌&&◌, false≢true}
 use mathlib.Core.List.{List, [], ◌∷◌, ◌++◌}
 use Prim.Native.Nat.{ℕ, zero, suc, ◌+◌, ◌-◌, ◌*◌, ◌/◌, ◌%◌, ◌^◌, ◌≤◌, ◌<◌}
 use native.Mathlib.Nat.{mod-lt, mod-eq_of_lt, mod-one, mul-mod_left, div-eq_of_lt, lt_of_lt_of_le, not-suc-le-zero, le_of_suc-le-suc, sub-zero, zero-sub, suc-sub-suc}
-use native.Mathlib.Numerals.{add-one}
 use native.Mathlib.Omega.{arith}
 use lib.Arith.{digits_lt}
 use lib.Bits.{bit_xor, xor_shr, xor_mod, xor_zero_r}
 use lib.Dec.{eqb, lit<}
 use lib.ListN.{length, get_or, set, take, drop, length-drop, take-append-drop}
 use lib.Pow.{pow-add, pow_mono, mod-pow-add, mod-mod-pow, field, high, low, shl_lt, shl-shr}
-use lib.Seq.{length-take-le, take_all, drop-drop, drop-cons, get_or-drop}
+use lib.Seq.{length-take-le, take_all, drop-drop, get_or-drop}
 use borrow.Author.Tests.{eqb-true, eq-eqb}
 use Rattle.permutation.specs.declared.State.{State}
 use Rattle.permutation.specs.Strings.{Bytes, zeros, same, bytes_of, value_of, string_of, state_of}
@@ -74,11 +73,6 @@ same_eq (a ∷ x) (b ∷ y) e = go (eqb a b) refl e (same_eq x y)
     go : (t : Bool) → eqb a b ≡ t → (t && same x y) ≡ true → (same x y ≡ true → x ≡ y) → a ∷ x ≡ b ∷ y
     go true f g rest = ap₂ (λ (c : ℕ) (t : List ℕ). c ∷ t) (eqb-true a b f) (rest g)
     go false f g rest = absurd (false≢true g)
-
--- the bytes at i, and the rest
-pub same_left : (xs ys : List ℕ) (i : ℕ) → i < length xs → i < length ys
-    → same (drop i xs) (drop i ys) ≡ (eqb (get_or xs i 0) (get_or ys i 0) && same (drop (i + 1) xs) (drop (i + 1) ys))
-same_left xs ys i h k = rw (add-one i, drop-cons xs i 0 h, drop-cons ys i 0 k)
 
 -- ---- a number and its bytes
 
