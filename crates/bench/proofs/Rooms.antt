@@ -2,7 +2,7 @@
 use mathlib.Core.Path.{◌≡◌, refl, sym}
 use mathlib.Core.List.{List}
 use Prim.Native.Nat.{ℕ}
-use lib.ListN.{replicate, length-replicate}
+use lib.ListN.{length, replicate, length-replicate}
 use Rattle.digits.specs.Numbers.{places, numeral}
 use Rattle.turns.specs.Tallies.{numbered}
 use Rattle.moving.specs.Moves.{refused_all}
@@ -12,6 +12,11 @@ use Rattle.bench.specs.Moves.{Places, record_words, place_words, moved_words, Sp
 pub places_repeated : (n a : ℕ) → Places n (replicate n a)
 unfolding Places
 places_repeated n a = sym (length-replicate n a)
+
+-- a place has as many as it says
+pub places_length : (n : ℕ) (place : List ℕ) → Places n place → n ≡ length place
+unfolding Places
+places_length n place p = p
 
 -- the words are spelled so
 pub spelled : Spelled

@@ -4,9 +4,11 @@ use mathlib.Core.Bool.{Bool, true, false, cond, not, ◌&&◌, false≢true, and
 use mathlib.Core.List.{List, [], ◌∷◌}
 use Prim.Native.Nat.{ℕ, zero, suc, ◌+◌, ◌-◌, ◌*◌, ◌/◌, ◌≤◌, ◌<◌}
 use native.Mathlib.Nat.{le_trans, le-div_iff_mul-le, div-mul-le_self, mul-le-mul_right, div-le_self}
+use native.Mathlib.Numerals.{add-one}
 use native.Mathlib.Omega.{arith}
 use lib.Dec.{eqb, leb, lit≤}
-use lib.ListN.{length, get_or}
+use lib.ListN.{length, get_or, drop}
+use lib.Seq.{drop-cons}
 use Rattle.std.specs.Prelude.{IsTrue, EachIndex, ◌↔◌}
 use lib.Pointwise.{pointwise}
 use Rattle.std.proofs.lemmas.Bool.Decides.{nat_tests}
@@ -51,6 +53,10 @@ all_zero_is xs false h = go (all_zero xs) refl
     go : (t : Bool) → all_zero xs ≡ t → false ≡ t
     go true f = absurd (false≢true (h.1 (at xs f)))
     go false f = refl
+
+-- the element at i, and the rest: docs/PORT.md names this law, and no proof cites it any more
+pub zero_left : (xs : List ℕ) (i : ℕ) → i < length xs → all_zero (drop i xs) ≡ (eqb (get_or xs i 0) 0 && all_zero (drop (i + 1) xs))
+zero_left xs i h = rw (add-one i, drop-cons xs i 0 h)
 
 -- zeros are all zero
 pub zero_zeros : (n : ℕ) → all_zero (zeros n) ≡ true

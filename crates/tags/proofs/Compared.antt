@@ -1,6 +1,6 @@
 -- Keys and tags of at most 16 bytes.
 use mathlib.Core.Path.{◌≡◌, refl, ap}
-use mathlib.Core.Bool.{Bool, true, false}
+use mathlib.Core.Bool.{Bool, true, false, ◌&&◌}
 use mathlib.Core.List.{List, ◌++◌}
 use Prim.Native.Nat.{ℕ, ◌-◌, ◌≤◌}
 use lib.ListN.{length, take}
@@ -8,6 +8,15 @@ use borrow.Author.Tests.{le-leb}
 use Rattle.permutation.specs.Strings.{zeros, same}
 use Rattle.permutation.proofs.Strings.{same_eq}
 use Rattle.tags.specs.Tags.{sixteen_of, given_tag}
+
+-- two laws of `&&` that docs/PORT.md names, and no proof cites any more
+pub and_assoc : (a b c : Bool) → ((a && b) && c) ≡ (a && (b && c))
+and_assoc true b c = refl
+and_assoc false b c = refl
+
+pub and_true : (a : Bool) → a ≡ (a && true)
+and_true true = refl
+and_true false = refl
 
 -- strings of two lengths are not one
 pub same_lengths : (x y : List ℕ) → (length x ≡ length y → ⊥) → same x y ≡ false
