@@ -73,7 +73,7 @@ fn measure(route: Route, text: &[u8]) -> Result<MovedAll, UnmovedAll>
     let mut rest = text;
     let mut records = 0;
     let mut written = 0;
-    // A turn takes as many bytes as its record has: no range and no iterator of std steps so.
+    // A turn takes as many bytes as its record has. An iterator would be no plainer: it would have to carry `rest`, and to hand each refusal out as an item.
     while !rest.is_empty() {
         records += 1;
         match one::move_record(route, records, rest, &mut scratch) {
