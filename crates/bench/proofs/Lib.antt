@@ -1,4 +1,6 @@
 -- Laws of the places.
+pub mod Lines
+pub mod Stages
 pub mod Views
 pub mod Looks
 pub mod Behind

@@ -5,10 +5,8 @@ use mathlib.Core.List.{List, [], ◌∷◌, ◌++◌}
 use Prim.Native.Nat.{ℕ, zero, suc, ◌+◌, ◌-◌, ◌≤◌}
 use native.Mathlib.Omega.{arith}
 use lib.Dec.{eqb}
-use lib.ListN.{length, take, drop, length-drop}
-use lib.Seq.{take-nil, take-add, take-append_seam, drop-drop, length-take-le}
-use Rattle.digits.specs.Room.{laid, put}
-use Rattle.digits.proofs.Room.{put_inside, put_count}
+use lib.ListN.{length, take, drop, length-take, length-drop}
+use lib.Seq.{take-nil, take-add, drop-drop, length-take-le}
 use borrow.Author.Tests.{eqb-true, eqb-false, eq-eqb, ne_eqb}
 use Rattle.std.proofs.Common.{Ok, Err}
 use Rattle.bench.specs.declared.progress.Unmoved.TheVariants.{Again, Failed}
@@ -18,6 +16,7 @@ use Rattle.bench.specs.declared.progress.Progress.{Progress}
 use Rattle.turns.specs.Run.{next, is_closing, is_reading, is_writing, behind, failed, came, took, heard, Came, Took}
 use Rattle.turns.specs.Run as run
 use Rattle.turns.specs.Tallies.{last_words}
+use Rattle.bench.specs.Lines.{Follows}
 use Rattle.turns.specs.Laws.{OneAnswer}
 use Rattle.bench.specs.Progress.{Heard, failing, ending, front, read_more, wrote, wrote_more, moved_by, Sound, view, More, Less, Closed}
 
@@ -215,22 +214,25 @@ sound_write p q buffer text writing l s = subst (λ (r : Progress). Sound r buff
 -- ---- the end
 
 -- the last words stand in the text
-pub closed_says : (p : Progress) (before after words : List ℕ) (size : ℕ) → is_closing p.stage ≡ true → words ≡ last_words p.tally → length words ≤ length before
-    → laid size after ≡ put words before → Closed p before (ending p size) after
-closed_says p before after words size closing are room e =
-    let l = put_count words before after size e room in
-    let same = (put_inside words before after size e).1 in
+pub closed_says : (p : Progress) (before after : List ℕ) (size : ℕ) → is_closing p.stage ≡ true → Follows 0 (last_words p.tally) size before after
+    → Closed p before (ending p size) after
+closed_says p before after size closing f =
     record {
-      is = λ buffer. rw (closing, ap (λ (k : ℕ). take k after) (less size ∙ l.0) ∙ ap (take (length words)) l.1 ∙ take-append_seam words (drop (length words) before) ∙ are);
+      is = λ buffer. rw (closing, ap (λ (k : ℕ). take k after) (less size) ∙ f.stands);
       sound = λ buffer s.
+          let inside = ap length f.stands in
           record {
             begins = s.begins;
             inside = s.inside;
             wide = s.wide;
             room = λ e. let z : ◌≡◌ {A = ℕ} 0 1 = cc in absurd (omega arith);
             from_size = omega arith;
-            size_text = omega (arith, l.0, room, same);
-            long = omega (arith, same, s.long);
+            size_text = omega (arith, inside, f.ends, f.same_length, length-take size after);
+            long = omega (arith, f.same_length, s.long);
             few = s.few;
           };
     }
+
+-- nothing else changes
+pub closed_stays : (p : Progress) (text : List ℕ) → is_closing p.stage ≡ false → Closed p text p text
+closed_stays p text closing = record { is = λ buffer. rw closing; sound = λ buffer s. s }

@@ -1,4 +1,5 @@
 -- The program's places, and how they show its run.
+pub mod Lines
 pub mod Progress
 pub mod Input
 pub mod Output
