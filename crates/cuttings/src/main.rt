@@ -75,8 +75,8 @@ struct Walk {
     stream: Stream,
 }
 
-// `say`, `say_line`, `next_of` and the choices by direction, STDOUT_FILENO, KEY and NONCE stand in limits, walks or rewriting too: a crate for them would have public
-// functions, each with a contract and a row of `every_call`, which printing can't have.
+// `say`, `say_line`, `next_of`, STDOUT_FILENO, KEY and NONCE stand in limits, walks or rewriting as they stand here, and what `part`, `text_call` and `finish_call` do is
+// done in limits too: a crate for them would have public functions, each with a contract and a row of `every_call`, which printing can't have.
 
 // Writes a name and a number. Kept on `io`, which rests on `write` alone (docs/ANSWERS.md): std's `print!` would trust two more declarations of the C library.
 fn say(name: &[u8], n: u64) {

@@ -63,8 +63,8 @@ struct Called {
     lent: u64,
 }
 
-// `say`, `next_of`, `mixed` and the choices by direction, STDOUT_FILENO, KEY and NONCE stand in cuttings, walks or rewriting too: a crate for them would have public
-// functions, each with a contract and a row of `every_call`, which printing can't have.
+// `say`, `next_of`, STDOUT_FILENO, KEY and NONCE stand in cuttings, walks or rewriting as they stand here, and what `first_of`, `mixed`, `text` and `finish` do is done in
+// cuttings or walks too: a crate for them would have public functions, each with a contract and a row of `every_call`, which printing can't have.
 
 // Writes a name and a number. Kept on `io`, which rests on `write` alone (docs/ANSWERS.md): std's `print!` would trust two more declarations of the C library.
 fn say(name: &[u8], n: u64) {
