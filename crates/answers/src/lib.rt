@@ -21,7 +21,7 @@ pub enum Answer {
     ChipLost,
 }
 
-// The number of an answer.
+// The number of an answer. The numbers stand here, as the rules list them, and not as the enum's own: the edit `limit_is_six` turns one.
 pub fn number(answer: Answer) -> u64
     ensures { result ≡ number_of answer }
 {

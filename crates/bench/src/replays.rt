@@ -142,7 +142,7 @@ fn replay_all(system: &mut System) -> LogReplay
     replay
 }
 
-// The number of the entry that decides, where so many agreed before; where all agree, how many there are.
+// The number of the entry that decides, where so many agreed before; where all agree, how many there are. `ruled_out` speaks of it (`numbers` of `RuledOut`).
 pub(crate) fn entry_of(agreed: u64, verdict: Verdict) -> u64
     requires { agreed < largest }
     ensures { result ≡ (told agreed verdict).entry }

@@ -20,7 +20,7 @@ pub enum Sink {
 }
 
 // The three streams, and the number of the last error that a call on one of them gave, which is 0 before the first.
-// No Option: std words a number, and before the first error it words that 0.
+// No Option: std's `from_raw_os_error` takes a number, and has words for 0 too.
 #[derive(Drop)]
 pub(crate) struct System {
     input: Stdin,
@@ -100,7 +100,7 @@ pub(crate) fn count_words(env: &impl Env) -> usize {
     4
 }
 
-// One of the words, put into a place. One that is missing, or too long for the place, is empty.
+// One of the words, put into a place. One that is missing, or too long for the place, is empty, and not None: an empty word names no task (`task_of`).
 pub(crate) fn read_word<'a>(env: &impl Env, i: usize, place: &'a mut [u8]) -> &'a [u8] {
     let size = env.arg(i, place).unwrap_or(0);
     &place[..size]

@@ -6,7 +6,7 @@ use crate::words::Words;
 use report::Verdict;
 use turns::Tally;
 
-// How many records were judged.
+// How many records were judged. The bound is a clause here and in what follows, and no invariant of `Tally`: the definitions of `turns` build any tally.
 pub(crate) fn records(tally: Tally) -> u64
     requires { records_of tally ≤ largest }
     ensures { result ≡ records_of tally }

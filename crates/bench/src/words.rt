@@ -6,7 +6,7 @@ ghost use Rattle.turns.specs.Tallies.{numbered};
 use std::fmt;
 use std::marker::Model;
 
-// Words of at most `N` bytes.
+// Words of at most `N` bytes, with their size beside them: there is no heap.
 #[derive(Drop)]
 pub(crate) struct Words<const N: usize> {
     place: [u8; N],

@@ -49,7 +49,7 @@ fn put_numbers(area: &mut [u8; LENGTH], at: usize, numbers: &[u64])
     }
 }
 
-// ---- directions and phases, which are `stream`'s, so that no `TryFrom` can stand here
+// ---- directions and phases. No `TryFrom` and no one function for both: it would stand in `stream`, which knows no area, and these numbers are the spelling's
 
 // The direction of a number, which is up to 2.
 fn direction_of(number: u64) -> Option<Direction>

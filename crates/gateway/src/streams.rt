@@ -11,8 +11,8 @@ use crate::{area, word};
 use answers::Answer;
 use stream::{Direction, Outcome, Stream};
 
-// Leaves the spelling of an outcome's next state in the area, and gives the word of its answer and rounds. The bound on these is no invariant of `Outcome`, whose fields a
-// caller may set: `stream` and `message` keep it plain.
+// Leaves the spelling of an outcome's next state in the area, and gives the word of its answer and rounds. `Outcome` is a plain struct, whose fields any
+// caller sets, so the bound on the rounds is a clause here and no invariant there.
 fn leave(state: &mut [u8; area::LENGTH], outcome: Outcome) -> u64
     requires { outcome.rounds ≤ 8912928 }
     ensures { left result state.new ≡ left_by outcome }

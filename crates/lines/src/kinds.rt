@@ -27,7 +27,8 @@ pub struct Kind {
     pub value: Value,
 }
 
-// A text of at most 32 bytes as a name, with zeros behind it; the empty name for a longer text.
+// A text of at most 32 bytes as a name, with zeros behind it; the empty name for a longer text. No Option: the definition `named` and row `lines_named` of `every_call` have
+// the empty name there.
 #[tactic(auto, unfolding(crate::specs::Right::named))]
 pub fn named(text: &[u8]) -> Name
     ensures { result ≡ named text.now }

@@ -69,6 +69,7 @@ fn measure(route: Route, text: &[u8]) -> Result<MovedAll, UnmovedAll>
     if !route.is_known() {
         return Err(UnmovedAll::UnknownSet);
     }
+    // No heap: what is written is measured in a place that any record fits.
     let mut scratch = [0; 1706];
     let mut rest = text;
     let mut records = 0;

@@ -52,6 +52,7 @@ fn put_part(verdict: Verdict, out: &mut [u8]) -> usize
 pub fn report(number: u64, verdict: Verdict, out: &mut [u8]) -> Result<usize, NoRoom>
     ensures { report_leaves (reported_of result) out.new ≡ report_call number verdict out.old }
 {
+    // No heap: a number's digits go into a place, of which as many count as were put.
     let mut place = [0; 20];
     let size = digits::put_number(number, &mut place);
     let numeral = &place[..size];

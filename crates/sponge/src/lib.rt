@@ -37,7 +37,7 @@ fn put_byte(w: &mut [u64; 5], place: usize, x: u8)
     w[k] ^= (x as u64) << s;
 }
 
-// Combines the first n bytes of a key into the words from a place on.
+// Combines the first n bytes of a key into the words from a place on. A key comes in 16 bytes, as a stream holds it (there is no heap), of which the set's length counts.
 fn put_key(w: &mut [u64; 5], place: usize, key: [u8; 16], n: usize)
     requires { (place + n ≤ 40) × (n ≤ 16) }
     ensures { w.new ≡ with_bytes w.old place (take n key) }
@@ -85,7 +85,7 @@ fn step(block: usize, run: Run, way: Way, w: &mut [u64; 5], place: &mut usize, c
     gone
 }
 
-// The words after a piece that begins `count` bytes into its data or text.
+// The words after a piece that begins `count` bytes into its data or text. Set, words and count are no struct: rows `sponge_*` of `every_call` have them apart.
 pub fn absorb(set: u64, way: Way, words: [u64; 5], count: usize, piece: &[u8]) -> [u64; 5]
     ensures { result ≡ absorbed (row_of set) way words count piece.now }
 {
@@ -149,7 +149,7 @@ pub fn close_ad(set: u64, words: [u64; 5], count: usize) -> [u64; 5]
     w
 }
 
-// The last n bytes of the words combined with a key's first n, and zeros behind them.
+// The last n bytes of the words combined with a key's first n, and zeros behind them; a key as `put_key` takes it.
 fn masked_end(w: [u64; 5], key: [u8; 16], n: usize) -> [u8; 16]
     requires { n ≤ 16 }
     ensures { result ≡ masked_end w key n }
