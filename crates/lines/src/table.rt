@@ -40,7 +40,8 @@ pub trait Table {
         ensures { result ≡ first self.now };
 
     fn read_line(&self, line: usize, content: &Self::Content, text: &[u8]) -> Result<Line, Stopped>
-        requires { line ≤ count self.now }
+        requires first { 1 ≤ line }
+        requires last { line ≤ count self.now }
         ensures { result ≡ read_at self.now line content.now text.now };
 
     fn with_line(
@@ -50,7 +51,8 @@ pub trait Table {
         says: u64,
         text: &[u8],
     ) -> Self::Content
-        requires { line ≤ count self.now }
+        requires first { 1 ≤ line }
+        requires last { line ≤ count self.now }
         ensures { result ≡ given self.now line content says text.now };
 
     ghost inside: { (table : Self) (line : ℕ) (content : Self.Content) (text : List ℕ) → Inside text (read_at table line content text) };

@@ -9,6 +9,8 @@ use Rattle.record.specs.declared.field.Field.{Field}
 use Rattle.record.specs.declared.form.Form.{Form}
 use Rattle.record.specs.declared.form.Form.TheVariants.{One, Two}
 use Rattle.record.specs.declared.form.Record.{Record}
+use Rattle.record.specs.declared.part.Part.{Part}
+use Rattle.record.specs.declared.part.Part.TheVariants as part
 
 -- ---- fields
 
@@ -25,6 +27,19 @@ unfoldable pub is_field : Field → Bool
 is_field f = leb f.size 256 && same (drop f.size f.bytes) (zeros (256 - f.size))
 
 -- ---- the parts of a record: 1 form, 2 set, 3 chip, 4 key, 5 nonce, 6 ad, 7 text, 8 cipher, 9 tag, 10 rounds; no other number comes up
+
+-- the number of a part of the code's
+abbrev pub number_of : Part → ℕ
+number_of part.Form = 1
+number_of part.Set = 2
+number_of part.Chip = 3
+number_of part.Key = 4
+number_of part.Nonce = 5
+number_of part.Ad = 6
+number_of part.Text = 7
+number_of part.Cipher = 8
+number_of part.Tag = 9
+number_of part.Rounds = 10
 
 -- form 2 has a line for each part, in this order; form 1 has none for the form and for the chip
 abbrev pub part_at : Form → ℕ → ℕ

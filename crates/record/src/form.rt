@@ -1,13 +1,11 @@
-// A record part by part: what each part is called, what it holds, and its rule; and which parts the lines of a form are.
+// A record part by part: what each part holds, and its rule; and which parts the lines of a form are.
 ghost use Rattle.std.specs.Prelude.{◌≡◌, ◌&&◌, ◌≤◌, leb, length};
-ghost use Rattle.lines.specs.Right.{named};
-ghost use Rattle.record.specs.Form.{part_at, lines_in, number_at, field_at, with_number, with_field, blank, value_kind, allows, keeps, broken, loses_chip};
-ghost use Rattle.record.specs.Text.{name, kind_of};
+ghost use Rattle.record.specs.Form.{number_of, part_at, lines_in, number_at, field_at, with_number, with_field, blank, allows, keeps, broken, loses_chip};
 ghost use Rattle.record.specs.Calls.{line_found};
 
 use crate::field::Field;
-use digits::Case;
-use lines::{Kind, Name, Value};
+use crate::part::Part;
+use lines::Value;
 
 // The two forms of a record's text: eight lines, or ten, of which two are for the form itself and for the chip.
 #[derive(Clone, Copy)]
@@ -31,26 +29,52 @@ pub struct Record {
     pub rounds: u64,
 }
 
+// The parts that stand in the lines of form 1.
+const ONE: [Part; 8] = [
+    Part::Set,
+    Part::Key,
+    Part::Nonce,
+    Part::Ad,
+    Part::Text,
+    Part::Cipher,
+    Part::Tag,
+    Part::Rounds,
+];
+
+// The parts that stand in the lines of form 2.
+const TWO: [Part; 10] = [
+    Part::Form,
+    Part::Set,
+    Part::Chip,
+    Part::Key,
+    Part::Nonce,
+    Part::Ad,
+    Part::Text,
+    Part::Cipher,
+    Part::Tag,
+    Part::Rounds,
+];
+
 impl Form {
     // How many lines a form has.
     pub(crate) fn lines(self) -> usize
         ensures { result ≡ lines_in self }
     {
         match self {
-            Form::One => 8,
-            Form::Two => 10,
+            Form::One => ONE.len(),
+            Form::Two => TWO.len(),
         }
     }
 
-    // The part of a record that stands in a line of a form. A part is named by its line in form 2: the definitions (`part_at`, `keeps`) speak of parts by this number.
-    pub(crate) fn part_at(self, line: usize) -> usize
-        requires { line ≤ 10 }
-        ensures { result ≡ part_at self line }
+    // The part of a record that stands in a line of a form.
+    pub(crate) fn part_at(self, line: usize) -> Part
+        requires first { 1 ≤ line }
+        requires last { line ≤ lines_in self }
+        ensures { number_of result ≡ part_at self line }
     {
         match self {
-            Form::One if line == 1 => 2,
-            Form::One => line + 2,
-            Form::Two => line,
+            Form::One => ONE[line - 1],
+            Form::Two => TWO[line - 1],
         }
     }
 
@@ -85,128 +109,87 @@ impl Record {
         }
     }
 
-    // The number of a part that holds one: the set, the chip or the rounds.
-    pub(crate) fn number_at(&self, part: usize) -> u64
-        ensures { result ≡ number_at part self.now }
+    // The number of a part that holds one: the set, the chip or the rounds. Of any other part the definition, which is of every part, gives the rounds.
+    pub(crate) fn number_at(&self, part: Part) -> u64
+        ensures { result ≡ number_at (number_of part) self.now }
     {
         match part {
-            2 => self.set,
-            3 => self.chip,
-            _ => self.rounds,
+            Part::Set => self.set,
+            Part::Chip => self.chip,
+            Part::Rounds => self.rounds,
+            Part::Form
+            | Part::Key
+            | Part::Nonce
+            | Part::Ad
+            | Part::Text
+            | Part::Cipher
+            | Part::Tag => self.rounds,
         }
     }
 
-    // The bytes of a part that holds some.
-    pub(crate) fn field_at(&self, part: usize) -> &Field
-        ensures { result.now ≡ field_at part self.now }
+    // The bytes of a part that holds some. Of any other part the definition, which is of every part, gives the key.
+    pub(crate) fn field_at(&self, part: Part) -> &Field
+        ensures { result.now ≡ field_at (number_of part) self.now }
     {
         match part {
-            5 => &self.nonce,
-            6 => &self.ad,
-            7 => &self.text,
-            8 => &self.cipher,
-            9 => &self.tag,
-            _ => &self.key,
+            Part::Key => &self.key,
+            Part::Nonce => &self.nonce,
+            Part::Ad => &self.ad,
+            Part::Text => &self.text,
+            Part::Cipher => &self.cipher,
+            Part::Tag => &self.tag,
+            Part::Form | Part::Set | Part::Chip | Part::Rounds => &self.key,
         }
     }
 
-    // A record with another number in a part.
+    // A record with another number in a part that holds one.
     #[tactic(auto, unfolding(crate::specs::Form::with_number))]
-    pub(crate) fn with_number(self, part: usize, n: u64) -> Record
-        ensures { result ≡ with_number part n self }
+    pub(crate) fn with_number(self, part: Part, n: u64) -> Record
+        ensures { result ≡ with_number (number_of part) n self }
     {
         match part {
-            2 => Record { set: n, ..self },
-            3 => Record { chip: n, ..self },
-            10 => Record { rounds: n, ..self },
+            Part::Set => Record { set: n, ..self },
+            Part::Chip => Record { chip: n, ..self },
+            Part::Rounds => Record { rounds: n, ..self },
             _ => self,
         }
     }
 
-    // A record with other bytes in a part.
+    // A record with other bytes in a part that holds some.
     #[tactic(auto, unfolding(crate::specs::Form::with_field))]
-    pub(crate) fn with_field(self, part: usize, field: Field) -> Record
-        ensures { result ≡ with_field part field self }
+    pub(crate) fn with_field(self, part: Part, field: Field) -> Record
+        ensures { result ≡ with_field (number_of part) field self }
     {
         match part {
-            4 => Record { key: field, ..self },
-            5 => Record {
+            Part::Key => Record { key: field, ..self },
+            Part::Nonce => Record {
                 nonce: field,
                 ..self
             },
-            6 => Record { ad: field, ..self },
-            7 => Record {
+            Part::Ad => Record { ad: field, ..self },
+            Part::Text => Record {
                 text: field,
                 ..self
             },
-            8 => Record {
+            Part::Cipher => Record {
                 cipher: field,
                 ..self
             },
-            9 => Record { tag: field, ..self },
+            Part::Tag => Record { tag: field, ..self },
             _ => self,
         }
     }
 
     // Whether a part holds what it may.
     #[tactic(auto, unfolding(crate::specs::Form::keeps))]
-    pub(crate) fn keeps_rule(&self, part: usize) -> bool
-        ensures { result ≡ keeps part self.now }
+    pub(crate) fn keeps_rule(&self, part: Part) -> bool
+        ensures { result ≡ keeps (number_of part) self.now }
     {
         is_allowed(
-            value_of(part, self.set),
+            part.value(self.set),
             self.number_at(part),
             self.field_at(part),
         )
-    }
-}
-
-// The name of a part, with which its line begins; that of the form is its whole line.
-#[tactic(auto, unfolding(crate::specs::Text::name, crate::specs::Text::names))]
-pub(crate) fn name_of(part: usize) -> Name
-    ensures { result ≡ named (name part) }
-{
-    match part {
-        2 => lines::named(b"set="),
-        3 => lines::named(b"chip="),
-        4 => lines::named(b"key="),
-        5 => lines::named(b"nonce="),
-        6 => lines::named(b"ad="),
-        7 => lines::named(b"text="),
-        8 => lines::named(b"cipher="),
-        9 => lines::named(b"tag="),
-        10 => lines::named(b"rounds="),
-        _ => lines::named(b"form=2"),
-    }
-}
-
-// What a part may hold, where the set is this.
-#[tactic(auto, using(sets::proofs::Rows::row_sizes), unfolding(crate::specs::Form::value_kind, ascon::specs::Sets::table))]
-pub(crate) fn value_of(part: usize, set: u64) -> Value
-    ensures { result ≡ value_kind part set }
-{
-    match part {
-        1 => Value::Fixed(2),
-        2 => Value::Number(1, sets::ROWS as u64),
-        3 => Value::Number(0, 65535),
-        10 => Value::Number(0, 9999999),
-        4 | 5 | 9 => {
-            // A cast, since a length always fits: `try_from` would make a refusal that never comes.
-            let key = sets::key_length(set) as u16;
-            Value::Bytes(key, key, Case::Lower)
-        }
-        _ => Value::Bytes(0, 256, Case::Lower),
-    }
-}
-
-// The kind of a part's line, where the set is this.
-#[tactic(auto, unfolding(crate::specs::Text::kind_of))]
-pub(crate) fn kind_of(part: usize, set: u64) -> Kind
-    ensures { result ≡ kind_of part set }
-{
-    Kind {
-        name: name_of(part),
-        value: value_of(part, set),
     }
 }
 
@@ -216,11 +199,9 @@ fn is_allowed(value: Value, n: u64, field: &Field) -> bool
 {
     match value {
         Value::Fixed(_) => true,
-        Value::Number(least, most) => least <= n && n <= most,
+        Value::Number(least, most) => (least..=most).contains(&n),
         Value::Bytes(least, most, _) => {
-            field.is_in_form()
-                && usize::from(least) <= field.size
-                && field.size <= usize::from(most)
+            field.is_in_form() && (usize::from(least)..=usize::from(most)).contains(&field.size)
         }
     }
 }

@@ -4,6 +4,7 @@
 
 mod field;
 mod form;
+mod kept;
 mod part;
 mod reading;
 mod writing;

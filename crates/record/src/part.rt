@@ -1,62 +1,74 @@
-// A part of a record in form, and its line.
-ghost use Rattle.std.specs.Prelude.{◌≡◌, true, length};
-ghost use Rattle.digits.specs.Room.{laid, put};
-ghost use Rattle.record.specs.Form.{keeps};
-ghost use Rattle.record.specs.Text.{value_text, line_text};
+// The parts of a record: what each is called, and what it may hold.
+ghost use Rattle.std.specs.Prelude.{◌≡◌};
+ghost use Rattle.lines.specs.Right.{named};
+ghost use Rattle.record.specs.Form.{number_of, value_kind};
+ghost use Rattle.record.specs.Text.{name, kind_of};
 
-use crate::form;
-use crate::form::Record;
-use lines::Value;
+use digits::Case;
+use lines::{Kind, Name, Value};
 
-// A part of a record that keeps its rule.
+// The parts of a record, in the order of form 2's lines; the first is the form's own word. The definitions (`part_at`, `keeps`) speak of them by number, 1 to 10.
 #[derive(Clone, Copy)]
-pub(crate) struct Part<'a> {
-    pub(crate) number: usize,
-    pub(crate) entry: &'a Record,
-    ghost keeps: { keeps number entry.now ≡ true },
+pub(crate) enum Part {
+    Form,
+    Set,
+    Chip,
+    Key,
+    Nonce,
+    Ad,
+    Text,
+    Cipher,
+    Tag,
+    Rounds,
 }
 
-impl Part<'_> {
-    // How many digits stand behind its name.
-    fn value_length(&self) -> usize
-        ensures { result ≡ length (value_text self.now.number self.now.entry.now) }
+impl Part {
+    // The name of a part, with which its line begins; that of the form is its whole line.
+    #[tactic(auto, unfolding(crate::specs::Text::name, crate::specs::Text::names))]
+    pub(crate) fn name(self) -> Name
+        ensures { result ≡ named (name (number_of self)) }
     {
-        match form::value_of(self.number, self.entry.set) {
-            Value::Fixed(_) => 0,
-            Value::Number(_, _) => digits::number_length(self.entry.number_at(self.number)),
-            Value::Bytes(_, _, _) => 2 * self.entry.field_at(self.number).held().len(),
+        match self {
+            Part::Form => lines::named(b"form=2"),
+            Part::Set => lines::named(b"set="),
+            Part::Chip => lines::named(b"chip="),
+            Part::Key => lines::named(b"key="),
+            Part::Nonce => lines::named(b"nonce="),
+            Part::Ad => lines::named(b"ad="),
+            Part::Text => lines::named(b"text="),
+            Part::Cipher => lines::named(b"cipher="),
+            Part::Tag => lines::named(b"tag="),
+            Part::Rounds => lines::named(b"rounds="),
         }
     }
 
-    // Puts those digits at the beginning of a place, and gives how many.
-    fn put_value(&self, out: &mut [u8]) -> usize
-        ensures { laid result out.new ≡ put (value_text self.now.number self.now.entry.now) out.old }
+    // What a part may hold, where the set is this.
+    #[tactic(auto, using(sets::proofs::Rows::row_sizes), unfolding(crate::specs::Form::value_kind, ascon::specs::Sets::table))]
+    pub(crate) fn value(self, set: u64) -> Value
+        ensures { result ≡ value_kind (number_of self) set }
     {
-        match form::value_of(self.number, self.entry.set) {
-            Value::Fixed(_) => 0,
-            Value::Number(_, _) => digits::put_number(self.entry.number_at(self.number), out),
-            Value::Bytes(_, _, case) => digits::put_bytes(
-                case,
-                self.entry.field_at(self.number).held(),
-                out,
-            ),
+        match self {
+            Part::Form => Value::Fixed(2),
+            Part::Set => Value::Number(1, sets::ROWS as u64),
+            Part::Chip => Value::Number(0, 65535),
+            Part::Rounds => Value::Number(0, 9999999),
+            Part::Key | Part::Nonce | Part::Tag => {
+                // A cast, since a length always fits: `try_from` would make a refusal that never comes.
+                let key = sets::key_length(set) as u16;
+                Value::Bytes(key, key, Case::Lower)
+            }
+            Part::Ad | Part::Text | Part::Cipher => Value::Bytes(0, 256, Case::Lower),
         }
     }
 
-    // How many bytes its line has.
-    pub(crate) fn line_length(&self) -> usize
-        ensures { result ≡ length (line_text self.now.number self.now.entry.now) }
+    // The kind of a part's line, where the set is this.
+    #[tactic(auto, unfolding(crate::specs::Text::kind_of))]
+    pub(crate) fn kind(self, set: u64) -> Kind
+        ensures { result ≡ kind_of (number_of self) set }
     {
-        form::name_of(self.number).size + self.value_length() + 1
-    }
-
-    // Puts its line at the beginning of a place, and gives its length; a place too short for it stays as it is, and the length is 0.
-    pub(crate) fn put_line(&self, out: &mut [u8]) -> usize
-        ensures { laid result out.new ≡ put (line_text self.now.number self.now.entry.now) out.old }
-    {
-        let name = form::name_of(self.number);
-        let mut value = [0; 512];
-        let count = self.put_value(&mut value);
-        digits::put_line(&name.bytes[..name.size], &value[..count], out)
+        Kind {
+            name: self.name(),
+            value: self.value(set),
+        }
     }
 }

@@ -1,20 +1,21 @@
 // Reading a record: line by line, by the table of its form.
 ghost use Rattle.std.specs.Prelude.{◌≡◌};
 ghost use Rattle.lines.proofs.Inside.{read_inside};
-ghost use Rattle.record.specs.Form.{part_at, lines_in, blank};
+ghost use Rattle.record.specs.Form.{number_of, part_at, lines_in, blank};
 ghost use Rattle.record.specs.Text.{kind_of};
 ghost use Rattle.record.specs.Calls.{with_value, read_at, given, reading_of, read_call, form_of, inside_mark, read_any};
 
+use crate::field;
 use crate::form::{Form, Record};
-use crate::{field, form};
+use crate::part::Part;
 use lines::{Line, Read, Stopped, Table, Unread, Value};
 
 // A record with what a line says in a part: nothing, the number, or the bytes of the digits.
 #[tactic(auto, unfolding(crate::specs::Calls::with_value))]
-fn with_value(part: usize, entry: Record, number: u64, digits: &[u8]) -> Record
-    ensures { result ≡ with_value part entry number digits.now }
+fn with_value(part: Part, entry: Record, number: u64, digits: &[u8]) -> Record
+    ensures { result ≡ with_value (number_of part) entry number digits.now }
 {
-    match form::value_of(part, entry.set) {
+    match part.value(entry.set) {
         Value::Fixed(_) => entry,
         Value::Number(_, _) => entry.with_number(part, number),
         Value::Bytes(_, _, case) => entry.with_field(part, field::read_field(case, digits)),
@@ -49,13 +50,13 @@ impl Table for FormTable {
     }
 
     fn read_line(&self, line: usize, entry: &Record, text: &[u8]) -> Result<Line, Stopped> {
-        lines::read(form::kind_of(self.form.part_at(line), entry.set), text)
+        lines::read(self.form.part_at(line).kind(entry.set), text)
     }
 
     #[tactic(auto, unfolding(crate::specs::Calls::given))]
     fn with_line(&self, line: usize, entry: Record, says: u64, text: &[u8]) -> Record {
         let part = self.form.part_at(line);
-        let kind = form::kind_of(part, entry.set);
+        let kind = part.kind(entry.set);
         with_value(part, entry, says, lines::value_in(kind, text))
     }
 }

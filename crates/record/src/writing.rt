@@ -6,7 +6,7 @@ ghost use Rattle.record.specs.Calls.{writing_of, write_leaves, write_call};
 
 use crate::form;
 use crate::form::{Form, Record};
-use crate::part::Part;
+use crate::kept::Kept;
 
 // Why a record is not written: its first broken line, a chip that would be lost, or a place too short.
 #[derive(Clone, Copy)]
@@ -23,11 +23,11 @@ fn text_length(form: Form, entry: &Record) -> usize
 {
     let mut size = 0;
     for line in 1..=form.lines() {
-        let part = Part {
-            number: form.part_at(line),
+        let kept = Kept {
+            part: form.part_at(line),
             entry,
         };
-        size += part.line_length();
+        size += kept.line_length();
     }
     size
 }
@@ -47,11 +47,11 @@ pub fn write(form: Form, entry: Record, out: &mut [u8]) -> Result<usize, Unwritt
     }
     let mut at = 0;
     for line in 1..=form.lines() {
-        let part = Part {
-            number: form.part_at(line),
+        let kept = Kept {
+            part: form.part_at(line),
             entry: &entry,
         };
-        at += part.put_line(&mut out[at..]);
+        at += kept.put_line(&mut out[at..]);
     }
     Ok(at)
 }

@@ -32,8 +32,8 @@ counted c =
 pub loop-line-init : goal.loop-line-init
 loop-line-init c = omega (arith, ap length (text_all c.args.form c.args.entry.now))
 
-pub invariant_of-part : goal.invariant_of-part
-invariant_of-part c =
+pub invariant_of-kept : goal.invariant_of-kept
+invariant_of-kept c =
     let a = c.args in
     let rule = in_form_rule a.form a.entry.now c.requires c.loop-line.line (omega arith) (omega (arith, c.lines-line-end.ensures)) in
     record { keeps = ap (λ (part : ℕ). keeps part a.entry.now) c.part_at.ensures ∙ rule }

@@ -75,10 +75,10 @@ loop-line-init c =
       done = sym (put_fits [] c.args.out.now (omega arith));
     }
 
-pub invariant_of-part : goal.invariant_of-part
-invariant_of-part c =
+pub invariant_of-kept : goal.invariant_of-kept
+invariant_of-kept c =
     let a = c.args in
-    let rule = in_form_rule a.form a.entry (whole (goal.at.invariant_of-part c).In_default) c.loop-line.line (omega arith) (omega (arith, c.lines-line-end.ensures)) in
+    let rule = in_form_rule a.form a.entry (whole (goal.at.invariant_of-kept c).In_default) c.loop-line.line (omega arith) (omega (arith, c.lines-line-end.ensures)) in
     record { keeps = ap (λ (part : ℕ). keeps part a.entry) c.part_at.ensures ∙ rule }
 
 pub overflow_add-at : goal.overflow_add-at
