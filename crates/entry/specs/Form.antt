@@ -14,12 +14,24 @@ use Rattle.lines.specs.Right.{named}
 use Rattle.lines.specs.Texts.{text_from}
 use Rattle.record.specs.declared.form.Record.{Record}
 use Rattle.record.specs.Form.{held}
+use Rattle.entry.specs.declared.form.Part.{Part}
+use Rattle.entry.specs.declared.form.Part.TheVariants as part
 
 -- the largest number of an entry: that of 64 bits
 abbrev pub largest_number : ℕ
 largest_number = 18_446_744_073_709_551_615
 
 -- ---- the table
+
+-- the number of the line in which a part of the code's stands
+abbrev pub number_of : Part → ℕ
+number_of part.Count = 1
+number_of part.Key = 2
+number_of part.Nonce = 3
+number_of part.Pt = 4
+number_of part.Ad = 5
+number_of part.Ct = 6
+number_of part.End = 7
 
 -- what each line begins with, in the entry of this number; the first line is no more than that, and the last is empty
 unfoldable pub name : ℕ → ℕ → List ℕ

@@ -3,10 +3,10 @@ ghost use Rattle.std.specs.Prelude.{◌≡◌, ◌-◌, ◌*◌, ◌≤◌};
 ghost use Rattle.ascon.specs.Sets.{row_of};
 ghost use Rattle.entry.specs.declared.reading.Unread.TheVariants.{Broken};
 ghost use Rattle.lines.proofs.Inside.{read_inside};
-ghost use Rattle.entry.specs.Form.{kind_at};
+ghost use Rattle.entry.specs.Form.{number_of, kind_at};
 ghost use Rattle.entry.specs.Calls.{with_line, begun, rounded, read_at, given, reading_of, read_entry};
 
-use crate::form;
+use crate::form::Part;
 use digits::Case;
 use lines::{Line, Read, Stopped, Table};
 use record::Record;
@@ -56,27 +56,27 @@ fn cipher_digits(set: u64, count: usize) -> usize
 
 // A record with the bytes of a line's digits.
 #[tactic(auto, unfolding(crate::specs::Calls::with_line))]
-fn with_line(line: usize, entry: Record, digits: &[u8]) -> Record
-    ensures { result ≡ with_line line entry digits.now }
+fn with_line(part: Part, entry: Record, digits: &[u8]) -> Record
+    ensures { result ≡ with_line (number_of part) entry digits.now }
 {
-    match line {
-        2 => Record {
+    match part {
+        Part::Key => Record {
             key: record::read_field(Case::Upper, digits),
             ..entry
         },
-        3 => Record {
+        Part::Nonce => Record {
             nonce: record::read_field(Case::Upper, digits),
             ..entry
         },
-        4 => Record {
+        Part::Pt => Record {
             text: record::read_field(Case::Upper, digits),
             ..entry
         },
-        5 => Record {
+        Part::Ad => Record {
             ad: record::read_field(Case::Upper, digits),
             ..entry
         },
-        6 => {
+        Part::Ct => {
             let (cipher, tag) = digits.split_at(cipher_digits(entry.set, digits.len()));
             Record {
                 cipher: record::read_field(Case::Upper, cipher),
@@ -84,7 +84,7 @@ fn with_line(line: usize, entry: Record, digits: &[u8]) -> Record
                 ..entry
             }
         }
-        _ => entry,
+        Part::Count | Part::End => entry,
     }
 }
 
@@ -130,13 +130,14 @@ impl Table for EntryTable {
     }
 
     fn read_line(&self, line: usize, _entry: &Record, text: &[u8]) -> Result<Line, Stopped> {
-        lines::read(form::kind_at(self.set, self.number, line), text)
+        lines::read(Part::at(line).kind(self.set, self.number), text)
     }
 
     #[tactic(auto, unfolding(crate::specs::Calls::given))]
     fn with_line(&self, line: usize, entry: Record, _says: u64, text: &[u8]) -> Record {
-        let kind = form::kind_at(self.set, self.number, line);
-        with_line(line, entry, lines::value_in(kind, text))
+        let part = Part::at(line);
+        let kind = part.kind(self.set, self.number);
+        with_line(part, entry, lines::value_in(kind, text))
     }
 }
 

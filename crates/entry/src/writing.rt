@@ -6,35 +6,34 @@ ghost use Rattle.digits.specs.Room.{laid, put};
 ghost use Rattle.record.specs.declared.form.Form.TheVariants.{One};
 ghost use Rattle.record.specs.Form.{field_of, held, broken};
 ghost use Rattle.record.specs.Calls.{writing_of, write_leaves};
-ghost use Rattle.entry.specs.Form.{bytes_at, line_text, entry_text};
+ghost use Rattle.entry.specs.Form.{number_of, bytes_at, line_text, entry_text};
 ghost use Rattle.entry.specs.Calls.{write_entry};
 
-use crate::form;
+use crate::form::{PARTS, Part};
 use digits::Case;
 use record::{Field, Form, Record, Unwritten};
 
 // The field of a record that stands behind the name of a line; the empty one where none does.
-fn first_field(line: usize, entry: &Record) -> Field
-    ensures { result ≡ get_or (field_of [] ∷ entry.now.key ∷ entry.now.nonce ∷ entry.now.text ∷ entry.now.ad ∷ entry.now.cipher ∷ []) (line - 1) (field_of []) }
+fn first_field(part: Part, entry: &Record) -> Field
+    ensures { result ≡ get_or (field_of [] ∷ entry.now.key ∷ entry.now.nonce ∷ entry.now.text ∷ entry.now.ad ∷ entry.now.cipher ∷ []) (number_of part - 1) (field_of []) }
 {
-    match line {
-        2 => entry.key,
-        3 => entry.nonce,
-        4 => entry.text,
-        5 => entry.ad,
-        6 => entry.cipher,
-        _ => record::read_field(Case::Upper, b""),
+    match part {
+        Part::Key => entry.key,
+        Part::Nonce => entry.nonce,
+        Part::Pt => entry.text,
+        Part::Ad => entry.ad,
+        Part::Ct => entry.cipher,
+        Part::Count | Part::End => record::read_field(Case::Upper, b""),
     }
 }
 
 // The field behind that: the tag behind the ciphertext.
-fn second_field(line: usize, entry: &Record) -> Field
-    ensures { result ≡ cond (eqb line 6) entry.now.tag (field_of []) }
+fn second_field(part: Part, entry: &Record) -> Field
+    ensures { result ≡ cond (eqb (number_of part) 6) entry.now.tag (field_of []) }
 {
-    if line == 6 {
-        entry.tag
-    } else {
-        record::read_field(Case::Upper, b"")
+    match part {
+        Part::Ct => entry.tag,
+        _ => record::read_field(Case::Upper, b""),
     }
 }
 
@@ -56,22 +55,22 @@ struct Entry {
 
 impl Entry {
     // Puts the digits of a line at the beginning of a place that has room for them, and gives how many.
-    fn put_value(&self, line: usize, out: &mut [u8]) -> usize
+    fn put_value(&self, part: Part, out: &mut [u8]) -> usize
         requires { 544 ≤ length out.old }
-        ensures { laid result out.new ≡ put (hex_in Upper (bytes_at line self.now.content)) out.old }
+        ensures { laid result out.new ≡ put (hex_in Upper (bytes_at (number_of part) self.now.content)) out.old }
     {
-        let first = put_field(first_field(line, &self.content), out);
-        first + put_field(second_field(line, &self.content), &mut out[first..])
+        let first = put_field(first_field(part, &self.content), out);
+        first + put_field(second_field(part, &self.content), &mut out[first..])
     }
 
     // Puts a line at the beginning of a place, and gives its length; a place too short for it stays as it is, and the length is 0.
-    fn put_line(&self, line: usize, out: &mut [u8]) -> usize
-        ensures { laid result out.new ≡ put (line_text self.now.number line self.now.content) out.old }
+    fn put_line(&self, part: Part, out: &mut [u8]) -> usize
+        ensures { laid result out.new ≡ put (line_text self.now.number (number_of part) self.now.content) out.old }
     {
-        let name = form::name_of(self.number, line);
+        let name = part.name(self.number);
         // No heap: the digits stand in an array, `count` of them.
         let mut value = [0; 544];
-        let count = self.put_value(line, &mut value);
+        let count = self.put_value(part, &mut value);
         digits::put_line(&name.bytes[..name.size], &value[..count], out)
     }
 
@@ -81,8 +80,8 @@ impl Entry {
         ensures { laid result out.new ≡ put (entry_text self.now.number self.now.content) out.old }
     {
         let mut at = 0;
-        for line in 1..8 {
-            at += self.put_line(line, &mut out[at..]);
+        for part in PARTS {
+            at += self.put_line(part, &mut out[at..]);
         }
         at
     }

@@ -1,15 +1,18 @@
+-- `entry::writing::Entry::put_lines` meets its contract.
 use mathlib.Core.Path.{◌≡◌, refl, sym, ap, ◌∙◌}
-use mathlib.Core.List.{List, [], ◌++◌, append_assoc}
-use Prim.Native.Nat.{ℕ, suc, ◌+◌, ◌-◌, ◌≤◌, ◌<◌}
+use mathlib.Core.List.{List, [], ◌∷◌, ◌++◌, append_assoc}
+use Prim.Native.Nat.{ℕ, zero, suc, ◌+◌, ◌-◌, ◌≤◌, ◌<◌}
 use native.Mathlib.Omega.{arith}
-use lib.ListN.{length, take, drop, length-append}
+use lib.ListN.{length, get_or, take, drop, length-append}
 use Rattle.digits.specs.Room.{laid, put}
 use Rattle.digits.proofs.Room.{put_fits, put_inside, behind, put_after}
 use Rattle.lines.specs.Texts.{text_from}
 use Rattle.record.specs.declared.form.Record.{Record}
-use Rattle.entry.specs.Form.{line_text, entry_text}
+use Rattle.entry.specs.declared.form.Part.TheVariants.{Count, Key, Nonce, Pt, Ad, Ct, End}
+use Rattle.entry.specs.Form.{number_of, line_text, entry_text}
 use Rattle.entry.proofs.writing.Entry.put_lines.Invariants.{Left}
 use Rattle.entry.proofs.writing.Entry.put_lines.Goals as goal
+use Rattle.entry.proofs.writing.Entry.put_lines.Goals.{After-put_line-at}
 
 module _ (number : ℕ) (r : Record) (before out : List ℕ) (at line : ℕ) (left : Left number r before out at line) (h : line < 8)
     (room : length (entry_text number r) ≤ length before) where
@@ -37,26 +40,43 @@ module _ (number : ℕ) (r : Record) (before out : List ℕ) (at line : ℕ) (le
         done = put_after left.earlier (line_text number line r) before out part at n left.done (omega (arith, ap length parts, length-append passed later)) e;
       }
 
-pub loop-line-init : goal.loop-line-init
+-- the parts stand in the order of the lines
+numbered : (i : ℕ) → i < 7 → number_of (get_or (Count ∷ Key ∷ Nonce ∷ Pt ∷ Ad ∷ Ct ∷ End ∷ []) i Count) ≡ i + 1
+numbered zero h = refl
+numbered (suc zero) h = refl
+numbered (suc (suc zero)) h = refl
+numbered (suc (suc (suc zero))) h = refl
+numbered (suc (suc (suc (suc zero)))) h = refl
+numbered (suc (suc (suc (suc (suc zero))))) h = refl
+numbered (suc (suc (suc (suc (suc (suc zero)))))) h = refl
+numbered (suc (suc (suc (suc (suc (suc (suc i))))))) h = absurd (omega arith)
+
+pub loop-part-init : goal.loop-part-init
 unfolding entry_text
-loop-line-init c = record { earlier = []; whole = refl; done = sym (put_fits [] c.args.out.now (omega arith)) }
+loop-part-init c = record { earlier = []; whole = refl; done = sym (put_fits [] c.args.out.now (omega arith)) }
 
 pub slice_bounds-put_line-count : goal.slice_bounds-put_line-count
-slice_bounds-put_line-count c = (put_inside _ _ _ _ c.loop-line.invariant.done).0
+slice_bounds-put_line-count c = (put_inside _ _ _ _ c.loop-part.invariant.done).0
 
 pub slice_bounds-put_line-start : goal.slice_bounds-put_line-start
-slice_bounds-put_line-start c = (put_inside _ _ _ _ c.loop-line.invariant.done).0
+slice_bounds-put_line-start c = (put_inside _ _ _ _ c.loop-part.invariant.done).0
+
+-- what holds behind a line put
+line-put : (c : After-put_line-at) → let l = c.loop-part in
+    let a = c.args in
+    Left a.self.now.number a.self.now.content a.out.now (behind l.at l.out c.put_line-at.new.out) (l.at + c.put_line-at.result) (l.part-index + 1 + 1)
+line-put c =
+    let l = c.loop-part in
+    let a = c.args in
+    let number = a.self.now.number in
+    let entry = a.self.now.content in
+    one_more number entry a.out.now l.out l.at (l.part-index + 1) l.invariant (omega (arith, c.loop-part-test.true)) c.requires _ _
+    (c.put_line-at.ensures ∙ ap (λ (k : ℕ). put (line_text number k entry) (take (length l.out - l.at) (drop l.at l.out))) (numbered l.part-index c.loop-part-test.true))
 
 pub overflow_add-at : goal.overflow_add-at
 overflow_add-at c =
-    let l = c.loop-line in
-    let a = c.args in
-    let more = one_more a.self.now.number a.self.now.content a.out.now l.out l.at l.line l.invariant c.loop-line-test.true c.requires _ _ c.put_line-at.ensures in
-    let inside = put_inside _ _ _ _ more.done in
+    let inside = put_inside _ _ _ _ (line-put (goal.at.overflow_add-at c).After-put_line-at).done in
     record { fits = omega (arith, inside.0, inside.1, c.well_formed.1.0.0) }
 
-pub loop-line-preserved : goal.loop-line-preserved
-loop-line-preserved c =
-    let l = c.loop-line in
-    let a = c.args in
-    one_more a.self.now.number a.self.now.content a.out.now l.out l.at l.line l.invariant c.loop-line-test.true c.requires _ _ c.put_line-at.ensures
+pub loop-part-preserved : goal.loop-part-preserved
+loop-part-preserved c = line-put (goal.at.loop-part-preserved c).After-put_line-at

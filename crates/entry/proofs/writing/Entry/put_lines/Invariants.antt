@@ -1,7 +1,7 @@
 -- `entry::writing::Entry::put_lines` meets its contract. The loop's invariant: the lines before stand in the place, and with those left they are the entry.
 use mathlib.Core.Path.{◌≡◌}
 use mathlib.Core.List.{List, ◌++◌}
-use Prim.Native.Nat.{ℕ, ◌-◌}
+use Prim.Native.Nat.{ℕ, ◌+◌, ◌-◌}
 use Rattle.digits.specs.Room.{laid, put}
 use Rattle.lines.specs.Texts.{text_from}
 use Rattle.record.specs.declared.form.Record.{Record}
@@ -14,5 +14,5 @@ pub record Left (number : ℕ) (r : Record) (before out : List ℕ) (at line : �
   pub whole : earlier ++ text_from (line_text number) (8 - line) line r ≡ entry_text number r
   pub done : laid at out ≡ put earlier before
 
-abbrev pub invariant-loop-line : goal.invariant-loop-line
-invariant-loop-line l = Left l.self.number l.self.content l.initial.out l.out l.at l.line
+abbrev pub invariant-loop-part : goal.invariant-loop-part
+invariant-loop-part l = Left l.self.number l.self.content l.initial.out l.out l.at (l.part-index + 1)

@@ -13,7 +13,7 @@ use Rattle.record.specs.declared.field.Field.{Field}
 use Rattle.record.specs.declared.form.Form.TheVariants.{One}
 use Rattle.record.specs.declared.form.Record.{Record}
 use Rattle.record.specs.Form.{held, broken}
-use Rattle.entry.specs.Form.{bytes_at}
+use Rattle.entry.specs.Form.{number_of, bytes_at}
 use Rattle.entry.proofs.Bounds.{first_at, second_at, bytes_two, first_few, second_few, digits_few}
 use Rattle.entry.proofs.writing.Entry.put_value.Goals as goal
 
@@ -33,7 +33,7 @@ both-put line r out between after m n first second in_form room is-first is-seco
 
 pub put_field-first-requires : goal.put_field-first-requires
 put_field-first-requires c =
-    omega (arith, ap (λ (x : Field). x.size) c.first_field.ensures, first_few c.args.self.now.content c.args.self.now.in_form c.args.line)
+    omega (arith, ap (λ (x : Field). x.size) c.first_field.ensures, first_few c.args.self.now.content c.args.self.now.in_form (number_of c.args.part))
 
 pub slice_bounds-put_field-count : goal.slice_bounds-put_field-count
 slice_bounds-put_field-count c = (put_inside _ _ _ _ c.put_field-first.ensures).0
@@ -43,16 +43,16 @@ slice_bounds-put_field-start c = (put_inside _ _ _ _ c.put_field-first.ensures).
 
 pub put_field-requires : goal.put_field-requires
 put_field-requires c =
-    omega (arith, ap (λ (x : Field). x.size) c.second_field.ensures, second_few c.args.self.now.content c.args.self.now.in_form c.args.line)
+    omega (arith, ap (λ (x : Field). x.size) c.second_field.ensures, second_few c.args.self.now.content c.args.self.now.in_form (number_of c.args.part))
 
 pub returns : goal.returns
 returns c =
     let a = c.args in
-    both-put a.line a.self.now.content a.out.now _ _ _ _ _ _ a.self.now.in_form c.requires c.first_field.ensures c.second_field.ensures c.put_field-first.ensures c.put_field.ensures
+    both-put (number_of a.part) a.self.now.content a.out.now _ _ _ _ _ _ a.self.now.in_form c.requires c.first_field.ensures c.second_field.ensures c.put_field-first.ensures c.put_field.ensures
 
 pub overflow_add-result : goal.overflow_add-result
 overflow_add-result c =
     let a = c.args in
-    let done = both-put a.line a.self.now.content a.out.now _ _ _ _ _ _ a.self.now.in_form c.requires c.first_field.ensures c.second_field.ensures c.put_field-first.ensures c.put_field.ensures in
+    let done = both-put (number_of a.part) a.self.now.content a.out.now _ _ _ _ _ _ a.self.now.in_form c.requires c.first_field.ensures c.second_field.ensures c.put_field-first.ensures c.put_field.ensures in
     let h = put_inside _ _ _ _ done in
     record { fits = omega (arith, h.0, h.1, c.well_formed.1.1.0.0) }
