@@ -15,6 +15,8 @@ use Rattle.record.specs.Form.{field_of, held}
 use Rattle.chip_log.specs.declared.form.Call.{Call}
 use Rattle.chip_log.specs.declared.form.Call.TheVariants.{Start1, Start2, Ad, Text, Finish}
 use Rattle.chip_log.specs.declared.form.Entry.{Entry}
+use Rattle.chip_log.specs.declared.form.Part.{Part}
+use Rattle.chip_log.specs.declared.form.Part.TheVariants as part
 
 -- ---- the calls
 
@@ -39,6 +41,14 @@ data_kind Text = Bytes 0 256 Lower
 data_kind Finish = Bytes 0 0 Lower
 
 -- ---- the table
+
+-- the number of the line in which a part of the code's stands
+abbrev pub number_of : Part → ℕ
+number_of part.Call = 1
+number_of part.Data = 2
+number_of part.Answer = 3
+number_of part.Out = 4
+number_of part.Rounds = 5
 
 -- what a line behind the first begins with
 abbrev pub name : ℕ → List ℕ

@@ -1,8 +1,8 @@
 // An entry of the log line by line: what each line is called, and what it holds.
-ghost use Rattle.std.specs.Prelude.{◌≡◌, ◌++◌};
+ghost use Rattle.std.specs.Prelude.{◌≡◌, ◌++◌, ◌≤◌};
 ghost use Rattle.digits.specs.Ascii.{ascii};
 ghost use Rattle.lines.specs.Right.{named};
-ghost use Rattle.chip_log.specs.Form.{word_of, call_kind, start_data, data_kind, name, value_kind, kind_at};
+ghost use Rattle.chip_log.specs.Form.{number_of, word_of, call_kind, start_data, data_kind, name, value_kind, kind_at};
 ghost use Rattle.chip_log.specs.Calls.{call_of, read_call, read_line};
 
 use digits::Case;
@@ -39,15 +39,45 @@ fn start_data(set: u64) -> Value
     Value::Bytes(size, size, Case::Lower)
 }
 
-// The name of a line behind the first, with which it begins. Lines go by their numbers and no enum, since a refusal tells the number and `lines_from` counts them.
-fn name_of(line: usize) -> Name
-    ensures { result ≡ named (name line) }
-{
-    match line {
-        2 => lines::named(b"data="),
-        3 => lines::named(b"answer="),
-        4 => lines::named(b"out="),
-        _ => lines::named(b"rounds="),
+// What stands in the lines of an entry. The definitions (`name`, `value_kind`) speak of it by the line's number, 1 to 5.
+#[derive(Clone, Copy)]
+pub(crate) enum Part {
+    Call,
+    Data,
+    Answer,
+    Out,
+    Rounds,
+}
+
+// The same in the order of the lines.
+const PARTS: [Part; 5] = [
+    Part::Call,
+    Part::Data,
+    Part::Answer,
+    Part::Out,
+    Part::Rounds,
+];
+
+impl Part {
+    // What stands in a line.
+    pub(crate) fn at(line: usize) -> Part
+        requires first { 1 ≤ line }
+        requires last { line ≤ 5 }
+        ensures { number_of result ≡ line }
+    {
+        PARTS[line - 1]
+    }
+
+    // The name of a line behind the first, with which it begins. Of the first, which has that of its call, the definition gives the last's.
+    fn name(self) -> Name
+        ensures { result ≡ named (name (number_of self)) }
+    {
+        match self {
+            Part::Data => lines::named(b"data="),
+            Part::Answer => lines::named(b"answer="),
+            Part::Out => lines::named(b"out="),
+            Part::Rounds | Part::Call => lines::named(b"rounds="),
+        }
     }
 }
 
@@ -88,25 +118,25 @@ impl Call {
         }
     }
 
-    // What may stand behind the name of a line.
-    fn value_of(self, line: usize) -> Value
-        ensures { result ≡ value_kind self line }
+    // What may stand behind the name of a line behind the first. Of the first the definition gives the last's.
+    fn value_of(self, part: Part) -> Value
+        ensures { result ≡ value_kind self (number_of part) }
     {
-        match line {
-            2 => self.data_kind(),
-            4 => Value::Bytes(0, 256, Case::Lower),
-            _ => Value::Number(0, 9999999),
+        match part {
+            Part::Data => self.data_kind(),
+            Part::Out => Value::Bytes(0, 256, Case::Lower),
+            Part::Answer | Part::Rounds | Part::Call => Value::Number(0, 9999999),
         }
     }
 
     // The kind of a line behind the first.
     #[tactic(auto, unfolding(crate::specs::Form::kind_at))]
-    pub(crate) fn kind_at(self, line: usize) -> Kind
-        ensures { result ≡ kind_at self line }
+    pub(crate) fn kind_of(self, part: Part) -> Kind
+        ensures { result ≡ kind_at self (number_of part) }
     {
         Kind {
-            name: name_of(line),
-            value: self.value_of(line),
+            name: part.name(),
+            value: self.value_of(part),
         }
     }
 }
@@ -139,12 +169,11 @@ fn read_call(text: &[u8]) -> Result<Line, Stopped>
 
 // Reads a line of an entry, where the first line, if there was one, told this call.
 #[tactic(auto, unfolding(crate::specs::Calls::read_line))]
-pub(crate) fn read_line(call: Call, line: usize, text: &[u8]) -> Result<Line, Stopped>
-    ensures { result ≡ read_line call line text.now }
+pub(crate) fn read_line(call: Call, part: Part, text: &[u8]) -> Result<Line, Stopped>
+    ensures { result ≡ read_line call (number_of part) text.now }
 {
-    if line == 1 {
-        read_call(text)
-    } else {
-        lines::read(call.kind_at(line), text)
+    match part {
+        Part::Call => read_call(text),
+        _ => lines::read(call.kind_of(part), text),
     }
 }

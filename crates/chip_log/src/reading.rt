@@ -5,7 +5,7 @@ ghost use Rattle.chip_log.specs.Calls.{field_in, read_at, given, reading_of, rea
 ghost use Rattle.chip_log.specs.Inside.{line_inside};
 
 use crate::form;
-use crate::form::{Call, Entry};
+use crate::form::{Call, Entry, Part};
 use digits::Case;
 use lines::{Kind, Line, Read, Stopped, Table, Unread};
 use record::Field;
@@ -61,33 +61,32 @@ impl Table for EntryTable {
     }
 
     fn read_line(&self, line: usize, entry: &Entry, text: &[u8]) -> Result<Line, Stopped> {
-        form::read_line(entry.call, line, text)
+        form::read_line(entry.call, Part::at(line), text)
     }
 
     #[tactic(auto, unfolding(crate::specs::Calls::given))]
     fn with_line(&self, line: usize, entry: Entry, says: u64, text: &[u8]) -> Entry {
-        match line {
-            1 => Entry {
+        match Part::at(line) {
+            Part::Call => Entry {
                 call: Call::from(says),
                 ..entry
             },
-            2 => Entry {
-                input: field_in(entry.call.kind_at(2), text),
+            Part::Data => Entry {
+                input: field_in(entry.call.kind_of(Part::Data), text),
                 ..entry
             },
-            3 => Entry {
+            Part::Answer => Entry {
                 answer: says,
                 ..entry
             },
-            4 => Entry {
-                out: field_in(entry.call.kind_at(4), text),
+            Part::Out => Entry {
+                out: field_in(entry.call.kind_of(Part::Out), text),
                 ..entry
             },
-            5 => Entry {
+            Part::Rounds => Entry {
                 rounds: says,
                 ..entry
             },
-            _ => entry,
         }
     }
 }
