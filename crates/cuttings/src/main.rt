@@ -76,7 +76,7 @@ struct Walk {
 }
 
 // `say`, `say_line`, `next_of`, STDOUT_FILENO, KEY and NONCE stand in limits, walks or rewriting as they stand here, and what `part`, `text_call` and `finish_call` do is
-// done in limits too: a crate for them would have public functions, each with a contract and a row of `every_call`, which printing can't have.
+// done in limits too. A crate for these few lines, which programs alone use, would be no plainer: its functions would want contracts and edits, and printing can have none.
 
 // Writes a name and a number. Kept on `io`, which rests on `write` alone (docs/ANSWERS.md): std's `print!` would trust two more declarations of the C library.
 fn say(name: &[u8], n: u64) {

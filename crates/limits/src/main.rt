@@ -64,7 +64,7 @@ struct Called {
 }
 
 // `say`, `next_of`, STDOUT_FILENO, KEY and NONCE stand in cuttings, walks or rewriting as they stand here, and what `first_of`, `mixed`, `text` and `finish` do is done in
-// cuttings or walks too: a crate for them would have public functions, each with a contract and a row of `every_call`, which printing can't have.
+// cuttings or walks too. A crate for these few lines, which programs alone use, would be no plainer: its functions would want contracts and edits, and printing can have none.
 
 // Writes a name and a number. Kept on `io`, which rests on `write` alone (docs/ANSWERS.md): std's `print!` would trust two more declarations of the C library.
 fn say(name: &[u8], n: u64) {

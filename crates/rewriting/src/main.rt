@@ -20,7 +20,7 @@ const PLACES: usize = 1710;
 
 // A record, and the form that it is written in.
 #[derive(Clone, Copy)]
-struct Task {
+struct Spelling {
     form: Form,
     entry: Record,
 }
@@ -38,8 +38,8 @@ enum Change {
     Last,
 }
 
-// `say`, `say_line` and STDOUT_FILENO stand in cuttings, limits or walks too: a crate for them would have public functions, each with a contract and a row of
-// `every_call`, which printing can't have.
+// `say`, `say_line` and STDOUT_FILENO stand in cuttings, limits or walks too. A crate for these few lines, which programs alone use, would be no plainer: its functions
+// would want contracts and edits, and printing can have none.
 
 // Writes a name and a number. Kept on `io`, since the program rests on `read` and `write` alone (docs/ANSWERS.md): std's `print!` would trust more of the C library.
 fn say(name: &[u8], n: u64) {
@@ -131,7 +131,7 @@ fn change_part(mut entry: Record, part: usize, change: Change) -> Record {
     entry
 }
 
-impl Task {
+impl Spelling {
     // Writes the record, in the first places, so many.
     fn write_in(self, places: &mut [u8], room: usize) -> Result<usize, Unwritten>
         requires { room ≤ length places.old }
@@ -181,7 +181,7 @@ impl Task {
         for part in 2..=10 {
             say_count(name, part);
             let entry = change_part(self.entry, part, change);
-            let _ = Task { entry, ..self }.attempt(PLACES);
+            let _ = Spelling { entry, ..self }.attempt(PLACES);
         }
     }
 
@@ -211,6 +211,7 @@ fn rewrite_all(text: &[u8])
 {
     let mut rest = text;
     let mut number: u64 = 1;
+    // No `for`: how far a turn goes only the record that it reads can tell.
     while !rest.is_empty() {
         say_line(b"record=", number);
         let reading = match record::read_any(rest) {
@@ -223,13 +224,13 @@ fn rewrite_all(text: &[u8])
         };
         let entry = reading.content;
         say_line(b"form=", 1);
-        Task {
+        Spelling {
             form: Form::One,
             entry,
         }
         .rewrite();
         say_line(b"form=", 2);
-        Task {
+        Spelling {
             form: Form::Two,
             entry,
         }

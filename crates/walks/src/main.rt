@@ -30,8 +30,8 @@ struct Walk {
     handed: u64,
 }
 
-// `say`, `mixed`, STDOUT_FILENO, KEY and NONCE stand in cuttings, limits or rewriting too: a crate for them would have public functions, each with a contract and a row
-// of `every_call`, which printing can't have.
+// `say`, `mixed`, STDOUT_FILENO, KEY and NONCE stand in cuttings, limits or rewriting too. A crate for these few lines, which programs alone use, would be no plainer: its
+// functions would want contracts and edits, and printing can have none.
 
 // Writes a name and a number. Kept on `io`, which rests on `write` alone (docs/ANSWERS.md): std's `print!` would trust two more declarations of the C library.
 fn say(name: &[u8], n: u64) {

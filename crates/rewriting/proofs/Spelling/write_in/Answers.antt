@@ -1,4 +1,4 @@
--- `rewriting::Task::write_in` meets its contract: no more is written than there is room.
+-- `rewriting::Spelling::write_in` meets its contract: no more is written than there is room.
 use Rattle.std.proofs.Common.{◌≡◌, ℕ, ◌≤◌, Bool, true, false, cond, not, eqb, leb, List, [], ◌∷◌, ◌++◌, length, take, drop, refl, ap, arith, length-take, rules, leb-true}
 use Rattle.io.proofs.Counting.{prefix_len_of_le}
 use Rattle.answers.specs.declared.Answer.TheVariants.{Done, NoRoom, BrokenRecord, ChipLost}
@@ -9,7 +9,7 @@ use Rattle.record.specs.declared.form.Record.{Record}
 use Rattle.record.specs.Form.{broken, loses_chip}
 use Rattle.record.specs.Text.{text_of}
 use Rattle.record.specs.Calls.{WriteLeaves, write_leaves, refused_with, write_call}
-use Rattle.rewriting.proofs.Task.write_in.Goals as goal
+use Rattle.rewriting.proofs.Spelling.write_in.Goals as goal
 
 -- no more is written than there is room
 written_inside : (form : Form) (r : Record) (out : List ℕ) → (write_call form r out).outcome.written ≤ length out
