@@ -69,10 +69,10 @@ module _ (r : Replaying) (before : List ℕ) (count : ℕ) (inside : r.left + co
       rw (stays, size, whole)
 
   -- a stretch whose entries can be counted, with what is left moved to the front
-  pub bytes_heard : (after : List ℕ) → most_bytes < length after → r.entries + stretch.entries < largest
+  pub bytes_heard : (after : List ℕ) → r.entries + stretch.entries < largest
       → take (r.left + count - stretch.taken) after ≡ take (r.left + count - stretch.taken) (drop stretch.taken before)
       → HeardBytes r before count (stretched r (r.left + count) stretch) after
-  bytes_heard after wide few moved =
+  bytes_heard after few moved =
       let taken = (replays.inside (eqb count 0) r.stream text).1 in
       let size : length text ≡ r.left + count = length-take-le (r.left + count) before inside in
       let left : take (r.left + count - stretch.taken) after ≡ drop stretch.taken text =
@@ -81,7 +81,7 @@ module _ (r : Replaying) (before : List ℕ) (count : ℕ) (inside : r.left + co
         is =
             (λ j. going (record { left = left j; entries = r.entries + stretch.entries; stream = stretch.stream; verdict = stretch.verdict }) None)
             ∙ sym (heard_is ∙ ap (λ (t : Bool). cond t later (going (so_far r before) (Some fault.TooMany))) (lt-ltb (r.entries + stretch.entries) largest few));
-        ready = record { wide = wide; room = λ e. room stretch.verdict refl e taken size; number = few };
+        ready = record { room = λ e. room stretch.verdict refl e taken size; number = few };
       }
     where
       room : (v : Verdict) → stretch.verdict ≡ v → is_open v ≡ true → stretch.taken ≤ length text → length text ≡ r.left + count → r.left + count - stretch.taken < most_bytes
@@ -93,11 +93,11 @@ module _ (r : Replaying) (before : List ℕ) (count : ℕ) (inside : r.left + co
       room Open is e taken size = let w = replays.waits (eqb count 0) r.stream text is in omega (arith, w.3, length-drop stretch.taken text, size)
 
   -- one whose entries can't
-  pub bytes_many : Ready r before → largest ≤ r.entries + stretch.entries → HeardBytes r before count (with_fault r fault.TooMany) before
+  pub bytes_many : Ready r → largest ≤ r.entries + stretch.entries → HeardBytes r before count (with_fault r fault.TooMany) before
   bytes_many ready many =
       record {
         is = sym (heard_is ∙ ap (λ (t : Bool). cond t later (going (so_far r before) (Some fault.TooMany))) (le-ltb (r.entries + stretch.entries) largest many));
-        ready = record { wide = ready.wide; room = λ e. absurd (false≢true e); number = ready.number };
+        ready = record { room = λ e. absurd (false≢true e); number = ready.number };
       }
 
 -- ---- answer after answer

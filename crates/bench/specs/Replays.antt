@@ -141,16 +141,20 @@ so_far r buffer = record { left = take r.left buffer; entries = r.entries; strea
 abbrev pub shown : Replaying → List ℕ → Going
 shown r buffer = going (so_far r buffer) r.fault
 
--- the buffer has room for more than the most bytes of an entry; where the replay goes on, what is left is shorter than that; the entries can be counted
-pub record Ready (r : Replaying) (buffer : List ℕ) : Type 0 where
-  pub wide : most_bytes < length buffer
+-- where the replay goes on, what is left is shorter than the most bytes of an entry; the entries can be counted
+pub record Ready (r : Replaying) : Type 0 where
   pub room : is_running r ≡ true → r.left < most_bytes
   pub number : r.entries < largest
+
+-- in a buffer that has room for more than those bytes
+pub record ReadyIn (buffer : List ℕ) (r : Replaying) : Type 0 where
+  pub wide : most_bytes < length buffer
+  pub ready : Ready r
 
 -- so many bytes behind what is left were replayed
 pub record HeardBytes (r : Replaying) (before : List ℕ) (count : ℕ) (s : Replaying) (after : List ℕ) : Type 0 where
   pub is : shown s after ≡ heard_by (so_far r before) (run.Came (take count (drop r.left before)))
-  pub ready : Ready s after
+  pub ready : Ready s
 
 -- what the answer to a read says, of a buffer that it came into behind what is left
 abbrev pub reply_of : ℕ → List ℕ → Heard → Reply
@@ -161,7 +165,7 @@ reply_of left buffer (Err Failed) = run.Failed
 -- this answer
 pub record HeardAs (r : Replaying) (before : List ℕ) (heard : Heard) (s : Replaying) (after : List ℕ) : Type 0 where
   pub is : shown s after ≡ heard_by (so_far r before) (reply_of r.left before heard)
-  pub ready : Ready s after
+  pub ready : Ready s
 
 -- some answer
 pub record HeardOne (g h : Going) : Type 0 where

@@ -33,7 +33,7 @@ pub struct Replaying {
 
 // Replays what is left and so many bytes behind it, where no byte is the end of the log, and moves what is left then to the front of the buffer.
 fn replay_bytes(buffer: &mut [u8], state: Replaying, count: usize) -> Replaying
-    requires ready { Ready state buffer.old }
+    requires ready { Ready state }
     requires running { is_running state ≡ true }
     requires count_in_bounds { state.left + count ≤ length buffer.old }
     ensures { HeardBytes state buffer.old count result buffer.new }
@@ -62,7 +62,7 @@ pub(crate) fn after_read(
     state: Replaying,
     heard: Result<usize, Unmoved>,
 ) -> Replaying
-    requires ready { Ready state buffer.old }
+    requires ready { Ready state }
     requires running { is_running state ≡ true }
     requires heard_in_bounds { state.left + moved_by heard ≤ length buffer.old }
     ensures { HeardAs state buffer.old heard result buffer.new }
@@ -85,13 +85,13 @@ struct LogReplay {
 }
 
 impl Model for LogReplay {
-    ghost use Rattle.bench.specs.Replays.{Going, shown, Ready};
+    ghost use Rattle.bench.specs.Replays.{Going, shown, ReadyIn};
 
     ghost Value = { Going };
 
     ghost view = { λ r. shown r.state r.buffer };
 
-    ghost invariant = { λ r. Ready r.state r.buffer };
+    ghost invariant = { λ r. ReadyIn r.buffer r.state };
 }
 
 impl LogReplay {

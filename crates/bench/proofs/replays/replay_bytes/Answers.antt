@@ -43,7 +43,7 @@ returns c =
     let few = ap (λ (r : Stretch). r.entries) stretch in
     let moved = subst (λ (r : Stretch). take (filled - r.taken) after ≡ take (filled - r.taken) (drop r.taken a.buffer.now)) stretch c.move_to_front.ensures in
     subst (λ (r : Stretch). HeardBytes a.state a.buffer.now a.count (stretched a.state filled r) after) (sym stretch)
-    (bytes_heard a.state a.buffer.now a.count c.requires.count_in_bounds c.requires.running after (omega (arith, c.requires.ready.wide, c.move_to_front.auto.buffer))
+    (bytes_heard a.state a.buffer.now a.count c.requires.count_in_bounds c.requires.running after
     (omega (arith, few, c.if-state-stretch.false, c.requires.ready.number)) moved)
 
 pub overflow_sub-result : goal.overflow_sub-result

@@ -16,7 +16,7 @@ returns c =
     let buffer = c.self.inside.buffer in
     let goes : goes_on (shown r buffer) ≡ true = ap goes_on c.self.view_is ∙ c.requires in
     let brought = take r.left buffer ++ (c.read-heard.new.room ++ drop (65536 - r.left) (drop r.left buffer)) in
-    let kept = kept_front buffer c.read-heard.new.room r.left (65536 - r.left) (omega (arith, c.self.invariant.room goes, c.self.invariant.wide)) c.read-heard.auto.room in
+    let kept = kept_front buffer c.read-heard.new.room r.left (65536 - r.left) (omega (arith, c.self.invariant.ready.room goes, c.self.invariant.wide)) c.read-heard.auto.room in
     let same : so_far r brought ≡ so_far r buffer = λ j. record { left = kept.front j; entries = r.entries; stream = r.stream; verdict = r.verdict } in
     let reply = reply_of r.left brought c.read-heard.result in
     record {
