@@ -1,4 +1,5 @@
--- A line of an entry that was found lies in its text: what the table of the code has to show.
+-- A line of an entry that was found lies in its text: what the table of the code has to show. It is a lemma with its proof, which nobody has to believe; it stands here
+-- since code can name no proof of its own crate.
 use Rattle.std.specs.Prelude.{Bool, true, false, cond, List, ℕ, eqb}
 use Rattle.lines.specs.Steps.{Found, read_of, either_of}
 use Rattle.lines.specs.Tables.{Inside}

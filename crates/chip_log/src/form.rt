@@ -35,6 +35,7 @@ pub struct Entry {
 fn start_data(set: u64) -> Value
     ensures { result ≡ start_data set }
 {
+    // A cast, since a length always fits.
     let size = 2 * (sets::key_length(set) as u16);
     Value::Bytes(size, size, Case::Lower)
 }

@@ -83,6 +83,7 @@ impl Part {
     fn value(self, set: u64) -> Value
         ensures { result ≡ value_kind (row_of set).key (number_of self) }
     {
+        // A cast, since a length always fits.
         let key = sets::key_length(set) as u16;
         match self {
             Part::Count | Part::End => Value::Fixed(0),

@@ -8,7 +8,7 @@ use chip_log::Call;
 use record::Field;
 use stream::{Direction, Outcome, Stream};
 
-// What a call on our stream gives: the answer, the output, the rounds, and the next state.
+// What a call on our stream gives: the answer, the output, the rounds, and the next state; no Result, as `stream::Outcome` is none.
 #[derive(Clone, Copy)]
 pub struct Given {
     pub answer: Answer,
