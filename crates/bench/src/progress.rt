@@ -21,7 +21,7 @@ pub enum Unmoved {
 }
 
 // How far the program is. The window is the buffer from `start` to `filled`; `ended` says that it is all that is left of the input. What is left to write is the
-// text from `from` to `size`.
+// text from `from` to `size`. Places and no slices, since the laws `looks`, `answered_read` and `answered_write` go by them.
 #[derive(Clone, Copy)]
 pub struct Progress {
     pub start: usize,
