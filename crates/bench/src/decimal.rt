@@ -2,7 +2,7 @@
 ghost use Rattle.std.specs.Prelude.{◌≡◌, Some};
 ghost use Rattle.bench.specs.Decimal.{with_digit, decimal_of};
 
-// A number with one character more: none where it is no digit, or where the number would have more than 64 bits.
+// A number with one character more: none where it is no digit, or where the number would have more than 64 bits. lines has the like between bounds, as a step of its walk.
 fn with_digit(number: u64, character: u8) -> Option<u64>
     ensures { result ≡ with_digit (Some number) character }
 {

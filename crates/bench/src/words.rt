@@ -42,7 +42,7 @@ impl<const N: usize> Words<N> {
         &self.place[..self.size]
     }
 
-    // Puts a text behind them.
+    // Puts a text behind them. `number` is alike in shape; one method for both, which takes what puts, would be no plainer.
     pub(crate) fn text(&mut self, text: &[u8])
         requires { length self.old + length text.now ≤ N }
         ensures { self.new ≡ self.old ++ text.now }

@@ -74,7 +74,8 @@ impl Entry {
         digits::put_line(&name.bytes[..name.size], &value[..count], out)
     }
 
-    // Puts all lines at the beginning of a place that has room for them, and gives their length.
+    // Puts all lines at the beginning of a place that has room for them, and gives their length. `record::write` has the like loop over its parts; one for both, with a trait
+    // for what puts a line, would be no plainer.
     fn put_lines(&self, out: &mut [u8]) -> usize
         requires { length (entry_text self.now.number self.now.content) ≤ length out.old }
         ensures { laid result out.new ≡ put (entry_text self.now.number self.now.content) out.old }

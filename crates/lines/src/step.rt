@@ -27,6 +27,8 @@ fn may_end(value: Value, digits: usize) -> bool
     }
 }
 
+// ---- steps: functions of a state and a character. As methods of `State` they would be no plainer, since each is called once.
+
 // Whether the digits passed are a zero, behind which no digit comes.
 fn only_zero(state: State) -> bool
     ensures { result ≡ not (eqb state.digits 0 || not (eqb state.number 0)) }

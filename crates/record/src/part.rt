@@ -61,7 +61,7 @@ impl Part {
         }
     }
 
-    // The kind of a part's line, where the set is this.
+    // The kind of a part's line, where the set is this. Entries and logs have the like, each of its own parts: a name and a value joined.
     #[tactic(auto, unfolding(crate::specs::Text::kind_of))]
     pub(crate) fn kind(self, set: u64) -> Kind
         ensures { result ≡ kind_of (number_of self) set }

@@ -115,7 +115,7 @@ fn change_field(mut field: Field, change: Change) -> Field {
     field
 }
 
-// A record with a part changed: one of those that form 2 has in its lines 2 to 10.
+// A record with a part changed, by its line in form 2, 2 to 10, which is what is printed.
 fn change_part(mut entry: Record, part: usize, change: Change) -> Record {
     match part {
         2 => entry.set = change_number(entry.set, sets::ROWS as u64 + 1, change),
