@@ -22,6 +22,7 @@ use Rattle.record.specs.declared.writing.Unwritten.TheVariants as unwritten
 use Rattle.record.specs.Form.{broken, loses_chip}
 use Rattle.record.specs.Text.{text_of}
 use Rattle.record.specs.Calls.{Reading, Writing, reading_of, writing_of, refused_at, read_as, read_call, form_of, inside_mark, read_any, WriteLeaves, write_leaves, refused_with, write_faults, write_as, write_call}
+use Rattle.lines.specs.Tables.{Outcome, whole, broken_at, outcome_of}
 use Rattle.record.proofs.Laws.{reads_and_writes, taken_inside}
 use Rattle.record.proofs.Any.{reads_any}
 use Rattle.digits.proofs as digits
@@ -85,11 +86,22 @@ every_call =
       record_write = answered (λ M. record-crate.write.Met.met) (λ κ a. tt) (λ κ a r e p. p);
     }
 
+-- the result that is seen as what the lines of a table give
+lines_back : (E : Type 0) → Outcome E → Result (Read E) Unread
+lines_back E (whole taken content) = Ok (record { content = content; taken = taken })
+lines_back E (broken_at line column early) = Err (record { line = line; column = column; early = early })
+
+lines_undone : (E : Type 0) (r : Result (Read E) Unread) → lines_back E (outcome_of r) ≡ r
+unfolding lines_back
+lines_undone E (Ok read) = refl
+lines_undone E (Err wrong) = refl
+
 -- what is seen tells the result
 pub told : Told
 unfolding read_as refused_at refused_with
 told =
     record {
+      lines = λ E. calls.told (lines_back E) (lines_undone E);
       reading = calls.told
           (λ (q : Reading). cond (is_done q.answer) (Ok (record { content = q.content; taken = q.taken })) (Err (record { line = q.line; column = q.column; early = q.early })))
           (elim [ Ok read ↦ refl | Err wrong ↦ refl ]);

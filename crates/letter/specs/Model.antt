@@ -55,7 +55,7 @@ pub record EveryCall : Type 2 where
   pub replays : replays.EveryCall
 
 -- where a call's outcome is a view of what the code gives, the view tells it
-pub record Told : Type 0 where
+pub record Told : Type 1 where
   pub records : records.Told
   pub entries : entries.Told
   pub moving : moving.Told

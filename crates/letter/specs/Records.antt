@@ -102,8 +102,9 @@ pub record EveryCall : Type 2 where
   pub record_write : Answered record-crate.write.Statement.statement record-crate.write.Reads.Asked record-crate.write.Reads.Learnt
       (λ r (form, (entry, (out, _))). write_leaves (writing_of r) out.now) (λ (form, (entry, (out, _))). write_call form entry out.now)
 
--- what is seen of a reading or a writing tells its result
-pub record Told : Type 0 where
+-- what is seen of a reading or a writing tells its result; of the reading of a table too, whatever its lines give
+pub record Told : Type 1 where
+  pub lines : (E : Type 0) → Tells (outcome_of {E = E})
   pub reading : Tells reading_of
   pub writing : Tells writing_of
 
