@@ -142,7 +142,8 @@ fn replay_all(system: &mut System) -> LogReplay
     replay
 }
 
-// The number of the entry that decides, where so many agreed before; where all agree, how many there are. `ruled_out` speaks of it (`numbers` of `RuledOut`).
+// The number of the entry that decides, where so many agreed before; where all agree, how many there are. `replay::replay` ends likewise; `ruled_out` speaks of this one
+// (`numbers` of `RuledOut`).
 pub(crate) fn entry_of(agreed: u64, verdict: Verdict) -> u64
     requires { agreed < largest }
     ensures { result ≡ (told agreed verdict).entry }

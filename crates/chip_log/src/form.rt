@@ -50,7 +50,7 @@ pub(crate) enum Part {
     Rounds,
 }
 
-// The same in the order of the lines.
+// The same in the order of the lines; as in entry, over its own parts.
 const PARTS: [Part; 5] = [
     Part::Call,
     Part::Data,
@@ -130,7 +130,7 @@ impl Call {
         }
     }
 
-    // The kind of a line behind the first.
+    // The kind of a line behind the first; as `Part::kind` of record, of its own parts.
     #[tactic(auto, unfolding(crate::specs::Form::kind_at))]
     pub(crate) fn kind_of(self, part: Part) -> Kind
         ensures { result ≡ kind_at self (number_of part) }

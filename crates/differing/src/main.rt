@@ -4,7 +4,7 @@
 
 ghost use Rattle.std.specs.Prelude.{◌≡◌, ◌≤◌, length};
 
-// The number of standard output.
+// The number of standard output. Kept on `io`, which rests on `write` alone (docs/ANSWERS.md): std's `print!` would trust two more declarations of the C library.
 const STDOUT_FILENO: i32 = 1;
 
 // Writes the place of a difference, or that there is none.

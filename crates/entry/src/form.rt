@@ -93,7 +93,7 @@ impl Part {
         }
     }
 
-    // The kind of a line, in an entry of this set and number.
+    // The kind of a line, in an entry of this set and number; as `Part::kind` of record, of its own parts.
     #[tactic(auto, unfolding(crate::specs::Form::kind_at))]
     pub(crate) fn kind(self, set: u64, number: u64) -> Kind
         ensures { result ≡ kind_at set number (number_of self) }

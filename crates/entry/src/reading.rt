@@ -27,7 +27,7 @@ impl From<record::Unread> for Unread {
     }
 }
 
-// A record of a set, with nothing else.
+// A record of a set, with nothing else. `Record::blank` is record's own: a public one would want a row of `every_call`.
 #[tactic(auto, unfolding(crate::specs::Calls::begun))]
 fn begin(set: u64) -> Record
     ensures { result ≡ begun set }

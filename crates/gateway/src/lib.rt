@@ -17,7 +17,7 @@ pub use streams::{
     kvistmaur_stream_seal,
 };
 
-// Seals a message.
+// Seals a message. It and `kvistmaur_open` are alike, and set, key and nonce stand apart: so C calls them.
 pub fn kvistmaur_seal(
     set: u64,
     key: &[u8],

@@ -45,7 +45,7 @@ fn start(
     }
 }
 
-// Starts a sealing.
+// Starts a sealing. The three starts are alike, and set, limit, key and nonce stand apart: so C calls them.
 pub fn kvistmaur_start_sealing(
     set: u64,
     limit: u64,

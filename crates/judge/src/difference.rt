@@ -56,7 +56,7 @@ pub fn compare<'a>(wanted: &[u8], found: &'a [u8]) -> Comparison<'a>
     }
 }
 
-// The bytes that a field holds: as many as it says, and no more than it has places.
+// The bytes that a field holds: as many as it says, and no more than it has places. `Field::held` of record is that crate's own, and asks for a size that the places have.
 pub(crate) fn held(field: &Field) -> &[u8]
     ensures { result.now ≡ held field.now }
 {

@@ -17,7 +17,8 @@ pub struct Ours {
     pub tag: Field,
 }
 
-// Our own sealing of the text of a record in form, through the promise of whole messages.
+// Our own sealing of the text of a record in form, through the promise of whole messages. There is no heap: cipher and tag are made where their
+// fields will have them.
 fn seal_record(entry: Record) -> Ours
     requires { broken One entry ≡ 0 }
     ensures { result ≡ ours_of entry }

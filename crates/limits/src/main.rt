@@ -222,6 +222,7 @@ fn try_starts(direction: Direction, set: u64) {
 // ---- walks
 
 // The lengths of a walk's four pieces of text under a limit l, which is below 256: in the first five walks up to the limit and past it, in the others mixed.
+// A walk has no name but its number.
 fn piece_lengths(walk: usize, l: usize) -> [usize; 4] {
     let l = l % 256;
     match walk {

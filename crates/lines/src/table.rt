@@ -21,7 +21,7 @@ pub struct Unread {
 }
 
 // A table of lines: how many there are; what is known before the first; how each is read, by its number and from what those before it gave; and what they give with it.
-// A line that was read lies in its text.
+// A line that was read lies in its text. A line goes by its number, as refusals tell it, so the bounds of that are clauses.
 pub trait Table {
     type Content: Copy;
 

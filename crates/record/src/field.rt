@@ -53,6 +53,7 @@ pub fn read_field(case: Case, text: &[u8]) -> Field
         return Field::empty();
     }
     let mut bytes = [0; 256];
+    // By index: two digits go to one place.
     for i in 0..size {
         let Ok(b) = digits::read_pair(case, text[2 * i], text[2 * i + 1]) else {
             return Field::empty();

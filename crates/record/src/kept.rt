@@ -55,6 +55,7 @@ impl Kept<'_> {
         ensures { laid result out.new ≡ put (line_text (number_of self.now.part) self.now.entry.now) out.old }
     {
         let name = self.part.name();
+        // No heap: the digits stand in an array, `count` of them.
         let mut value = [0; 512];
         let count = self.put_value(&mut value);
         digits::put_line(&name.bytes[..name.size], &value[..count], out)

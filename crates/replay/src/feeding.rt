@@ -18,7 +18,7 @@ pub struct Given {
 }
 
 impl Given {
-    // What a call gives whose output, where it is done, is the first `size` of 256 places.
+    // What a call gives whose output, where it is done, is the first `size` of 256 places; there is no heap.
     fn with_out(outcome: Outcome, bytes: [u8; 256], size: usize) -> Given
         ensures { result ≡ record { answer = outcome.answer; out = record { bytes = bytes; size = cond (is_done outcome.answer) size 0 }; rounds = outcome.rounds; next = outcome.next } }
     {

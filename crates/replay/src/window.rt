@@ -123,6 +123,7 @@ fn at_end(ended: bool) -> Verdict
 }
 
 // Replays a window of a log from a stream's state on, entry after entry. `ended` says that nothing of the log stands behind the window.
+// A function and no method: row `replay_replay_window` of `every_call`.
 pub fn replay_window(window: &[u8], ended: bool, stream: Stream) -> Stretch
     ensures { result ≡ stretch_of ended stream window.now }
 {

@@ -115,7 +115,7 @@ fn change_field(mut field: Field, change: Change) -> Field {
     field
 }
 
-// A record with a part changed, by its line in form 2, 2 to 10, which is what is printed.
+// A record with a part changed, by its line in form 2, 2 to 10. No enum: it would only be counted through and printed as that number.
 fn change_part(mut entry: Record, part: usize, change: Change) -> Record {
     match part {
         2 => entry.set = change_number(entry.set, sets::ROWS as u64 + 1, change),

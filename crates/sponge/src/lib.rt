@@ -155,6 +155,7 @@ fn masked_end(w: [u64; 5], key: [u8; 16], n: usize) -> [u8; 16]
     ensures { result ≡ masked_end w key n }
 {
     let mut tag = [0; 16];
+    // By index, which tag, key and words share.
     for i in 0..n {
         tag[i] = byte_at(&w, 40 - n + i) ^ key[i];
     }

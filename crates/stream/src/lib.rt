@@ -66,6 +66,7 @@ fn gives_text(direction: Direction) -> bool
 }
 
 // Whether a direction's text is sealed or opened; either way, the state's front becomes the ciphertext.
+// An arm for each direction: the edit `front_plaintext` turns one.
 fn way(direction: Direction) -> Way
     ensures { result ≡ way_of direction }
 {

@@ -22,6 +22,7 @@ pub fn kvistmaur_permute(rounds: u64, words: &mut [u64; 5]) -> u64
 }
 
 // Puts the values of the digits at the front of a text in their places, up to the first character that is no digit, and gives how many they are.
+// By index, since the place at which it stops is what it gives.
 pub fn kvistmaur_read_digits(text: &mut [u8]) -> u64
     ensures { called result text.new ≡ read_digits text.old }
 {
