@@ -65,28 +65,13 @@ impl Table for EntryTable {
     }
 
     #[tactic(auto, unfolding(crate::specs::Calls::given))]
-    fn with_line(&self, line: usize, entry: Entry, says: u64, text: &[u8]) -> Entry {
+    fn take_line(&self, line: usize, entry: &mut Entry, says: u64, text: &[u8]) {
         match Part::at(line) {
-            Part::Call => Entry {
-                call: Call::from(says),
-                ..entry
-            },
-            Part::Data => Entry {
-                input: field_in(entry.call.kind_of(Part::Data), text),
-                ..entry
-            },
-            Part::Answer => Entry {
-                answer: says,
-                ..entry
-            },
-            Part::Out => Entry {
-                out: field_in(entry.call.kind_of(Part::Out), text),
-                ..entry
-            },
-            Part::Rounds => Entry {
-                rounds: says,
-                ..entry
-            },
+            Part::Call => entry.call = Call::from(says),
+            Part::Data => entry.input = field_in(entry.call.kind_of(Part::Data), text),
+            Part::Answer => entry.answer = says,
+            Part::Out => entry.out = field_in(entry.call.kind_of(Part::Out), text),
+            Part::Rounds => entry.rounds = says,
         }
     }
 }

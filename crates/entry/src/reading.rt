@@ -54,37 +54,22 @@ fn cipher_digits(set: u64, count: usize) -> usize
     count.saturating_sub(2 * sets::key_length(set))
 }
 
-// A record with the bytes of a line's digits.
+// Takes the bytes of a line's digits into a record, which stays in its place.
 #[tactic(auto, unfolding(crate::specs::Calls::with_line))]
-fn with_line(part: Part, entry: Record, digits: &[u8]) -> Record
-    ensures { result ≡ with_line (number_of part) entry digits.now }
+fn take_digits(part: Part, entry: &mut Record, digits: &[u8])
+    ensures { entry.new ≡ with_line (number_of part) entry.old digits.now }
 {
     match part {
-        Part::Key => Record {
-            key: record::read_field(Case::Upper, digits),
-            ..entry
-        },
-        Part::Nonce => Record {
-            nonce: record::read_field(Case::Upper, digits),
-            ..entry
-        },
-        Part::Pt => Record {
-            text: record::read_field(Case::Upper, digits),
-            ..entry
-        },
-        Part::Ad => Record {
-            ad: record::read_field(Case::Upper, digits),
-            ..entry
-        },
+        Part::Key => entry.key = record::read_field(Case::Upper, digits),
+        Part::Nonce => entry.nonce = record::read_field(Case::Upper, digits),
+        Part::Pt => entry.text = record::read_field(Case::Upper, digits),
+        Part::Ad => entry.ad = record::read_field(Case::Upper, digits),
         Part::Ct => {
             let (cipher, tag) = digits.split_at(cipher_digits(entry.set, digits.len()));
-            Record {
-                cipher: record::read_field(Case::Upper, cipher),
-                tag: record::read_field(Case::Upper, tag),
-                ..entry
-            }
+            entry.cipher = record::read_field(Case::Upper, cipher);
+            entry.tag = record::read_field(Case::Upper, tag);
         }
-        Part::Count | Part::End => entry,
+        Part::Count | Part::End => {}
     }
 }
 
@@ -133,11 +118,15 @@ impl Table for EntryTable {
         lines::read(Part::at(line).kind(self.set, self.number), text)
     }
 
-    #[tactic(auto, unfolding(crate::specs::Calls::given))]
-    fn with_line(&self, line: usize, entry: Record, _says: u64, text: &[u8]) -> Record {
-        let part = Part::at(line);
-        let kind = part.kind(self.set, self.number);
-        with_line(part, entry, lines::value_in(kind, text))
+    #[tactic(auto, unfolding(crate::specs::Calls::given, crate::specs::Calls::with_line))]
+    fn take_line(&self, line: usize, entry: &mut Record, _says: u64, text: &[u8]) {
+        match Part::at(line) {
+            Part::Count | Part::End => {}
+            part => {
+                let kind = part.kind(self.set, self.number);
+                take_digits(part, entry, lines::value_in(kind, text));
+            }
+        }
     }
 }
 

@@ -44,37 +44,43 @@ pub trait Table {
         requires last { line ≤ count self.now }
         ensures { result ≡ read_at self.now line content.now text.now };
 
-    fn with_line(
-        &self,
-        line: usize,
-        content: Self::Content,
-        says: u64,
-        text: &[u8],
-    ) -> Self::Content
+    fn take_line(&self, line: usize, content: &mut Self::Content, says: u64, text: &[u8])
         requires first { 1 ≤ line }
         requires last { line ≤ count self.now }
-        ensures { result ≡ given self.now line content says text.now };
+        ensures { content.new ≡ given self.now line content.old says text.now };
 
     ghost inside: { (table : Self) (line : ℕ) (content : Self.Content) (text : List ℕ) → Inside text (read_at table line content text) };
 }
 
-// Reads the lines of a table that a text begins with, each straight after the one before.
+// Reads the lines of a table that a text begins with, each straight after the one before. No `for`: the rules ask for a loop that is left with the bad line's number.
 pub fn read_table<T: Table>(table: &T, text: &[u8]) -> Result<Read<T::Content>, Unread>
     ensures { outcome_of result ≡ lines_from (T.read_at table.now) (T.given table.now) (T.count table.now) 1 0 (T.first table.now) text.now }
 {
     let mut content = table.first();
     let mut taken = 0;
-    for line in 1..=table.count() {
+    let mut line = 0;
+    let bad = loop {
+        if table.count() <= line {
+            break None;
+        }
+        line += 1;
         let rest = &text[taken..];
-        let found = table
-            .read_line(line, &content, rest)
-            .map_err(|stopped| Unread {
-                line,
-                column: stopped.column,
-                early: rest.len() < stopped.column,
-            })?;
-        content = table.with_line(line, content, found.number, &rest[..found.size]);
-        taken += found.size;
+        match table.read_line(line, &content, rest) {
+            Ok(found) => {
+                table.take_line(line, &mut content, found.number, &rest[..found.size]);
+                taken += found.size;
+            }
+            Err(stopped) => {
+                break Some(Unread {
+                    line,
+                    column: stopped.column,
+                    early: rest.len() < stopped.column,
+                });
+            }
+        }
+    };
+    match bad {
+        Some(unread) => Err(unread),
+        None => Ok(Read { content, taken }),
     }
-    Ok(Read { content, taken })
 }

@@ -51,13 +51,16 @@ pub fn read(kind: Kind, text: &[u8]) -> Result<Line, Stopped>
     ensures { result ≡ read_of kind text.now }
 {
     let mut state = begun();
-    for (at, character) in text.iter().enumerate() {
+    let mut passed = 0;
+    // The rules ask that this walk is left by its label.
+    'digits: for (at, character) in text.iter().enumerate() {
         match step::advance(kind, state, *character) {
             Some(next) => state = next,
-            None => return found(at, state),
+            None => break 'digits,
         }
+        passed = at + 1;
     }
-    found(text.len(), state)
+    found(passed, state)
 }
 
 // The line that either of two readings found, or the later of their columns: a line that may be of one kind or the other.

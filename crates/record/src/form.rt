@@ -142,41 +142,32 @@ impl Record {
         }
     }
 
-    // A record with another number in a part that holds one.
+    // Takes another number into a part that holds one.
     #[tactic(auto, unfolding(crate::specs::Form::with_number))]
-    pub(crate) fn with_number(self, part: Part, n: u64) -> Record
-        ensures { result ≡ with_number (number_of part) n self }
+    pub(crate) fn take_number(&mut self, part: Part, n: u64)
+        ensures { self.new ≡ with_number (number_of part) n self.old }
     {
         match part {
-            Part::Set => Record { set: n, ..self },
-            Part::Chip => Record { chip: n, ..self },
-            Part::Rounds => Record { rounds: n, ..self },
-            _ => self,
+            Part::Set => self.set = n,
+            Part::Chip => self.chip = n,
+            Part::Rounds => self.rounds = n,
+            _ => {}
         }
     }
 
-    // A record with other bytes in a part that holds some.
+    // Takes other bytes into a part that holds some.
     #[tactic(auto, unfolding(crate::specs::Form::with_field))]
-    pub(crate) fn with_field(self, part: Part, field: Field) -> Record
-        ensures { result ≡ with_field (number_of part) field self }
+    pub(crate) fn take_field(&mut self, part: Part, field: Field)
+        ensures { self.new ≡ with_field (number_of part) field self.old }
     {
         match part {
-            Part::Key => Record { key: field, ..self },
-            Part::Nonce => Record {
-                nonce: field,
-                ..self
-            },
-            Part::Ad => Record { ad: field, ..self },
-            Part::Text => Record {
-                text: field,
-                ..self
-            },
-            Part::Cipher => Record {
-                cipher: field,
-                ..self
-            },
-            Part::Tag => Record { tag: field, ..self },
-            _ => self,
+            Part::Key => self.key = field,
+            Part::Nonce => self.nonce = field,
+            Part::Ad => self.ad = field,
+            Part::Text => self.text = field,
+            Part::Cipher => self.cipher = field,
+            Part::Tag => self.tag = field,
+            _ => {}
         }
     }
 

@@ -10,15 +10,15 @@ use crate::form::{Form, Record};
 use crate::part::Part;
 use lines::{Line, Read, Stopped, Table, Unread, Value};
 
-// A record with what a line says in a part: nothing, the number, or the bytes of the digits.
+// Takes what a line says into a part of a record, which stays in its place: nothing, the number, or the bytes of the digits.
 #[tactic(auto, unfolding(crate::specs::Calls::with_value))]
-fn with_value(part: Part, entry: Record, number: u64, digits: &[u8]) -> Record
-    ensures { result ≡ with_value (number_of part) entry number digits.now }
+fn take_value(part: Part, entry: &mut Record, number: u64, digits: &[u8])
+    ensures { entry.new ≡ with_value (number_of part) entry.old number digits.now }
 {
     match part.value(entry.set) {
-        Value::Fixed(_) => entry,
-        Value::Number(_, _) => entry.with_number(part, number),
-        Value::Bytes(_, _, case) => entry.with_field(part, field::read_field(case, digits)),
+        Value::Fixed(_) => {}
+        Value::Number(_, _) => entry.take_number(part, number),
+        Value::Bytes(_, _, case) => entry.take_field(part, field::read_field(case, digits)),
     }
 }
 
@@ -54,10 +54,10 @@ impl Table for FormTable {
     }
 
     #[tactic(auto, unfolding(crate::specs::Calls::given))]
-    fn with_line(&self, line: usize, entry: Record, says: u64, text: &[u8]) -> Record {
+    fn take_line(&self, line: usize, entry: &mut Record, says: u64, text: &[u8]) {
         let part = self.form.part_at(line);
         let kind = part.kind(entry.set);
-        with_value(part, entry, says, lines::value_in(kind, text))
+        take_value(part, entry, says, lines::value_in(kind, text));
     }
 }
 
