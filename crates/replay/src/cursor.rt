@@ -3,9 +3,13 @@
 ghost use Rattle.std.specs.Prelude.{◌≡◌, drop};
 ghost use Rattle.chip_log.specs.Calls.{reading_of, read_entry};
 ghost use Rattle.replay.specs.Cursor.{log_at};
+ghost use Rattle.replay.specs.Replays.{stretch_of};
 
+use crate::window;
+use crate::window::Stretch;
 use chip_log::Entry;
 use record::{Read, Unread};
+use stream::Stream;
 
 // The bytes of a log, and the place in them where its next entry begins.
 #[derive(Clone, Copy)]
@@ -41,4 +45,19 @@ pub fn entry<'a>(log: Log<'a>) -> Result<Read<Entry>, Unread>
     ensures { reading_of result ≡ read_entry (drop log.entry.place log.entry.bytes.now) }
 {
     chip_log::read(left(log.bytes, log.place))
+}
+
+// Replays a log from its place on.
+fn stretch<'a>(log: Log<'a>, ended: bool, stream: Stream) -> Stretch
+    ensures { result ≡ stretch_of ended stream (drop log.entry.place log.entry.bytes.now) }
+{
+    window::stretch_at(log.bytes, log.place, ended, stream)
+}
+
+// Replays a window of a log from a stream's state on, entry after entry. `ended` says that nothing of the log stands behind the window.
+// A function and no method: row `replay_replay_window` of `every_call`.
+pub fn replay_window(window: &[u8], ended: bool, stream: Stream) -> Stretch
+    ensures { result ≡ stretch_of ended stream window.now }
+{
+    stretch(open(window), ended, stream)
 }

@@ -6,6 +6,6 @@ mod feeding;
 mod whole;
 mod window;
 
-pub use cursor::{Log, entry, moved, open};
+pub use cursor::{Log, entry, moved, open, replay_window};
 pub use whole::{Conclusion, replay};
-pub use window::{Stretch, Verdict, replay_window};
+pub use window::{Stretch, Verdict};

@@ -2,7 +2,7 @@
 ghost use Rattle.std.specs.Prelude.{◌≡◌};
 ghost use Rattle.replay.specs.Replays.{replay_of};
 
-use crate::window;
+use crate::cursor;
 use crate::window::Verdict;
 use stream::Stream;
 
@@ -18,7 +18,7 @@ pub struct Conclusion {
 pub fn replay(log: &[u8]) -> Conclusion
     ensures { result ≡ replay_of log.now }
 {
-    let stretch = window::replay_window(log, true, Stream::ended());
+    let stretch = cursor::replay_window(log, true, Stream::ended());
     let agreed = stretch.entries as u64;
     Conclusion {
         entry: if stretch.verdict.is_agreed() {

@@ -1,5 +1,5 @@
 // A stretch of a log, entry by entry.
-ghost use Rattle.std.specs.Prelude.{◌≡◌};
+ghost use Rattle.std.specs.Prelude.{◌≡◌, drop};
 ghost use Rattle.chip_log.specs.Calls.{refused_at};
 ghost use Rattle.chip_log.specs.Laws.{InForm};
 ghost use Rattle.replay.specs.Feeding.{as_given};
@@ -122,11 +122,11 @@ fn at_end(ended: bool) -> Verdict
     }
 }
 
-// Replays a window of a log from a stream's state on, entry after entry. `ended` says that nothing of the log stands behind the window.
-// A function and no method: row `replay_replay_window` of `every_call`.
-pub fn replay_window(window: &[u8], ended: bool, stream: Stream) -> Stretch
-    ensures { result ≡ stretch_of ended stream window.now }
+// Replays a log from a place on, from a stream's state, entry after entry.
+pub(crate) fn stretch_at(bytes: &[u8], place: usize, ended: bool, stream: Stream) -> Stretch
+    ensures { result ≡ stretch_of ended stream (drop place bytes.now) }
 {
+    let log = cursor::left(bytes, place);
     let mut stretch = Stretch {
         entries: 0,
         taken: 0,
@@ -134,8 +134,8 @@ pub fn replay_window(window: &[u8], ended: bool, stream: Stream) -> Stretch
         verdict: at_end(ended),
     };
     // No `for`: how far a turn goes only the entry that it reads can tell.
-    while stretch.taken < window.len() {
-        match step_at(cursor::left(window, stretch.taken), ended, stretch.stream) {
+    while stretch.taken < log.len() {
+        match step_at(cursor::left(log, stretch.taken), ended, stretch.stream) {
             Ok(agreed) => {
                 stretch.entries += 1;
                 stretch.taken += agreed.taken;

@@ -8,8 +8,8 @@ use Rattle.replay.specs.declared.window.Stretch.{Stretch}
 use Rattle.replay.specs.declared.window.Verdict.{Verdict}
 use Rattle.replay.specs.Replays.{SteppedAs, step_of, at_end, stopped, further, stretch_of}
 use Rattle.replay.proofs.Stretches.{onto, step_inside, stretch_step}
-use Rattle.replay.proofs.window.replay_window.Invariants.{Left}
-use Rattle.replay.proofs.window.replay_window.Goals as goal
+use Rattle.replay.proofs.window.stretch_at.Invariants.{Left}
+use Rattle.replay.proofs.window.stretch_at.Goals as goal
 
 -- a stretch with nothing behind it
 onto_none : (r : Stretch) (verdict : Verdict) → onto r (stopped r.stream verdict) ≡ record { entries = r.entries; taken = r.taken; stream = r.stream; verdict = verdict }
@@ -59,7 +59,9 @@ ends {log} {over} {r = r} l h =
     ∙ l.rest
 
 pub returns-in-Err : goal.returns-in-Err
-returns-in-Err c = stops c.in-Err.verdict c.loop-stretch.invariant c.loop-stretch-test.true (rw (← c.left.ensures) c.in-Err.ensures)
+returns-in-Err c =
+    stops c.in-Err.verdict c.loop-stretch.invariant c.loop-stretch-test.true (rw (← c.left.ensures) c.in-Err.ensures)
+    ∙ ap (stretch_of c.args.ended c.args.stream) c.left-log.ensures
 
 pub overflow_add-stretch-in-Ok : goal.overflow_add-stretch-in-Ok
 overflow_add-stretch-in-Ok c =
@@ -74,4 +76,4 @@ pub loop-stretch-preserved : goal.loop-stretch-preserved
 loop-stretch-preserved c = goes c.in-Ok.agreed c.loop-stretch.invariant c.loop-stretch-test.true (rw (← c.left.ensures) c.in-Ok.ensures)
 
 pub returns : goal.returns
-returns c = ends c.loop-stretch.invariant c.loop-stretch-test.false
+returns c = ends c.loop-stretch.invariant c.loop-stretch-test.false ∙ ap (stretch_of c.args.ended c.args.stream) c.left-log.ensures
