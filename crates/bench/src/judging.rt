@@ -1,8 +1,8 @@
 // Judging the records that stand one after another on standard input, and saying how that ended.
-ghost use Rattle.std.specs.Prelude.{◌≡◌, true};
-ghost use Rattle.turns.specs.declared.Stage.TheVariants.{Read};
-ghost use Rattle.turns.specs.Run.{begun, judged, closed, is_writing};
+ghost use Rattle.std.specs.Prelude.{◌≡◌, ◌-◌, ◌≤◌, ◌<◌, length};
+ghost use Rattle.turns.specs.Run.{begun, judged, closed};
 ghost use Rattle.turns.specs.Laws.{OneAnswer, Turned, Ran};
+ghost use Rattle.bench.specs.Progress.{More, Less};
 
 use crate::progress::Progress;
 use crate::system::System;
@@ -27,6 +27,35 @@ impl Model for Judging {
     ghost view = { λ j. standing j.p j.buffer j.text };
 
     ghost invariant = { λ j. Sound j.p j.buffer j.text };
+}
+
+// Reads more of the input behind the window, which moves to the front of the buffer. No method: its clauses see the places, which those of `Judging` do not.
+fn read_more(system: &mut System, buffer: &mut [u8], p: Progress) -> Progress
+    requires start_le_filled { p.start ≤ p.filled }
+    requires filled_in_bounds { p.filled ≤ length buffer.old }
+    requires start_in_bounds { p.filled - p.start < length buffer.old }
+    ensures { More p buffer.old result buffer.new }
+{
+    let size = p.filled - p.start;
+    crate::move_to_front(&mut *buffer, p.start, p.filled);
+    let heard = system.read(&mut buffer[size..]);
+    let front = Progress {
+        start: 0,
+        filled: size,
+        ..p
+    };
+    progress::after_read(front, heard)
+}
+
+// Writes what is left of the text, to standard output or to standard error. No method, as `read_more`.
+fn write_more(system: &mut System, text: &[u8], p: Progress) -> Progress
+    requires from_le_size { p.from ≤ p.size }
+    requires size_in_bounds { p.size ≤ length text.now }
+    ensures { Less p result }
+{
+    let to = progress::sink_of(p.stage);
+    let heard = system.write(to, &text[p.from..p.size]);
+    progress::after_write(p, heard)
 }
 
 impl Judging {
@@ -55,39 +84,13 @@ impl Judging {
         }
     }
 
-    // Reads more of the input behind the window, which moves to the front.
-    fn read_more(&mut self, system: &mut System)
-        requires { self.old.stage ≡ Read }
-        ensures { OneAnswer self.old self.new }
-    {
-        let size = self.p.filled - self.p.start;
-        crate::move_to_front(&mut self.buffer, self.p.start, self.p.filled);
-        let heard = system.read(&mut self.buffer[size..]);
-        let front = Progress {
-            start: 0,
-            filled: size,
-            ..self.p
-        };
-        self.p = progress::after_read(front, heard);
-    }
-
-    // Writes what is left of the text, to standard output or to standard error.
-    fn write_more(&mut self, system: &mut System)
-        requires { is_writing self.old.stage ≡ true }
-        ensures { OneAnswer self.old self.new }
-    {
-        let to = progress::sink_of(self.p.stage);
-        let heard = system.write(to, &self.text[self.p.from..self.p.size]);
-        self.p = progress::after_write(self.p, heard);
-    }
-
     // The one call to the operating system that is next, where there is one.
     fn call(&mut self, system: &mut System)
         ensures { OneAnswer self.old self.new }
     {
         match self.p.stage {
-            Stage::Read => self.read_more(system),
-            Stage::Write | Stage::Say => self.write_more(system),
+            Stage::Read => self.p = read_more(system, &mut self.buffer, self.p),
+            Stage::Write | Stage::Say => self.p = write_more(system, &self.text, self.p),
             _ => {}
         }
     }

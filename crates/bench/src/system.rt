@@ -101,7 +101,9 @@ pub(crate) fn count_words(env: &impl Env) -> usize {
 }
 
 // One of the words, put into a place. One that is missing, or too long for the place, is empty, and not None: an empty word names no task (`task_of`).
-pub(crate) fn read_word<'a>(env: &impl Env, i: usize, place: &'a mut [u8]) -> &'a [u8] {
+pub(crate) fn read_word<'a>(env: &impl Env, i: usize, place: &'a mut [u8]) -> &'a [u8]
+    ensures { length result.now ≤ length place.old }
+{
     let size = env.arg(i, place).unwrap_or(0);
     &place[..size]
 }
