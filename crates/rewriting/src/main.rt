@@ -74,21 +74,44 @@ fn say_rest(kept: bool) {
     }
 }
 
+// What a writing answers: the answer, the line and column that go with it, and how many bytes were written.
+#[derive(Clone, Copy)]
+struct Answered {
+    answer: Answer,
+    line: usize,
+    column: usize,
+    written: usize,
+}
+
+// What a writing answers, by its result.
+#[tactic(auto, unfolding(record::specs::Calls::refused_with))]
+fn told(writing: Result<usize, Unwritten>) -> Answered
+    ensures { writing_of writing ≡ record { answer = result.answer; line = result.line; column = result.column; written = result.written } }
+{
+    let (answer, line, written) = match writing {
+        Ok(written) => (Answer::Done, 0, written),
+        Err(Unwritten::Broken { line }) => (Answer::BrokenRecord, line, 0),
+        Err(Unwritten::ChipLost) => (Answer::ChipLost, 0, 0),
+        Err(Unwritten::NoRoom) => (Answer::NoRoom, 0, 0),
+    };
+    Answered {
+        answer,
+        line,
+        column: 0,
+        written,
+    }
+}
+
 // Says what came of a writing: the answer, whether the places behind what was written are as they were, and what was written.
 fn say_writing(writing: Result<usize, Unwritten>, before: &[u8], places: &[u8])
     requires written_in_bounds { (writing_of writing).written ≤ length before.now }
     requires prefix_len { IsPrefixLen (writing_of writing).written places.now }
 {
-    let (answer, line) = match writing {
-        Ok(_) => (Answer::Done, 0),
-        Err(Unwritten::Broken { line }) => (Answer::BrokenRecord, line),
-        Err(Unwritten::ChipLost) => (Answer::ChipLost, 0),
-        Err(Unwritten::NoRoom) => (Answer::NoRoom, 0),
-    };
-    let written = writing.unwrap_or(0);
-    say(b" answer=", answers::number(answer));
-    say_count(b" line=", line);
-    say_count(b" column=", 0);
+    let told = told(writing);
+    let written = told.written;
+    say(b" answer=", answers::number(told.answer));
+    say_count(b" line=", told.line);
+    say_count(b" column=", told.column);
     say_count(b" written=", written);
     say_rest(before[written..] == places[written..]);
     io::write_all(STDOUT_FILENO, &places[..written]);
