@@ -476,7 +476,7 @@ fn try_sealing(stream: Stream) {
     let mut tag = [0; 16];
     let ended = stream.finish_sealing(&mut tag).next;
     say_answer(b"finishing twice=", ended.finish_sealing(&mut tag));
-    let closed = stream.seal(&[], &mut []).next;
+    let closed = stream.seal(&[], &mut [0; 3]).next;
     say_answer(b"data after an empty text call=", closed.ad(&TEXT));
 }
 

@@ -34,8 +34,8 @@ struct Message<'a> {
 impl<'a> Message<'a> {
     // The tests of a message: those of a start, the tag's length, the limits, the room.
     #[tactic(auto, using(crate::proofs::Tests::start_first))]
-    fn test(self, tag: usize, out: usize) -> Result<(), Answer>
-        ensures { result ≡ tested (message_test self.entry.set (length self.entry.key.now) (length self.entry.nonce.now) tag (length self.entry.ad.now) (length self.entry.text.now) out) }
+    fn test(&self, tag: usize, out: usize) -> Result<(), Answer>
+        ensures { result ≡ tested (message_test self.now.set (length self.now.key.now) (length self.now.nonce.now) tag (length self.now.ad.now) (length self.now.text.now) out) }
     {
         let start = sets::start_test(self.set, self.key.len(), self.nonce.len());
         if !answers::is_done(start) {
