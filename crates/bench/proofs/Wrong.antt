@@ -8,14 +8,19 @@ use Prim.Native.Nat.{ℕ}
 use base.Fml.{Lft}
 use Rattle.std.specs.Borrow.{Bor, MutBor}
 use Rattle.turns.specs.declared.Tally.{Tally}
+use Rattle.std.proofs.Common.{Ok, Err}
 use Rattle.bench.specs.declared.progress.Progress.{Progress}
+use Rattle.bench.specs.declared.progress.Unmoved.TheVariants.{Again, Failed}
+use Rattle.bench.specs.declared.system.System.{System}
+use Rattle.bench.specs.Progress.{Heard, front, read_more}
 use Rattle.replay.specs.declared.window.Verdict.TheVariants.{Agrees}
 use Rattle.turns.specs.Run as run
 use Rattle.bench.specs.Replays.{Going, heard_by, so_far}
-use Rattle.bench.specs.Wrong.{beginning, RuledOut}
+use Rattle.bench.specs.Wrong.{beginning, RuledOut, RuledOutReads}
 use Rattle.bench.proofs.Replayed.{heard_end, open_other}
 use Rattle.bench.proofs.progress.hear.Reads as hear
 use Rattle.bench.proofs.progress.after_read.Reads as after_read
+use Rattle.bench.proofs.judging.read_more.Reads as read_input
 use Rattle.bench.proofs.tally.counted.Reads as counted
 use Rattle.bench.proofs.whole.after_read.Reads as read_whole
 use Rattle.bench.proofs.whole.after_write.Reads as write-whole
@@ -83,3 +88,15 @@ ruled_out one two =
       log_failure = λ r after allowed agrees. open_other (sym (ap (λ (g : Going). g.so_far.verdict) allowed.is) ∙ agrees);
       log_end = λ r after allowed agrees. one_byte (sym (ap (λ (g : Going). g.so_far.verdict) allowed.is) ∙ agrees);
     }
+
+-- behind a read the window begins at the front, whatever was answered
+begins : (p q : Progress) (heard : Heard) → q ≡ read_more (front p) heard → q.start ≡ 0
+begins p q (Ok count) e = ap (λ (r : Progress). r.start) e
+begins p q (Err Again) e = ap (λ (r : Progress). r.start) e
+begins p q (Err Failed) e = ap (λ (r : Progress). r.start) e
+
+-- by the contract of `read_more`, whatever streams are handed over
+pub ruled_out_reads : (one two : Lft) (system later : MutBor System)
+    → RuledOutReads (λ p before q after. read_input.Learnt (one, (two, tt)) (system, (lent_mut before, (p, tt))) q (later, (lent_mut after, (p, tt))))
+ruled_out_reads one two system later =
+    record { window_left = λ p before after h allowed. let first : p.start ≡ 0 = begins p p allowed.heard allowed.is in omega (arith, h, first) }

@@ -1,5 +1,5 @@
 -- Wrong versions of the program's functions, each told by one input: what its contracts do not allow.
-use Rattle.std.specs.Prelude.{Option, Some, None, Result, Ok, Err, true, List, [], ◌∷◌, ◌≡◌, ℕ, ℤ, pos}
+use Rattle.std.specs.Prelude.{Option, Some, None, Result, Ok, Err, true, List, [], ◌∷◌, ◌≡◌, ◌≤◌, ℕ, ℤ, pos}
 use Rattle.digits.specs.Ascii.{ascii}
 use Rattle.moving.specs.declared.route.Route.{Route}
 use Rattle.moving.specs.declared.route.Route.TheVariants.{Import, Export}
@@ -79,3 +79,8 @@ pub record RuledOut
   -- a failed read of a log is not its end, nor is one that brought a byte
   pub log_failure : (r : Replaying) (after : List ℕ) → replays beginning [] (Err Failed) r after → r.verdict ≡ Agrees → ⊥
   pub log_end : (r : Replaying) (after : List ℕ) → replays beginning (0x63 ∷ []) (Ok 1) r after → r.verdict ≡ Agrees → ⊥
+
+-- of the places that a read of more input may leave, whatever the system answers
+pub record RuledOutReads (reads : Progress → List ℕ → Progress → List ℕ → Type 0) : Type 0 where
+  -- a window that did not begin at the front of the buffer is not left where it was: without room behind it, no more could be read
+  pub window_left : (p : Progress) (before after : List ℕ) → 1 ≤ p.start → reads p before p after → ⊥

@@ -30,7 +30,7 @@ impl Model for Judging {
 }
 
 // Reads more of the input behind the window, which moves to the front of the buffer. No method: its clauses see the places, which those of `Judging` do not.
-fn read_more(system: &mut System, buffer: &mut [u8], p: Progress) -> Progress
+pub(crate) fn read_more(system: &mut System, buffer: &mut [u8], p: Progress) -> Progress
     requires start_le_filled { p.start ≤ p.filled }
     requires filled_in_bounds { p.filled ≤ length buffer.old }
     requires start_in_bounds { p.filled - p.start < length buffer.old }
